@@ -1,0 +1,110 @@
+-- One turn of each loop, on plain lists. Assumes nothing.
+use mathlib.Core.Path.{_≡_, refl, ap, sym, _∙_}
+use mathlib.Core.Bool.{Bool, true, false, _&&_, _||_, not}
+use mathlib.Core.List.{List, [], _∷_}
+use Prim.Native.Nat.{ℕ, suc, _+_, _-_, _*_, _^_, _≤_, _<_}
+use native.Mathlib.Numerals.{add-one}
+use native.Mathlib.Nat.{pow-suc, pow-le-pow-right}
+use native.Mathlib.Omega.{arith}
+use lib.ListN.{length, getD, take, drop, drop-of-length-le}
+use lib.Seq.{drop-cons, take-all}
+use Rattle.text.specs.Characters.{isBlank, isNumeric}
+use Rattle.text.specs.declared.DataType.{DataType}
+use Rattle.text.specs.declared.DataType.the-variants.{Binary}
+use Rattle.text.specs.DataTypes.{every, some, blankAfter, blankEmbedded, admits, keepsDigitsTogether, ofType}
+use Rattle.text.specs.Number.{digit, valueAfter, number}
+
+-- what is left at i is the element there and what is left after it
+pub rest : (s : List ℕ) (i : ℕ) → i < length s → drop i s ≡ getD s i 0 ∷ drop (i + 1) s
+rest s i h = rw add-one (drop-cons s i 0 h)
+
+module _ (test : ℕ → Bool) (s : List ℕ) (i : ℕ) where
+  pub every-fails : i < length s → test (getD s i 0) ≡ false → every test (drop i s) ≡ false
+  every-fails h e = rw (rest s i h, e)
+
+  pub every-goes-on : i < length s → test (getD s i 0) ≡ true → every test (drop i s) ≡ every test (drop (i + 1) s)
+  every-goes-on h e = rw (rest s i h, e)
+
+  pub every-ends : length s ≤ i → every test (drop i s) ≡ true
+  every-ends h = rw (drop-of-length-le s h)
+
+  pub some-found : i < length s → test (getD s i 0) ≡ true → some test (drop i s) ≡ true
+  some-found h e = rw (rest s i h, e)
+
+  pub some-goes-on : i < length s → test (getD s i 0) ≡ false → some test (drop i s) ≡ some test (drop (i + 1) s)
+  some-goes-on h e = rw (rest s i h, e)
+
+  pub some-ends : length s ≤ i → some test (drop i s) ≡ false
+  some-ends h = rw (drop-of-length-le s h)
+
+-- Whether a blank stands embedded in what is left, where `before` says that a digit came, and `gap` that a blank came after one.
+abbrev pub embeddedFrom : Bool → Bool → List ℕ → Bool
+embeddedFrom before gap xs = (gap && some isNumeric xs) || blankAfter before xs
+
+-- a gap and now a digit: embedded
+gap-closed : (gap digit more rest : Bool) → gap && digit ≡ true → (gap && (digit || more)) || rest ≡ true
+gap-closed true true more rest e = refl
+gap-closed true false more rest e = cc
+gap-closed false digit more rest e = cc
+
+-- a turn that finds no digit after a gap
+gap-carried : (gap digit before blank more rest : Bool) → gap && digit ≡ false
+    → (gap && (digit || more)) || ((before && (blank && more)) || rest) ≡ ((gap || (before && blank)) && more) || rest
+gap-carried true true before blank more rest e = cc
+gap-carried true false before blank true rest e = refl
+gap-carried true false true true false rest e = refl
+gap-carried true false true false false rest e = refl
+gap-carried true false false blank false rest e = refl
+gap-carried false digit true true more rest e = refl
+gap-carried false digit true false more rest e = refl
+gap-carried false digit false blank more rest e = refl
+
+module _ (s : List ℕ) (i : ℕ) (before gap : Bool) where
+  pub embedded-found : i < length s → gap && isNumeric (getD s i 0) ≡ true → embeddedFrom before gap (drop i s) ≡ true
+  embedded-found h e = rw (rest s i h) (gap-closed gap (isNumeric (getD s i 0)) _ _ e)
+
+  pub embedded-goes-on : i < length s → gap && isNumeric (getD s i 0) ≡ false
+      → embeddedFrom before gap (drop i s) ≡ embeddedFrom (before || isNumeric (getD s i 0)) (gap || (before && isBlank (getD s i 0))) (drop (i + 1) s)
+  embedded-goes-on h e = rw (rest s i h) (gap-carried gap (isNumeric (getD s i 0)) before (isBlank (getD s i 0)) _ _ e)
+
+  pub embedded-ends : length s ≤ i → embeddedFrom before gap (drop i s) ≡ false
+  embedded-ends h = rw (drop-of-length-le s h) (no-digit gap)
+    where
+      no-digit : (g : Bool) → (g && false) || false ≡ false
+      no-digit true = refl
+      no-digit false = refl
+
+module _ (sum : ℕ) (s : List ℕ) (i : ℕ) where
+  pub value-goes-on : i < length s → valueAfter sum (drop i s) ≡ valueAfter (sum * 10 + digit (getD s i 0)) (drop (i + 1) s)
+  value-goes-on h = rw (rest s i h)
+
+  pub value-ends : length s ≤ i → valueAfter sum (drop i s) ≡ sum
+  value-ends h = rw (drop-of-length-le s h)
+
+pub ten-more : (i : ℕ) → 10 ^ (i + 1) ≡ 10 ^ i * 10
+ten-more i = rw add-one (pow-suc 10 i)
+
+pub ten-top : (i : ℕ) → i ≤ 18 → 10 ^ i ≤ 10 ^ 18
+ten-top i h = pow-le-pow-right (omega arith) h
+
+and-true : (b : Bool) → b && true ≡ b
+and-true true = refl
+and-true false = refl
+
+-- binary data is of its type, whatever it is
+pub binary-passes : (xs : List ℕ) → ofType Binary xs ≡ true
+unfolding ofType
+binary-passes [] = refl
+binary-passes (x ∷ xs) = binary-passes xs
+
+pub together : (t : DataType) (xs : List ℕ) → keepsDigitsTogether t ≡ true → ofType t xs ≡ every (admits t) xs && not (blankEmbedded xs)
+unfolding ofType
+together t xs e = rw e
+
+pub apart : (t : DataType) (xs : List ℕ) → keepsDigitsTogether t ≡ false → ofType t xs ≡ every (admits t) xs
+unfolding ofType
+apart t xs e = rw e (and-true (every (admits t) xs))
+
+pub number-short : (xs : List ℕ) → length xs ≤ 19 → number xs ≡ valueAfter 0 xs
+unfolding number
+number-short xs h = rw (take-all 19 xs h)

@@ -1,0 +1,59 @@
+use Prim.Native.Nat.{ℕ, _≤_, _-_, _+_, _*_, _^_, _<_}
+use mathlib.Core.Path.{_≡_, refl, sym, _∙_, ap}
+use mathlib.Core.Bool.{_&&_, _||_}
+use native.Mathlib.Omega.{arith}
+use borrow.Author.Tests.{not-true, not-false}
+use lib.ListN.{length, getD, drop}
+use denote.Ref.{now}
+use Rattle.text.specs.Characters.{isBlank, isNumeric}
+use Rattle.text.specs.DataTypes.{every, some, admits, isMark, blankEmbedded}
+use Rattle.text.specs.Number.{valueAfter}
+use Rattle.text.proofs.Laws.{every-fails, every-goes-on, every-ends, some-found, some-goes-on, some-ends, embeddedFrom, embedded-found, embedded-goes-on, embedded-ends, value-goes-on, value-ends, ten-more, ten-top}
+use borrow.Author.Needs.{needs}
+use Rattle.text.proofs.has_mark.Statement.{statement}
+use Rattle.text.proofs.has_mark.Tie as tie
+
+abbrev Inv-loop : tie.InvT-loop
+Inv-loop t s i₀ i = (i ≤ length s) × (some (isMark t) (drop i s) ≡ some (isMark t) s)
+
+abbrev μ-loop : tie.MeasureT-loop
+μ-loop t s i₀ i = length s - i
+
+loop-holds : tie.Need-loop-holds Inv-loop μ-loop
+loop-holds c = (search needs, refl)
+
+shared-slice-read-is-mark : tie.Need-shared-slice-read-is-mark Inv-loop μ-loop
+shared-slice-read-is-mark c = search needs
+
+is-mark-requires : tie.Need-is-mark-requires Inv-loop μ-loop
+is-mark-requires c κs = search needs
+
+returns : tie.Need-returns Inv-loop μ-loop
+returns c = sym (some-found (isMark (c .before .before .before .before .before .before .args .t)) (now (c .before .before .before .before .before .before .args .s)) (c .before .before .before .before .loop .i) (search needs) (sym (c .before .is-mark .ensures) ∙ c .if1 .taken)) ∙ c .before .before .before .before .loop .inv .1
+
+add-i : tie.Need-add-i Inv-loop μ-loop
+add-i c = search needs
+
+loop-less : tie.Need-loop-less Inv-loop μ-loop
+loop-less c = search needs
+
+loop-again : tie.Need-loop-again Inv-loop μ-loop
+loop-again c = (search needs, sym (some-goes-on (isMark (c .before .before .before .before .before .before .args .t)) (now (c .before .before .before .before .before .before .args .s)) (c .before .before .before .before .loop .i) (search needs) (sym (c .before .is-mark .ensures) ∙ c .if1 .left)) ∙ c .before .before .before .before .loop .inv .1)
+
+returns-2 : tie.Need-returns-2 Inv-loop μ-loop
+returns-2 c = sym (some-ends (isMark (c .before .before .before .args .t)) (now (c .before .before .before .args .s)) (c .before .loop .i) (search needs)) ∙ c .before .loop .inv .1
+
+pub has-mark-spec : {M : Type 1} → statement M
+has-mark-spec =
+    tie.close
+    (tie.spec
+    Inv-loop
+    μ-loop
+    loop-holds
+    shared-slice-read-is-mark
+    is-mark-requires
+    returns
+    add-i
+    loop-less
+    loop-again
+    returns-2)

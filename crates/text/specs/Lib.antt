@@ -1,0 +1,3 @@
+pub mod Characters
+pub mod DataTypes
+pub mod Number

@@ -1,0 +1,20 @@
+-- The value of a run of digits, highest first.
+use Prim.Native.Nat.{ℕ, _+_, _-_, _*_}
+use mathlib.Core.Bool.{Bool, true, false}
+use mathlib.Core.List.{List, [], _∷_}
+use lib.ListN.{take}
+use Rattle.text.specs.Characters.{isNumeric, pickCharacter}
+
+-- 5.1.3: the number that a numeric character stands for; no other character adds anything
+abbrev pub digit : ℕ → ℕ
+digit x = pickCharacter (isNumeric x) (x - 0x30) 0
+
+-- the value of the digits after those that came to `sum`
+abbrev pub valueAfter : ℕ → List ℕ → ℕ
+valueAfter sum [] = sum
+valueAfter sum (x ∷ xs) = valueAfter (sum * 10 + digit x) xs
+
+-- The number in a field. No field of the standard that is read as a number has more than 16 digits; 19 are what 64 bits
+-- hold, and the number is that of the first 19.
+unfoldable pub number : List ℕ → ℕ
+number xs = valueAfter 0 (take 19 xs)

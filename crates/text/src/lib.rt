@@ -1,0 +1,288 @@
+// Clause 5: characters, field data types, and the number in a run of digits.
+ghost use mathlib.Core.Path.{_≡_};
+ghost use Prim.Native.Nat.{_<_, _≤_, _^_};
+ghost use lib.ListN.{length};
+ghost use Rattle.text.specs.Characters.{isBlank, isAlphabetic, isNumeric, isQuestionable, isSpecial, isAmountSymbol, isCannotRead, isDash, isOnUsSymbol, isTransitSymbol, capital};
+ghost use Rattle.text.specs.DataTypes.{every, some, admits, keepsDigitsTogether, blankEmbedded, ofType, isMark};
+ghost use Rattle.text.specs.Number.{digit, valueAfter, number};
+
+// The field data types of clause 5.3, by the names that the standard gives them.
+pub enum DataType {
+    AB,
+    A,
+    AN,
+    ANS,
+    Binary,
+    N,
+    NB,
+    NBD,
+    NBQ,
+    NBMc,
+    NBMcd,
+    NBMcdo,
+    NBMU,
+}
+
+pub fn is_blank(x: u8) -> bool
+    ensures { λ r. ⌜ r ≡ isBlank x ⌝ }
+{
+    x == b' '
+}
+
+pub fn is_alphabetic(x: u8) -> bool
+    ensures { λ r. ⌜ r ≡ isAlphabetic x ⌝ }
+{
+    ((b'A' <= x) & (x <= b'Z')) | (((b'a' <= x) & (x <= b'z')) | (x == b' '))
+}
+
+pub fn is_numeric(x: u8) -> bool
+    ensures { λ r. ⌜ r ≡ isNumeric x ⌝ }
+{
+    (b'0' <= x) & (x <= b'9')
+}
+
+pub fn is_questionable(x: u8) -> bool
+    ensures { λ r. ⌜ r ≡ isQuestionable x ⌝ }
+{
+    x == b'?'
+}
+
+pub fn is_special(x: u8) -> bool
+    ensures { λ r. ⌜ r ≡ isSpecial x ⌝ }
+{
+    ((b'!' <= x) & (x <= b'/'))
+        | (((b':' <= x) & (x <= b'@'))
+            | (((b'[' <= x) & (x <= b'`')) | ((b'{' <= x) & (x <= b'~'))))
+}
+
+pub fn is_amount_symbol(x: u8) -> bool
+    ensures { λ r. ⌜ r ≡ isAmountSymbol x ⌝ }
+{
+    x == b'$'
+}
+
+pub fn is_cannot_read(x: u8) -> bool
+    ensures { λ r. ⌜ r ≡ isCannotRead x ⌝ }
+{
+    x == b'*'
+}
+
+pub fn is_dash(x: u8) -> bool
+    ensures { λ r. ⌜ r ≡ isDash x ⌝ }
+{
+    x == b'-'
+}
+
+pub fn is_on_us_symbol(x: u8) -> bool
+    ensures { λ r. ⌜ r ≡ isOnUsSymbol x ⌝ }
+{
+    x == b'/'
+}
+
+pub fn is_transit_symbol(x: u8) -> bool
+    ensures { λ r. ⌜ r ≡ isTransitSymbol x ⌝ }
+{
+    x == b'#'
+}
+
+// A lower case letter has the meaning of its upper case letter (clause 5.1.1).
+pub fn capital_of(x: u8) -> u8
+    ensures { λ r. ⌜ r ≡ capital x ⌝ }
+{
+    if b'a' <= x {
+        if x <= b'z' {
+            return x - 32;
+        }
+    }
+    x
+}
+
+// Table 2: the characters of each data type.
+pub fn admits_character(t: DataType, x: u8) -> bool
+    ensures { λ r. ⌜ r ≡ admits t x ⌝ }
+{
+    let blank = is_blank(x);
+    let alphabetic = is_alphabetic(x);
+    let numeric = is_numeric(x);
+    let special = is_special(x);
+    let cannot_read = is_cannot_read(x);
+    let dash = is_dash(x);
+    let on_us = is_on_us_symbol(x);
+    let amount = is_amount_symbol(x);
+    let transit = is_transit_symbol(x);
+    match t {
+        DataType::AB => blank,
+        DataType::A => alphabetic,
+        DataType::AN => alphabetic | numeric,
+        DataType::ANS => alphabetic | (numeric | special),
+        DataType::Binary => true,
+        DataType::N => numeric,
+        DataType::NB => numeric | blank,
+        DataType::NBD => numeric | (blank | dash),
+        DataType::NBQ => numeric | (blank | is_questionable(x)),
+        DataType::NBMc => numeric | (blank | cannot_read),
+        DataType::NBMcd => numeric | (blank | (cannot_read | dash)),
+        DataType::NBMcdo => numeric | (blank | (cannot_read | (dash | on_us))),
+        DataType::NBMU => numeric | (blank | (amount | (cannot_read | (dash | (on_us | transit))))),
+    }
+}
+
+// Clauses 5.3.8 to 5.3.10 ask that no blank stands within the digits.
+pub fn keeps_digits_together(t: DataType) -> bool
+    ensures { λ r. ⌜ r ≡ keepsDigitsTogether t ⌝ }
+{
+    match t {
+        DataType::AB => false,
+        DataType::A => false,
+        DataType::AN => false,
+        DataType::ANS => false,
+        DataType::Binary => false,
+        DataType::N => false,
+        DataType::NB => true,
+        DataType::NBD => true,
+        DataType::NBQ => true,
+        DataType::NBMc => false,
+        DataType::NBMcd => false,
+        DataType::NBMcdo => false,
+        DataType::NBMU => false,
+    }
+}
+
+// The can't-read or questionable mark, where the data type admits it (clauses 5.1.4 and 5.2.2).
+pub fn is_mark(t: DataType, x: u8) -> bool
+    ensures { λ r. ⌜ r ≡ isMark t x ⌝ }
+{
+    let questionable = is_questionable(x);
+    let cannot_read = is_cannot_read(x);
+    match t {
+        DataType::AB => false,
+        DataType::A => false,
+        DataType::AN => false,
+        DataType::ANS => false,
+        DataType::Binary => false,
+        DataType::N => false,
+        DataType::NB => false,
+        DataType::NBD => false,
+        DataType::NBQ => questionable,
+        DataType::NBMc => cannot_read,
+        DataType::NBMcd => cannot_read,
+        DataType::NBMcdo => cannot_read,
+        DataType::NBMU => cannot_read,
+    }
+}
+
+pub fn all_admitted(t: DataType, s: &[u8]) -> bool
+    ensures { λ r. ⌜ r ≡ every (admits t) (now (s .entry)) ⌝ }
+{
+    let mut i = 0;
+    while i < s.len() {
+        if !admits_character(t, s[i]) {
+            return false;
+        }
+        i += 1;
+    }
+    true
+}
+
+pub fn has_mark(t: DataType, s: &[u8]) -> bool
+    ensures { λ r. ⌜ r ≡ some (isMark t) (now (s .entry)) ⌝ }
+{
+    let mut i = 0;
+    while i < s.len() {
+        if is_mark(t, s[i]) {
+            return true;
+        }
+        i += 1;
+    }
+    false
+}
+
+// A blank stands between two digits. `gap` says that a blank stands after some digit.
+pub fn blank_embedded(s: &[u8]) -> bool
+    ensures { λ r. ⌜ r ≡ blankEmbedded (now (s .entry)) ⌝ }
+{
+    let mut before = false;
+    let mut gap = false;
+    let mut i = 0;
+    while i < s.len() {
+        let numeric = is_numeric(s[i]);
+        if gap & numeric {
+            return true;
+        }
+        gap = gap | (before & is_blank(s[i]));
+        before = before | numeric;
+        i += 1;
+    }
+    false
+}
+
+// Whether a field is of its data type. Binary data is passed unread.
+pub fn of_type(t: DataType, s: &[u8]) -> bool
+    ensures { λ r. ⌜ r ≡ ofType t (now (s .entry)) ⌝ }
+{
+    if let DataType::Binary = t {
+        return true;
+    }
+    if keeps_digits_together(t) {
+        return all_admitted(t, s) & !blank_embedded(s);
+    }
+    all_admitted(t, s)
+}
+
+pub fn all_blank(s: &[u8]) -> bool
+    ensures { λ r. ⌜ r ≡ every isBlank (now (s .entry)) ⌝ }
+{
+    all_admitted(DataType::AB, s)
+}
+
+pub fn all_numeric(s: &[u8]) -> bool
+    ensures { λ r. ⌜ r ≡ every isNumeric (now (s .entry)) ⌝ }
+{
+    all_admitted(DataType::N, s)
+}
+
+pub fn some_numeric(s: &[u8]) -> bool
+    ensures { λ r. ⌜ r ≡ some isNumeric (now (s .entry)) ⌝ }
+{
+    let mut i = 0;
+    while i < s.len() {
+        if is_numeric(s[i]) {
+            return true;
+        }
+        i += 1;
+    }
+    false
+}
+
+pub fn digit_of(x: u8) -> u64
+    ensures { λ r. ⌜ (r ≡ digit x) × (r ≤ 9) ⌝ }
+{
+    if b'0' <= x {
+        if x <= b'9' {
+            return (x - b'0') as u64;
+        }
+    }
+    0
+}
+
+fn value_of(s: &[u8]) -> u64
+    requires { ⌜ length (now s) ≤ 19 ⌝ }
+    ensures { λ r. ⌜ r ≡ valueAfter 0 (now (s .entry)) ⌝ }
+{
+    let mut value: u64 = 0;
+    let mut i = 0;
+    while i < s.len() {
+        value = value * 10 + digit_of(s[i]);
+        i += 1;
+    }
+    value
+}
+
+pub fn number_in(s: &[u8]) -> u64
+    ensures { λ r. ⌜ r ≡ number (now (s .entry)) ⌝ }
+{
+    if 19 < s.len() {
+        return value_of(&s[0..19]);
+    }
+    value_of(s)
+}
