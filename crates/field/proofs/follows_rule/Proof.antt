@@ -1,0 +1,204 @@
+use mathlib.Core.Path.{_≡_, refl, sym, _∙_, ap}
+use denote.Ref.{now}
+use lib.ListN.{List·getD-eq-default}
+use borrow.Author.Tests.{eq-eqb, ne-eqb, not-true, not-false}
+use Rattle.field.specs.Values.{isCode}
+use Rattle.field.specs.Formats.{isDate, isHoursMinutes, isHoursMinutesSeconds, isRoutingNumber}
+use Rattle.field.specs.Rules.{follows, meets, holds}
+use borrow.Author.Needs.{needs}
+use Rattle.field.proofs.follows_rule.Statement.{statement}
+use Rattle.field.proofs.follows_rule.Tie as tie
+
+enum-told : tie.Need-enum-told
+enum-told c = search needs
+
+enum-known-rule : tie.Need-enum-known-rule
+enum-known-rule c = search needs
+
+number-within-requires : tie.Need-number-within-requires
+number-within-requires c κs = search needs
+
+enum-told-2 : tie.Need-enum-told-2
+enum-told-2 c = search needs
+
+all-numeric-requires : tie.Need-all-numeric-requires
+all-numeric-requires c κs = search needs
+
+enum-told-3 : tie.Need-enum-told-3
+enum-told-3 c = search needs
+
+one-or-two-digits-requires : tie.Need-one-or-two-digits-requires
+one-or-two-digits-requires c κs = search needs
+
+enum-told-4 : tie.Need-enum-told-4
+enum-told-4 c = search needs
+
+all-numeric-requires-2 : tie.Need-all-numeric-requires-2
+all-numeric-requires-2 c κs = search needs
+
+number-in-requires : tie.Need-number-in-requires
+number-in-requires c κs = search needs
+
+is-standard-level-requires : tie.Need-is-standard-level-requires
+is-standard-level-requires c κs = search needs
+
+enum-told-5 : tie.Need-enum-told-5
+enum-told-5 c = search needs
+
+all-numeric-requires-3 : tie.Need-all-numeric-requires-3
+all-numeric-requires-3 c κs = search needs
+
+number-in-requires-2 : tie.Need-number-in-requires-2
+number-in-requires-2 c κs = search needs
+
+is-collection-type-requires : tie.Need-is-collection-type-requires
+is-collection-type-requires c κs = search needs
+
+enum-told-6 : tie.Need-enum-told-6
+enum-told-6 c = search needs
+
+all-numeric-requires-4 : tie.Need-all-numeric-requires-4
+all-numeric-requires-4 c κs = search needs
+
+number-in-requires-3 : tie.Need-number-in-requires-3
+number-in-requires-3 c κs = search needs
+
+is-bundle-collection-type-requires : tie.Need-is-bundle-collection-type-requires
+is-bundle-collection-type-requires c κs = search needs
+
+enum-known-rule-2 : tie.Need-enum-known-rule-2
+enum-known-rule-2 c = search needs
+
+holds-code-requires : tie.Need-holds-code-requires
+holds-code-requires c κs = search needs
+
+enum-told-7 : tie.Need-enum-told-7
+enum-told-7 c = search needs
+
+is-date-requires : tie.Need-is-date-requires
+is-date-requires c κs = search needs
+
+enum-told-8 : tie.Need-enum-told-8
+enum-told-8 c = search needs
+
+is-hours-minutes-requires : tie.Need-is-hours-minutes-requires
+is-hours-minutes-requires c κs = search needs
+
+enum-told-9 : tie.Need-enum-told-9
+enum-told-9 c = search needs
+
+is-hours-minutes-seconds-requires : tie.Need-is-hours-minutes-seconds-requires
+is-hours-minutes-seconds-requires c κs = search needs
+
+enum-told-10 : tie.Need-enum-told-10
+enum-told-10 c = search needs
+
+is-routing-number-requires : tie.Need-is-routing-number-requires
+is-routing-number-requires c κs = search needs
+
+enum-known-rule-3 : tie.Need-enum-known-rule-3
+enum-known-rule-3 c = search needs
+
+is-clipping-coordinate-requires : tie.Need-is-clipping-coordinate-requires
+is-clipping-coordinate-requires c κs = search needs
+
+returns : tie.Need-returns
+unfolding follows
+returns c = rw (c .enum-told .given .1)
+
+returns-2 : tie.Need-returns-2
+unfolding follows
+returns-2 c = rw (c .before .before .rule .given .1, c .number-within .ensures)
+
+returns-3 : tie.Need-returns-3
+unfolding follows
+returns-3 c = rw (c .before .enum-told2 .given .1, c .all-numeric .ensures)
+
+returns-4 : tie.Need-returns-4
+unfolding follows
+returns-4 c = rw (c .before .enum-told3 .given .1, c .one-or-two-digits .ensures)
+
+returns-5 : tie.Need-returns-5
+unfolding follows
+returns-5 c = rw (c .before .before .before .enum-told4 .given .1, c .before .before .all-numeric2 .ensures, c .is-standard-level .ensures, c .before .number-in .ensures)
+
+returns-6 : tie.Need-returns-6
+unfolding follows
+returns-6 c = rw (c .before .before .before .enum-told5 .given .1, c .before .before .all-numeric3 .ensures, c .is-collection-type .ensures, c .before .number-in2 .ensures)
+
+returns-7 : tie.Need-returns-7
+unfolding follows
+returns-7 c = rw (c .before .before .before .enum-told6 .given .1, c .before .before .all-numeric4 .ensures, c .is-bundle-collection-type .ensures, c .before .number-in3 .ensures)
+
+returns-8 : tie.Need-returns-8
+unfolding follows
+returns-8 c = rw (c .before .before .rule2 .given .1, c .holds-code .ensures)
+
+returns-9 : tie.Need-returns-9
+unfolding follows
+returns-9 c = rw (c .before .enum-told7 .given .1, c .is-date .ensures)
+
+returns-10 : tie.Need-returns-10
+unfolding follows
+returns-10 c = rw (c .before .enum-told8 .given .1, c .is-hours-minutes .ensures)
+
+returns-11 : tie.Need-returns-11
+unfolding follows
+returns-11 c = rw (c .before .enum-told9 .given .1, c .is-hours-minutes-seconds .ensures)
+
+returns-12 : tie.Need-returns-12
+unfolding follows
+returns-12 c = rw (c .before .enum-told10 .given .1, c .is-routing-number .ensures)
+
+returns-13 : tie.Need-returns-13
+unfolding follows
+returns-13 c = rw (c .before .before .rule3 .given .1, c .is-clipping-coordinate .ensures)
+
+pub follows-rule-spec : {M : Type 1} → statement M
+follows-rule-spec =
+    tie.close
+    (tie.spec
+    enum-told
+    enum-known-rule
+    number-within-requires
+    enum-told-2
+    all-numeric-requires
+    enum-told-3
+    one-or-two-digits-requires
+    enum-told-4
+    all-numeric-requires-2
+    number-in-requires
+    is-standard-level-requires
+    enum-told-5
+    all-numeric-requires-3
+    number-in-requires-2
+    is-collection-type-requires
+    enum-told-6
+    all-numeric-requires-4
+    number-in-requires-3
+    is-bundle-collection-type-requires
+    enum-known-rule-2
+    holds-code-requires
+    enum-told-7
+    is-date-requires
+    enum-told-8
+    is-hours-minutes-requires
+    enum-told-9
+    is-hours-minutes-seconds-requires
+    enum-told-10
+    is-routing-number-requires
+    enum-known-rule-3
+    is-clipping-coordinate-requires
+    returns
+    returns-2
+    returns-3
+    returns-4
+    returns-5
+    returns-6
+    returns-7
+    returns-8
+    returns-9
+    returns-10
+    returns-11
+    returns-12
+    returns-13)

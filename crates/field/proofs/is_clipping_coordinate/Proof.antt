@@ -1,0 +1,26 @@
+use mathlib.Core.Path.{_≡_, refl, sym, _∙_, ap}
+use denote.Ref.{now}
+use lib.ListN.{List·getD-eq-default}
+use borrow.Author.Tests.{eq-eqb, ne-eqb, not-true, not-false}
+use Rattle.field.specs.Values.{isCode}
+use Rattle.field.specs.Formats.{isDate, isHoursMinutes, isHoursMinutesSeconds, isRoutingNumber}
+use Rattle.field.specs.Rules.{follows, meets, holds}
+use borrow.Author.Needs.{needs}
+use Rattle.field.proofs.is_clipping_coordinate.Statement.{statement}
+use Rattle.field.proofs.is_clipping_coordinate.Tie as tie
+
+byte-at-requires : tie.Need-byte-at-requires
+byte-at-requires c κs = search needs
+
+all-numeric-requires : tie.Need-all-numeric-requires
+all-numeric-requires c κs = search needs
+
+number-in-requires : tie.Need-number-in-requires
+number-in-requires c κs = search needs
+
+returns : tie.Need-returns
+returns c = rw (c .before .all-numeric .ensures, c .before .before .byte-at .ensures, c .number-in .ensures)
+
+pub is-clipping-coordinate-spec : {M : Type 1} → statement M
+is-clipping-coordinate-spec =
+    tie.close (tie.spec byte-at-requires all-numeric-requires number-in-requires returns)

@@ -1,0 +1,61 @@
+use mathlib.Core.Path.{_≡_, refl, sym, _∙_, ap}
+use denote.Ref.{now}
+use lib.ListN.{List·getD-eq-default}
+use borrow.Author.Tests.{eq-eqb, ne-eqb, not-true, not-false}
+use Rattle.field.specs.Values.{isCode}
+use Rattle.field.specs.Formats.{isDate, isHoursMinutes, isHoursMinutesSeconds, isRoutingNumber}
+use Rattle.field.specs.Rules.{follows, meets, holds}
+use borrow.Author.Needs.{needs}
+use Rattle.field.proofs.is_hours_minutes.Statement.{statement}
+use Rattle.field.proofs.is_hours_minutes.Tie as tie
+
+returns : tie.Need-returns
+unfolding isHoursMinutes
+returns c = simp (ne-eqb _ _ (c .if1 .taken))
+
+sub-number-in : tie.Need-sub-number-in
+sub-number-in c = search needs
+
+part-number-in-start : tie.Need-part-number-in-start
+part-number-in-start c = search needs
+
+part-number-in-end : tie.Need-part-number-in-end
+part-number-in-end c = search needs
+
+number-in-requires : tie.Need-number-in-requires
+number-in-requires c κs = search needs
+
+sub-number-in-2 : tie.Need-sub-number-in-2
+sub-number-in-2 c = search needs
+
+part-number-in-start-2 : tie.Need-part-number-in-start-2
+part-number-in-start-2 c = search needs
+
+part-number-in-end-2 : tie.Need-part-number-in-end-2
+part-number-in-end-2 c = search needs
+
+number-in-requires-2 : tie.Need-number-in-requires-2
+number-in-requires-2 c κs = search needs
+
+all-numeric-requires : tie.Need-all-numeric-requires
+all-numeric-requires c κs = search needs
+
+returns-2 : tie.Need-returns-2
+unfolding isHoursMinutes
+returns-2 c = simp (eq-eqb _ _ (c .before .before .before .before .before .if1 .left), c .all-numeric .ensures, c .before .before .before .number-in .ensures, c .before .number-in2 .ensures)
+
+pub is-hours-minutes-spec : {M : Type 1} → statement M
+is-hours-minutes-spec =
+    tie.close
+    (tie.spec
+    returns
+    sub-number-in
+    part-number-in-start
+    part-number-in-end
+    number-in-requires
+    sub-number-in-2
+    part-number-in-start-2
+    part-number-in-end-2
+    number-in-requires-2
+    all-numeric-requires
+    returns-2)

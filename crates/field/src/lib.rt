@@ -1,0 +1,234 @@
+// When one field is right: its usage, its data type, and its Format line or defined values.
+use text::DataType;
+ghost use mathlib.Core.Path.{_≡_};
+ghost use mathlib.Core.Bool.{_&&_};
+ghost use Prim.Native.Nat.{_≤_};
+ghost use lib.ListN.{length, getD};
+ghost use Rattle.text.specs.Characters.{within, isNumeric};
+ghost use Rattle.text.specs.DataTypes.{every};
+ghost use Rattle.text.specs.Number.{number};
+ghost use Rattle.field.specs.Values.{isCode, isStandardLevel, isCollectionType, isBundleCollectionType};
+ghost use Rattle.field.specs.Formats.{isDate, isHoursMinutes, isHoursMinutesSeconds, weightedSum, isRoutingNumber};
+ghost use Rattle.field.specs.Rules.{digitsWith, oneOrTwoDigits, code, clippingCoordinate, follows, meets, holds};
+
+// Clause 6.3.
+pub enum Usage {
+    Mandatory,
+    Conditional,
+}
+
+// The lists of one-character codes that more than one range makes up, or that are letters.
+pub enum CodeList {
+    FileTypes,
+    YesNo,
+    YesNoUnknown,
+    RecordTypeIndicators,
+    CashLetterDocumentation,
+    ItemDocumentation,
+    ReturnAcceptance,
+    ArchiveTypes,
+    TestOverrides,
+}
+
+// A field's Format line or Defined Values (clauses 6.7 and 6.8).
+pub enum Rule {
+    // Neither: the data type alone.
+    DataTypeAlone,
+    // All digits, and the number from the first through the second.
+    Numbers(u64, u64),
+    AllDigits,
+    OneOrTwoDigits,
+    StandardLevel,
+    CollectionType,
+    BundleCollectionType,
+    Code(CodeList),
+    Date,
+    HoursMinutes,
+    HoursMinutesSeconds,
+    RoutingNumber,
+    // All digits, and zero where the clipping origin, at this place of the record, is '0'.
+    ClippingCoordinate(usize),
+}
+
+pub fn is_code(list: CodeList, x: u8) -> bool
+    ensures { λ r. ⌜ r ≡ isCode list x ⌝ }
+{
+    match list {
+        CodeList::FileTypes => (x == b'P') | ((x == b'T') | ((x == b'A') | (x == b'B'))),
+        CodeList::YesNo => (x == b'Y') | (x == b'N'),
+        CodeList::YesNoUnknown => (x == b'Y') | ((x == b'N') | (x == b'U')),
+        CodeList::RecordTypeIndicators => (x == b'N') | ((x == b'E') | ((x == b'I') | (x == b'F'))),
+        CodeList::CashLetterDocumentation => ((b'A' <= x) & (x <= b'M')) | (x == b'Z'),
+        CodeList::ItemDocumentation => (b'A' <= x) & (x <= b'M'),
+        CodeList::ReturnAcceptance => ((b'0' <= x) & (x <= b'9')) | ((b'A' <= x) & (x <= b'F')),
+        CodeList::ArchiveTypes => (b'A' <= x) & (x <= b'I'),
+        CodeList::TestOverrides => (x == b'0') | ((b'A' <= x) & (x <= b'R')),
+    }
+}
+
+fn holds_code(list: CodeList, part: &[u8]) -> bool
+    ensures { λ r. ⌜ r ≡ code list (now (part .entry)) ⌝ }
+{
+    if part.len() != 1 {
+        return false;
+    }
+    is_code(list, text::capital_of(part[0]))
+}
+
+fn is_standard_level(n: u64) -> bool
+    ensures { λ r. ⌜ r ≡ isStandardLevel n ⌝ }
+{
+    ((1 <= n) & (n <= 3)) | (n == 20)
+}
+
+fn is_bundle_collection_type(n: u64) -> bool
+    ensures { λ r. ⌜ r ≡ isBundleCollectionType n ⌝ }
+{
+    (n <= 1)
+        | ((n == 3) | (((5 <= n) & (n <= 7)) | ((n == 9) | ((n == 12) | ((80 <= n) & (n <= 89))))))
+}
+
+fn is_collection_type(n: u64) -> bool
+    ensures { λ r. ⌜ r ≡ isCollectionType n ⌝ }
+{
+    is_bundle_collection_type(n) | ((n == 10) | ((n == 20) | (n == 99)))
+}
+
+fn number_within(low: u64, high: u64, part: &[u8]) -> bool
+    ensures { λ r. ⌜ r ≡ digitsWith (within low high) (now (part .entry)) ⌝ }
+{
+    let n = text::number_in(part);
+    text::all_numeric(part) & ((low <= n) & (n <= high))
+}
+
+fn one_or_two_digits(part: &[u8]) -> bool
+    ensures { λ r. ⌜ r ≡ oneOrTwoDigits (now (part .entry)) ⌝ }
+{
+    text::all_admitted(DataType::NB, part) & text::some_numeric(part)
+}
+
+pub fn is_date(s: &[u8]) -> bool
+    ensures { λ r. ⌜ r ≡ isDate (now (s .entry)) ⌝ }
+{
+    if s.len() != 8 {
+        return false;
+    }
+    let year = text::number_in(&s[0..4]);
+    let month = text::number_in(&s[4..6]);
+    let day = text::number_in(&s[6..8]);
+    text::all_numeric(s)
+        & (((1993 <= year) & (year <= 9999))
+            & (((1 <= month) & (month <= 12)) & ((1 <= day) & (day <= 31))))
+}
+
+pub fn is_hours_minutes(s: &[u8]) -> bool
+    ensures { λ r. ⌜ r ≡ isHoursMinutes (now (s .entry)) ⌝ }
+{
+    if s.len() != 4 {
+        return false;
+    }
+    let hours = text::number_in(&s[0..2]);
+    let minutes = text::number_in(&s[2..4]);
+    text::all_numeric(s) & ((hours <= 23) & (minutes <= 59))
+}
+
+pub fn is_hours_minutes_seconds(s: &[u8]) -> bool
+    ensures { λ r. ⌜ r ≡ isHoursMinutesSeconds (now (s .entry)) ⌝ }
+{
+    if s.len() != 6 {
+        return false;
+    }
+    let seconds = &s[4..6];
+    is_hours_minutes(&s[0..4]) & (text::all_numeric(seconds) & (text::number_in(seconds) <= 59))
+}
+
+fn weighted_sum(s: &[u8]) -> u64
+    requires { ⌜ length (now s) ≡ 9 ⌝ }
+    ensures { λ r. ⌜ r ≡ weightedSum (now (s .entry)) ⌝ }
+{
+    let three = text::digit_of(s[0]) + text::digit_of(s[3]) + text::digit_of(s[6]);
+    let seven = text::digit_of(s[1]) + text::digit_of(s[4]) + text::digit_of(s[7]);
+    let one = text::digit_of(s[2]) + text::digit_of(s[5]) + text::digit_of(s[8]);
+    3 * three + 7 * seven + one
+}
+
+// TTTTAAAAC, with the ABA rule's check digit.
+pub fn is_routing_number(s: &[u8]) -> bool
+    ensures { λ r. ⌜ r ≡ isRoutingNumber (now (s .entry)) ⌝ }
+{
+    if s.len() != 9 {
+        return false;
+    }
+    text::all_numeric(s) & (weighted_sum(s) % 10 == 0)
+}
+
+fn byte_at(s: &[u8], at: usize) -> u8
+    ensures { λ r. ⌜ r ≡ getD (now (s .entry)) at 0 ⌝ }
+{
+    if at < s.len() {
+        return s[at];
+    }
+    0
+}
+
+fn is_clipping_coordinate<'a>(origin: usize, part: &'a [u8], body: &'a [u8]) -> bool
+    ensures { λ r. ⌜ r ≡ clippingCoordinate origin (now (part .entry)) (now (body .entry)) ⌝ }
+{
+    let clipped = !(byte_at(body, origin) == b'0');
+    text::all_numeric(part) & (clipped | (text::number_in(part) == 0))
+}
+
+pub fn follows_rule<'a>(rule: Rule, part: &'a [u8], body: &'a [u8]) -> bool
+    ensures { λ r. ⌜ r ≡ follows rule (now (part .entry)) (now (body .entry)) ⌝ }
+{
+    match rule {
+        Rule::DataTypeAlone => true,
+        Rule::Numbers(low, high) => number_within(low, high, part),
+        Rule::AllDigits => text::all_numeric(part),
+        Rule::OneOrTwoDigits => one_or_two_digits(part),
+        Rule::StandardLevel => text::all_numeric(part) & is_standard_level(text::number_in(part)),
+        Rule::CollectionType => text::all_numeric(part) & is_collection_type(text::number_in(part)),
+        Rule::BundleCollectionType => {
+            text::all_numeric(part) & is_bundle_collection_type(text::number_in(part))
+        }
+        Rule::Code(list) => holds_code(list, part),
+        Rule::Date => is_date(part),
+        Rule::HoursMinutes => is_hours_minutes(part),
+        Rule::HoursMinutesSeconds => is_hours_minutes_seconds(part),
+        Rule::RoutingNumber => is_routing_number(part),
+        Rule::ClippingCoordinate(origin) => is_clipping_coordinate(origin, part, body),
+    }
+}
+
+fn meets_rule<'a>(t: DataType, rule: Rule, part: &'a [u8], body: &'a [u8]) -> bool
+    ensures { λ r. ⌜ r ≡ meets t rule (now (part .entry)) (now (body .entry)) ⌝ }
+{
+    if !text::of_type(t, part) {
+        return false;
+    }
+    if follows_rule(rule, part, body) {
+        return true;
+    }
+    text::has_mark(t, part)
+}
+
+// Whether the field whose part of the record's body this is holds.
+pub fn field_holds<'a>(
+    usage: Usage,
+    t: DataType,
+    rule: Rule,
+    part: &'a [u8],
+    body: &'a [u8],
+) -> bool
+    ensures { λ r. ⌜ r ≡ holds usage t rule (now (part .entry)) (now (body .entry)) ⌝ }
+{
+    match usage {
+        Usage::Mandatory => meets_rule(t, rule, part, body),
+        Usage::Conditional => {
+            if text::all_blank(part) {
+                return true;
+            }
+            meets_rule(t, rule, part, body)
+        }
+    }
+}
