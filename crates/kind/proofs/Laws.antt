@@ -1,0 +1,91 @@
+-- A line, a part, and one turn of each loop, on plain values. Assumes nothing.
+use mathlib.Core.Path.{_≡_, refl, ap, sym, _∙_}
+use mathlib.Core.Bool.{Bool, true, false, _&&_, _||_, not}
+use mathlib.Core.List.{List, [], _∷_}
+use Prim.Native.Nat.{ℕ, zero, suc, _+_, _-_, _≤_, _<_, min}
+use native.Mathlib.Numerals.{add-one}
+use native.Mathlib.Nat.{zero-add, suc-add, zero-min, suc-min-suc}
+use native.Mathlib.Omega.{arith}
+use borrow.Author.Tests.{ne-eqb}
+use lib.Dec.{leb, ltb, eqb, leb·zero, leb·suc-zero, leb·suc-suc, eqb·suc-zero, eqb·suc-suc}
+use lib.ListN.{length, getD, take, drop, drop-of-length-le}
+use lib.Seq.{drop-cons, drop-drop, drop-nil}
+use Rattle.text.specs.DataTypes.{ofType}
+use Rattle.kind.specs.Alone.{lineHolds, firstWrong, Sized, statedSize, statedSizes, firstWrongPart, isVariable}
+use Rattle.kind.specs.Packing.{lineOf, linesFrom, sizedOf, sizedFrom}
+
+rest : (s : List ℕ) (i : ℕ) → i < length s → drop i s ≡ getD s i 0 ∷ drop (i + 1) s
+rest s i h = rw add-one (drop-cons s i 0 h)
+
+module _ (lines : List ℕ) (body : List ℕ) (n i : ℕ) where
+  pub wrong-here : i < length lines → lineHolds (lineOf n (getD lines i 0)) body ≡ false → firstWrong (linesFrom n (drop i lines)) body ≡ n
+  unfolding firstWrong
+  wrong-here h e = rw (rest lines i h, e)
+
+  pub wrong-later : i < length lines → lineHolds (lineOf n (getD lines i 0)) body ≡ true
+      → firstWrong (linesFrom n (drop i lines)) body ≡ firstWrong (linesFrom (n + 1) (drop (i + 1) lines)) body
+  unfolding firstWrong
+  wrong-later h e = rw (rest lines i h, e)
+
+  pub wrong-none : length lines ≤ i → firstWrong (linesFrom n (drop i lines)) body ≡ 0
+  unfolding firstWrong
+  wrong-none h = rw (drop-of-length-le lines h)
+
+-- stated sizes do not hang on how the parts are numbered
+pub renumbered : (m n : ℕ) (parts body : List ℕ) → statedSizes (sizedFrom m parts) body ≡ statedSizes (sizedFrom n parts) body
+unfolding statedSizes
+renumbered m n [] body = refl
+renumbered m n (p ∷ ps) body = ap (λ (k : ℕ). statedSize (sizedOf n p) body + k) (renumbered (m + 1) (n + 1) ps body)
+
+-- what is left after a size that fits
+eqb-after : (s d m : ℕ) → eqb (s + d) (s + m) ≡ eqb d m
+eqb-after zero d m = rw (zero-add d, zero-add m)
+eqb-after (suc s) d m = rw (suc-add s d, suc-add s m) (eqb·suc-suc (s + d) (s + m) ∙ eqb-after s d m)
+
+pub eqb-sub : (r s m : ℕ) → s ≤ r → eqb r (s + m) ≡ eqb (r - s) m
+eqb-sub r s m h = ap (λ (k : ℕ). eqb k (s + m)) (let e : r ≡ s + (r - s) = omega arith in e) ∙ eqb-after s (r - s) m
+
+module _ (parts : List ℕ) (body : List ℕ) (n i : ℕ) where
+  pub sizes-more : i < length parts
+      → statedSizes (sizedFrom n (drop i parts)) body ≡ statedSize (sizedOf n (getD parts i 0)) body + statedSizes (sizedFrom n (drop (i + 1) parts)) body
+  unfolding statedSizes
+  sizes-more h = rw (rest parts i h) (ap (λ (k : ℕ). statedSize (sizedOf n (getD parts i 0)) body + k) (renumbered (n + 1) n (drop (i + 1) parts) body))
+
+  pub sizes-none : length parts ≤ i → statedSizes (sizedFrom n (drop i parts)) body ≡ 0
+  unfolding statedSizes
+  sizes-none h = rw (drop-of-length-le parts h)
+
+  module _ (after : List ℕ) where
+    pub part-wrong : i < length parts → ofType (sizedOf n (getD parts i 0) .dataType) (take (statedSize (sizedOf n (getD parts i 0)) body) after) ≡ false
+        → firstWrongPart (sizedFrom n (drop i parts)) body after ≡ n
+    unfolding firstWrongPart
+    part-wrong h e = rw (rest parts i h, e)
+
+    pub part-right : i < length parts → ofType (sizedOf n (getD parts i 0) .dataType) (take (statedSize (sizedOf n (getD parts i 0)) body) after) ≡ true
+        → firstWrongPart (sizedFrom n (drop i parts)) body after
+        ≡ firstWrongPart (sizedFrom (n + 1) (drop (i + 1) parts)) body (drop (statedSize (sizedOf n (getD parts i 0)) body) after)
+    unfolding firstWrongPart
+    part-right h e = rw (rest parts i h, e)
+
+    pub part-none : length parts ≤ i → firstWrongPart (sizedFrom n (drop i parts)) body after ≡ 0
+    unfolding firstWrongPart
+    part-none h = rw (drop-of-length-le parts h)
+
+no-further : (xs : List ℕ) (n : ℕ) → drop n xs ≡ drop (min n (length xs)) xs
+no-further [] n = drop-nil n ∙ sym (drop-nil (min n 0))
+no-further (x ∷ xs) zero = ap (λ (k : ℕ). drop k (x ∷ xs)) (sym (zero-min (suc (length xs))))
+no-further (x ∷ xs) (suc n) = no-further xs n ∙ ap (λ (k : ℕ). drop k (x ∷ xs)) (sym (suc-min-suc n (length xs)))
+
+-- what stands past a part, however far the part reaches
+pub past-part : (body : List ℕ) (at size : ℕ) → drop size (drop at body) ≡ drop (min (at + size) (length body)) body
+past-part body at size = drop-drop size at body ∙ no-further body (at + size)
+
+flip : (m f : ℕ) → leb m f ≡ not (ltb f m)
+flip zero f = leb·zero f ∙ sym (ap not (leb·suc-zero f))
+flip (suc m) zero = leb·suc-zero m ∙ sym (ap not (leb·suc-suc zero m ∙ leb·zero m))
+flip (suc m) (suc f) = leb·suc-suc m f ∙ flip m f ∙ sym (ap not (leb·suc-suc (suc f) m))
+
+-- a record without parts is no longer than its fixed part
+pub length-allowed : (parts : List ℕ) (n m fixed : ℕ) → isVariable (sizedFrom n parts) || leb m fixed ≡ not (eqb (length parts) 0 && ltb fixed m)
+length-allowed [] n m fixed = flip m fixed
+length-allowed (p ∷ ps) n m fixed = sym (ap (λ (b : Bool). not (b && ltb fixed m)) (eqb·suc-zero (length ps)))

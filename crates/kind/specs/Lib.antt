@@ -1,0 +1,5 @@
+pub mod Layout
+pub mod Kinds
+pub mod Alone
+pub mod Laid
+pub mod Packing

@@ -1,0 +1,235 @@
+// One record alone: its length, its fixed fields, its stated sizes and its variable fields.
+mod layouts;
+mod packing;
+
+pub use layouts::BundleControl;
+pub use layouts::BundleHeader;
+pub use layouts::CashLetterControl;
+pub use layouts::CashLetterHeader;
+pub use layouts::CheckDetail;
+pub use layouts::CheckDetailAddendumA;
+pub use layouts::CheckDetailAddendumB;
+pub use layouts::CheckDetailAddendumC;
+pub use layouts::FileControl;
+pub use layouts::FileHeader;
+pub use layouts::ImageViewAnalysis;
+pub use layouts::ImageViewData;
+pub use layouts::ImageViewDetail;
+pub use layouts::ReturnAddendumA;
+pub use layouts::ReturnAddendumB;
+pub use layouts::ReturnAddendumC;
+pub use layouts::ReturnAddendumD;
+pub use layouts::ReturnRecord;
+ghost use mathlib.Core.Path.{_≡_};
+ghost use mathlib.Core.List.{List, []};
+ghost use Prim.Native.Nat.{ℕ, _+_, _-_, _≤_, min};
+ghost use lib.Dec.{eqb};
+ghost use lib.ListN.{length, drop};
+ghost use Rattle.kind.specs.Alone.{numberOf, fieldOf, lineHolds, firstWrong, statedSize, statedSizes, firstWrongPart, judged, typeOf, judgedAs, judgedRecord};
+ghost use Rattle.kind.specs.Packing.{lineOf, linesFrom, sizedOf, sizedFrom};
+
+// What is found of a record alone.
+pub enum Judged {
+    Sound,
+    WrongLength,
+    UnknownType,
+    // The number of the first field at fault.
+    WrongField(usize),
+}
+
+// A kind's constants.
+pub struct Shape {
+    pub record_type: u64,
+    pub length: usize,
+    pub fields: usize,
+}
+
+impl Judged {
+    // Document 01's number for the answer.
+    pub fn number(self) -> u64
+        ensures { λ r. ⌜ r ≡ numberOf self ⌝ }
+    {
+        match self {
+            Judged::Sound => 0,
+            Judged::WrongLength => 4,
+            Judged::UnknownType => 5,
+            Judged::WrongField(_) => 7,
+        }
+    }
+
+    // The field at fault, 0 for the whole record.
+    pub fn field(self) -> usize
+        ensures { λ r. ⌜ r ≡ fieldOf self ⌝ }
+    {
+        match self {
+            Judged::Sound => 0,
+            Judged::WrongLength => 0,
+            Judged::UnknownType => 0,
+            Judged::WrongField(n) => n,
+        }
+    }
+}
+
+fn line_holds(packed: u64, body: &[u8]) -> bool
+    ensures { λ r. ⌜ ((n : ℕ) → r ≡ lineHolds (lineOf n packed) (now (body .entry))) ⌝ }
+{
+    let start = packing::place_of(packed / 100_000_000_000);
+    let size = (packed / 1_000_000_000 % 100) as usize;
+    let usage = packing::usage_of(packed / 100_000_000 % 10);
+    let data_type = packing::data_type_of(packed / 1_000_000 % 100);
+    let rule = packing::rule_of(packed / 10_000 % 100, packed / 100 % 100, packed % 100);
+    let part = frame::part_of(body, start, size);
+    field::field_holds(usage, data_type, rule, part, body)
+}
+
+// The number of the first field of the fixed part that does not hold, or 0.
+fn first_wrong<'a>(lines: &'a [u64], body: &'a [u8]) -> usize
+    ensures { λ r. ⌜ r ≡ firstWrong (linesFrom 1 (now (lines .entry))) (now (body .entry)) ⌝ }
+{
+    let mut i = 0;
+    while i < lines.len() {
+        if !line_holds(lines[i], body) {
+            return i + 1;
+        }
+        i += 1;
+    }
+    0
+}
+
+// The size that the record states for a part.
+fn stated_size(packed: u64, body: &[u8]) -> u64
+    ensures { λ r. ⌜ ((n : ℕ) → r ≡ statedSize (sizedOf n packed) (now (body .entry))) ⌝ }
+{
+    let start = packing::place_of(packed / 100_000_000_000);
+    let size = (packed / 1_000_000_000 % 100) as usize;
+    text::number_in(frame::part_of(body, start, size))
+}
+
+// Whether the stated sizes come to just what is left after the fixed part.
+fn sizes_fill<'a>(parts: &'a [u64], body: &'a [u8], left: u64) -> bool
+    ensures { λ r. ⌜ ((n : ℕ) → r ≡ eqb left (statedSizes (sizedFrom n (now (parts .entry))) (now (body .entry)))) ⌝ }
+{
+    let mut rest = left;
+    let mut i = 0;
+    while i < parts.len() {
+        let size = stated_size(parts[i], body);
+        if rest < size {
+            return false;
+        }
+        rest -= size;
+        i += 1;
+    }
+    rest == 0
+}
+
+// Past a part that starts at a place, and no further than the end.
+fn past(at: usize, size: u64, end: usize) -> usize
+    ensures { λ r. ⌜ r ≡ min (at + size) end ⌝ }
+{
+    if end < at {
+        return end;
+    }
+    let left = (end - at) as u64;
+    if left < size {
+        return end;
+    }
+    at + size as usize
+}
+
+// The number of the first part that is not of its data type, or 0. The parts stand one after the other from a start on, and their
+// fields are numbered from `first` on.
+fn first_wrong_part<'a>(first: usize, parts: &'a [u64], start: usize, body: &'a [u8]) -> usize
+    requires { ⌜ first + length (now parts) ≤ 1000 ⌝ }
+    ensures { λ r. ⌜ r ≡ firstWrongPart (sizedFrom first (now (parts .entry))) (now (body .entry)) (drop start (now (body .entry))) ⌝ }
+{
+    let mut at = start;
+    let mut i = 0;
+    while i < parts.len() {
+        let packed = parts[i];
+        let size = stated_size(packed, body);
+        let data_type = packing::data_type_of(packed / 1_000_000 % 100);
+        if !text::of_type(data_type, frame::part_of(body, at, size as usize)) {
+            return first + i;
+        }
+        at = past(at, size, body.len());
+        i += 1;
+    }
+    0
+}
+
+// The checks of one record alone, in document 01's order.
+fn judge_body<'a>(fixed: usize, lines: &'a [u64], parts: &'a [u64], body: &'a [u8]) -> Judged
+    requires { ⌜ length (now lines) + length (now parts) ≤ 900 ⌝ }
+    ensures { λ r. ⌜ r ≡ judged fixed (linesFrom 1 (now (lines .entry))) (sizedFrom (length (now (lines .entry)) + 1) (now (parts .entry))) (now (body .entry)) ⌝ }
+{
+    if body.len() < fixed {
+        return Judged::WrongLength;
+    }
+    let left = body.len() - fixed;
+    if (parts.len() == 0) & (fixed < body.len()) {
+        return Judged::WrongLength;
+    }
+    let wrong = first_wrong(lines, body);
+    if wrong != 0 {
+        return Judged::WrongField(wrong);
+    }
+    if !sizes_fill(parts, body, left as u64) {
+        return Judged::WrongLength;
+    }
+    let wrong_part = first_wrong_part(lines.len() + 1, parts, fixed, body);
+    if wrong_part != 0 {
+        return Judged::WrongField(wrong_part);
+    }
+    Judged::Sound
+}
+
+// The type that a record's first two characters name, or 0.
+pub fn type_of(body: &[u8]) -> u64
+    ensures { λ r. ⌜ r ≡ typeOf (now (body .entry)) ⌝ }
+{
+    if body.len() < 2 {
+        return 0;
+    }
+    let characters = &body[0..2];
+    if !text::all_numeric(characters) {
+        return 0;
+    }
+    text::number_in(characters)
+}
+
+// A record judged alone as one of a type.
+pub fn judge_as(number: u64, body: &[u8]) -> Judged
+    ensures { λ r. ⌜ r ≡ judgedAs number (now (body .entry)) ⌝ }
+{
+    match number {
+        1 => FileHeader::judge(body),
+        10 => CashLetterHeader::judge(body),
+        20 => BundleHeader::judge(body),
+        25 => CheckDetail::judge(body),
+        26 => CheckDetailAddendumA::judge(body),
+        27 => CheckDetailAddendumB::judge(body),
+        28 => CheckDetailAddendumC::judge(body),
+        31 => ReturnRecord::judge(body),
+        32 => ReturnAddendumA::judge(body),
+        33 => ReturnAddendumB::judge(body),
+        34 => ReturnAddendumC::judge(body),
+        35 => ReturnAddendumD::judge(body),
+        50 => ImageViewDetail::judge(body),
+        52 => ImageViewData::judge(body),
+        54 => ImageViewAnalysis::judge(body),
+        70 => BundleControl::judge(body),
+        90 => CashLetterControl::judge(body),
+        99 => FileControl::judge(body),
+        _ => Judged::UnknownType,
+    }
+}
+
+// A record judged alone, whatever it is.
+pub fn judge_record(body: &[u8]) -> Judged
+    ensures { λ r. ⌜ r ≡ judgedRecord (now (body .entry)) ⌝ }
+{
+    if body.len() < 2 {
+        return Judged::WrongLength;
+    }
+    judge_as(type_of(body), body)
+}

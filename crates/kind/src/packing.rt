@@ -1,0 +1,149 @@
+// How a layout is written: each line as one decimal number. Its columns are the field's first position (3 digits), its size (2), its
+// usage (1), its data type (2), its rule (2) and the rule's two numbers (2 each).
+use field::CodeList;
+use field::Rule;
+use field::Usage;
+use text::DataType;
+ghost use mathlib.Core.Path.{_≡_};
+ghost use Prim.Native.Nat.{_-_};
+ghost use Rattle.kind.specs.Packing.{usageOf, dataTypeOf, ruleOf};
+
+// First position and size stand before the other columns.
+pub const AT: u64 = 1_000_000_000;
+
+pub const M: u64 = 0;
+
+pub const C: u64 = 1_00_00_00_00;
+
+pub const AB: u64 = 01_00_00_00;
+
+pub const A: u64 = 02_00_00_00;
+
+pub const AN: u64 = 03_00_00_00;
+
+pub const ANS: u64 = 04_00_00_00;
+
+pub const BINARY: u64 = 05_00_00_00;
+
+pub const N: u64 = 06_00_00_00;
+
+pub const NB: u64 = 07_00_00_00;
+
+pub const NBD: u64 = 08_00_00_00;
+
+pub const NBQ: u64 = 09_00_00_00;
+
+pub const NBMC: u64 = 10_00_00_00;
+
+pub const NBMCD: u64 = 11_00_00_00;
+
+pub const NBMCDO: u64 = 12_00_00_00;
+
+pub const NBMU: u64 = 13_00_00_00;
+
+pub const NUMBERS: u64 = 01_00_00;
+
+pub const ALL_DIGITS: u64 = 02_00_00;
+
+pub const ONE_OR_TWO_DIGITS: u64 = 03_00_00;
+
+pub const STANDARD_LEVEL: u64 = 04_00_00;
+
+pub const COLLECTION_TYPE: u64 = 05_00_00;
+
+pub const BUNDLE_COLLECTION_TYPE: u64 = 06_00_00;
+
+pub const DATE: u64 = 07_00_00;
+
+pub const HOURS_MINUTES: u64 = 08_00_00;
+
+pub const HOURS_MINUTES_SECONDS: u64 = 09_00_00;
+
+pub const ROUTING_NUMBER: u64 = 10_00_00;
+
+pub const CLIPPED_BY: u64 = 11_00_00;
+
+pub const FILE_TYPES: u64 = 21_00_00;
+
+pub const YES_NO: u64 = 22_00_00;
+
+pub const YES_NO_UNKNOWN: u64 = 23_00_00;
+
+pub const RECORD_TYPE_INDICATORS: u64 = 24_00_00;
+
+pub const CASH_LETTER_DOCUMENTATION: u64 = 25_00_00;
+
+pub const ITEM_DOCUMENTATION: u64 = 26_00_00;
+
+pub const RETURN_ACCEPTANCE: u64 = 27_00_00;
+
+pub const ARCHIVE_TYPES: u64 = 28_00_00;
+
+pub const TEST_OVERRIDES: u64 = 29_00_00;
+
+// A position counted from 1 as a place counted from 0.
+pub fn place_of(position: u64) -> usize
+    ensures { λ r. ⌜ r ≡ position - 1 ⌝ }
+{
+    if position == 0 {
+        return 0;
+    }
+    (position - 1) as usize
+}
+
+pub fn usage_of(code: u64) -> Usage
+    ensures { λ r. ⌜ r ≡ usageOf code ⌝ }
+{
+    match code {
+        0 => Usage::Mandatory,
+        _ => Usage::Conditional,
+    }
+}
+
+pub fn data_type_of(code: u64) -> DataType
+    ensures { λ r. ⌜ r ≡ dataTypeOf code ⌝ }
+{
+    match code {
+        1 => DataType::AB,
+        2 => DataType::A,
+        3 => DataType::AN,
+        4 => DataType::ANS,
+        6 => DataType::N,
+        7 => DataType::NB,
+        8 => DataType::NBD,
+        9 => DataType::NBQ,
+        10 => DataType::NBMc,
+        11 => DataType::NBMcd,
+        12 => DataType::NBMcdo,
+        13 => DataType::NBMU,
+        _ => DataType::Binary,
+    }
+}
+
+pub fn rule_of(code: u64, low: u64, high: u64) -> Rule
+    ensures { λ r. ⌜ r ≡ ruleOf code low high ⌝ }
+{
+    match code {
+        1 => Rule::Numbers(low, high),
+        2 => Rule::AllDigits,
+        3 => Rule::OneOrTwoDigits,
+        4 => Rule::StandardLevel,
+        5 => Rule::CollectionType,
+        6 => Rule::BundleCollectionType,
+        7 => Rule::Date,
+        8 => Rule::HoursMinutes,
+        9 => Rule::HoursMinutesSeconds,
+        10 => Rule::RoutingNumber,
+        11 => Rule::ClippingCoordinate(place_of(high)),
+        21 => Rule::Code(CodeList::FileTypes),
+        22 => Rule::Code(CodeList::YesNo),
+        23 => Rule::Code(CodeList::YesNoUnknown),
+        24 => Rule::Code(CodeList::RecordTypeIndicators),
+        25 => Rule::Code(CodeList::CashLetterDocumentation),
+        26 => Rule::Code(CodeList::ItemDocumentation),
+        27 => Rule::Code(CodeList::ReturnAcceptance),
+        28 => Rule::Code(CodeList::ArchiveTypes),
+        29 => Rule::Code(CodeList::TestOverrides),
+        _ => Rule::DataTypeAlone,
+    }
+}
