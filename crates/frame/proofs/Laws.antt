@@ -4,10 +4,12 @@ use mathlib.Core.List.{List, []}
 use Prim.Native.Nat.{ℕ, _+_, _-_, _≤_, _<_}
 use native.Mathlib.Nat.{add-sub-cancel-left}
 use native.Mathlib.Omega.{arith}
-use borrow.Author.Tests.{le-leb, lt-leb}
+use borrow.Author.Tests.{le-leb, lt-leb, leb-true}
+use lib.Dec.{leb}
+use mathlib.Core.Bool.{Bool, true, false}
 use lib.ListN.{length, take, drop, drop-of-length-le, length-drop}
 use lib.Seq.{take-all, take-nil}
-use Rattle.frame.specs.Frames.{part, lengthIn, lengthAt, frameAt}
+use Rattle.frame.specs.Frames.{part, lengthIn, lengthAt, frameAt, unlessFrame}
 use Rattle.frame.specs.declared.Frame.the-variants.{Cut, Whole}
 
 module _ (xs : List ℕ) (start size : ℕ) where
@@ -39,3 +41,16 @@ module _ (file : List ℕ) (offset : ℕ) where
   pub whole : offset + 4 + lengthAt file offset ≤ length file → frameAt file offset ≡ Whole (offset + 4) (lengthAt file offset)
   unfolding frameAt
   whole l = rw (le-leb (offset + 4) (length file) (omega arith), le-leb _ _ l)
+
+both-tests : (t u : Bool) {start size s n : ℕ} → unlessFrame t Cut (unlessFrame u Cut (Whole start size)) ≡ Whole s n
+    → (u ≡ true) × (start ≡ s) × (size ≡ n)
+both-tests true true e = (refl, (cc), (cc))
+both-tests true false e = ((cc), (cc), (cc))
+both-tests false u e = ((cc), (cc), (cc))
+
+-- a whole frame lies within the file
+pub whole-within : (file : List ℕ) (offset start size : ℕ) → frameAt file offset ≡ Whole start size → start + size ≤ length file
+unfolding frameAt
+whole-within file offset start size e =
+    let tests = both-tests (leb (offset + 4) (length file)) (leb (offset + 4 + lengthAt file offset) (length file)) e in
+    omega (arith, leb-true (offset + 4 + lengthAt file offset) (length file) (tests .0), tests .1, tests .2)

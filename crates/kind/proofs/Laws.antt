@@ -4,14 +4,19 @@ use mathlib.Core.Bool.{Bool, true, false, _&&_, _||_, not}
 use mathlib.Core.List.{List, [], _∷_}
 use Prim.Native.Nat.{ℕ, zero, suc, _+_, _-_, _≤_, _<_, min}
 use native.Mathlib.Numerals.{add-one}
-use native.Mathlib.Nat.{zero-add, suc-add, zero-min, suc-min-suc}
+use native.Mathlib.Nat.{zero-add, suc-add, zero-min, suc-min-suc, not-suc-le-zero, le-of-suc-le-suc}
 use native.Mathlib.Omega.{arith}
-use borrow.Author.Tests.{ne-eqb}
+use borrow.Author.Tests.{ne-eqb, eqb-true}
 use lib.Dec.{leb, ltb, eqb, leb·zero, leb·suc-zero, leb·suc-suc, eqb·suc-zero, eqb·suc-suc}
 use lib.ListN.{length, getD, take, drop, drop-of-length-le}
 use lib.Seq.{drop-cons, drop-drop, drop-nil}
 use Rattle.text.specs.DataTypes.{ofType}
-use Rattle.kind.specs.Alone.{lineHolds, firstWrong, Sized, statedSize, statedSizes, firstWrongPart, isVariable}
+use Rattle.kind.specs.Alone.{lineHolds, firstWrong, Sized, statedSize, statedSizes, firstWrongPart, isVariable, unless, judged, alone, sizedParts}
+use Rattle.kind.specs.Kinds.{imageViewData}
+use Rattle.kind.specs.Image.{imageStart, imageSize}
+use Rattle.kind.specs.Layout.{Line}
+use Rattle.kind.specs.declared.Judged.{Judged}
+use Rattle.kind.specs.declared.Judged.the-variants.{Sound, WrongLength, WrongField}
 use Rattle.kind.specs.Packing.{lineOf, linesFrom, sizedOf, sizedFrom}
 
 rest : (s : List ℕ) (i : ℕ) → i < length s → drop i s ≡ getD s i 0 ∷ drop (i + 1) s
@@ -89,3 +94,45 @@ flip (suc m) (suc f) = leb·suc-suc m f ∙ flip m f ∙ sym (ap not (leb·suc-s
 pub length-allowed : (parts : List ℕ) (n m fixed : ℕ) → isVariable (sizedFrom n parts) || leb m fixed ≡ not (eqb (length parts) 0 && ltb fixed m)
 length-allowed [] n m fixed = flip m fixed
 length-allowed (p ∷ ps) n m fixed = sym (ap (λ (b : Bool). not (b && ltb fixed m)) (eqb·suc-zero (length ps)))
+
+-- the sizes of one part more
+pub sizes-suc : (parts body : List ℕ) (n i : ℕ) → i < length parts
+    → statedSizes (sizedFrom n (take (i + 1) parts)) body ≡ statedSizes (sizedFrom n (take i parts)) body + statedSize (sizedOf n (getD parts i 0)) body
+unfolding statedSizes
+sizes-suc [] body n i h = absurd (not-suc-le-zero h)
+sizes-suc (p ∷ ps) body n zero h = omega arith
+sizes-suc (p ∷ ps) body n (suc i) h = rw (suc-add i 1) (omega (arith, sizes-suc ps body (n + 1) i (le-of-suc-le-suc h)))
+
+-- and never more than those of all
+pub sizes-within : (parts body : List ℕ) (n i : ℕ) → statedSizes (sizedFrom n (take i parts)) body ≤ statedSizes (sizedFrom n parts) body
+unfolding statedSizes
+sizes-within [] body n zero = omega arith
+sizes-within [] body n (suc i) = omega arith
+sizes-within (p ∷ ps) body n zero = omega arith
+sizes-within (p ∷ ps) body n (suc i) = omega (arith, sizes-within ps body (n + 1) i)
+
+length-not-sound : WrongLength ≡ Sound → ⊥
+length-not-sound q = let z : _≡_ {A = ℕ} 0 1 = cc in omega arith
+
+field-not-sound : (n : ℕ) → WrongField n ≡ Sound → ⊥
+field-not-sound n q = let z : _≡_ {A = ℕ} 0 1 = cc in omega arith
+
+kept : (t : Bool) {a j : Judged} → (a ≡ Sound → ⊥) → unless t a j ≡ Sound → (t ≡ true) × (j ≡ Sound)
+kept true differs e = (refl, e)
+kept false differs e = absurd (differs e)
+
+-- a sound record is as long as its fixed part and its stated sizes
+pub sound-fills : (fixed : ℕ) (lines : List Line) (parts : List Sized) (body : List ℕ) → judged fixed lines parts body ≡ Sound
+    → length body ≡ fixed + statedSizes parts body
+unfolding judged
+sound-fills fixed lines parts body e =
+    let long = kept (leb fixed (length body)) length-not-sound e in
+    let short = kept (isVariable parts || leb (length body) fixed) length-not-sound (long .1) in
+    let field = kept (eqb (firstWrong lines body) 0) (field-not-sound (firstWrong lines body)) (short .1) in
+    let fills = kept (eqb (length body) (fixed + statedSizes parts body)) length-not-sound (field .1) in
+    eqb-true (length body) (fixed + statedSizes parts body) (fills .0)
+
+-- the Image Data of a sound 52 lies within its body
+pub image-within : (body : List ℕ) → alone imageViewData body ≡ Sound → imageStart body + imageSize body ≤ length body
+unfolding statedSizes
+image-within body e = omega (arith, sound-fills 139 (imageViewData .lines) (sizedParts imageViewData) body e)

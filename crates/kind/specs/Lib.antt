@@ -3,3 +3,4 @@ pub mod Kinds
 pub mod Alone
 pub mod Laid
 pub mod Packing
+pub mod Image

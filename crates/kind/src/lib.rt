@@ -24,8 +24,11 @@ ghost use mathlib.Core.Path.{_≡_};
 ghost use mathlib.Core.List.{List, []};
 ghost use Prim.Native.Nat.{ℕ, _+_, _-_, _≤_, min};
 ghost use lib.Dec.{eqb};
-ghost use lib.ListN.{length, drop};
-ghost use Rattle.kind.specs.Alone.{numberOf, fieldOf, lineHolds, firstWrong, statedSize, statedSizes, firstWrongPart, judged, typeOf, judgedAs, judgedRecord};
+ghost use lib.ListN.{length, take, drop};
+ghost use Rattle.kind.specs.Alone.{numberOf, fieldOf, lineHolds, firstWrong, statedSize, statedSizes, firstWrongPart, judged, typeOf, judgedAs, judgedRecord, alone};
+ghost use Rattle.kind.specs.Image.{imageStart, imageSize};
+ghost use Rattle.kind.specs.Kinds.{imageViewData};
+ghost use Rattle.kind.specs.declared.Judged.the-variants.{Sound};
 ghost use Rattle.kind.specs.Packing.{lineOf, linesFrom, sizedOf, sizedFrom};
 
 // What is found of a record alone.
@@ -157,6 +160,20 @@ fn first_wrong_part<'a>(first: usize, parts: &'a [u64], start: usize, body: &'a 
     0
 }
 
+// The sizes that the record states for the first `count` parts, together.
+fn sizes_before<'a>(count: usize, parts: &'a [u64], body: &'a [u8]) -> u64
+    requires { ⌜ (count ≤ length (now parts)) × (statedSizes (sizedFrom 1 (now parts)) (now body) ≤ 0xFFFF_FFFF) ⌝ }
+    ensures { λ r. ⌜ ((n : ℕ) → r ≡ statedSizes (sizedFrom n (take count (now (parts .entry)))) (now (body .entry))) ⌝ }
+{
+    let mut sum: u64 = 0;
+    let mut i = 0;
+    while i < count {
+        sum += stated_size(parts[i], body);
+        i += 1;
+    }
+    sum
+}
+
 // The checks of one record alone, in document 01's order.
 fn judge_body<'a>(fixed: usize, lines: &'a [u64], parts: &'a [u64], body: &'a [u8]) -> Judged
     requires { ⌜ length (now lines) + length (now parts) ≤ 900 ⌝ }
@@ -232,4 +249,21 @@ pub fn judge_record(body: &[u8]) -> Judged
         return Judged::WrongLength;
     }
     judge_as(type_of(body), body)
+}
+
+// Where the Image Data of a sound 52 starts in its body: past the fixed part and fields 22 to 26.
+pub fn image_start(body: &[u8]) -> usize
+    requires { ⌜ (alone imageViewData (now body) ≡ Sound) × (length (now body) ≤ 0xFFFF_FFFF) ⌝ }
+    ensures { λ r. ⌜ r ≡ imageStart (now (body .entry)) ⌝ }
+{
+    let parts = ImageViewData::PARTS;
+    ImageViewData::LENGTH + sizes_before(5, &parts, body) as usize
+}
+
+// How long it is: what field 20 states.
+pub fn image_size(body: &[u8]) -> usize
+    ensures { λ r. ⌜ r ≡ imageSize (now (body .entry)) ⌝ }
+{
+    let parts = ImageViewData::PARTS;
+    stated_size(parts[5], body) as usize
 }

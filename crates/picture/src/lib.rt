@@ -1,0 +1,122 @@
+// The picture call: a check's own picture from its own file.
+use frame::Cursor;
+use frame::Frame;
+use kind::ImageViewData;
+use kind::Judged;
+ghost use mathlib.Core.Path.{_≡_};
+ghost use Prim.Native.Nat.{_+_, _≤_};
+ghost use lib.ListN.{length};
+ghost use Rattle.picture.specs.Picture.{numberOf, fieldOf, startOf, sizeOf, bytesOf, inBody, pictureAt};
+
+// What the picture call finds at an offset of a file.
+pub enum Found {
+    // The Image Data part: where it starts in the file, and how long it is.
+    At(usize, usize),
+    SizeRefused,
+    CutRefused,
+    LengthRefused,
+    TypeRefused,
+    // The number of the field at fault.
+    FieldRefused(usize),
+}
+
+impl Found {
+    // Document 01's number for the answer.
+    pub fn number(self) -> u64
+        ensures { λ r. ⌜ r ≡ numberOf self ⌝ }
+    {
+        match self {
+            Found::At(_, _) => 0,
+            Found::SizeRefused => 1,
+            Found::CutRefused => 3,
+            Found::LengthRefused => 4,
+            Found::TypeRefused => 5,
+            Found::FieldRefused(_) => 7,
+        }
+    }
+
+    // The field at fault, 0 for any other answer.
+    pub fn field(self) -> usize
+        ensures { λ r. ⌜ r ≡ fieldOf self ⌝ }
+    {
+        match self {
+            Found::At(_, _) => 0,
+            Found::SizeRefused => 0,
+            Found::CutRefused => 0,
+            Found::LengthRefused => 0,
+            Found::TypeRefused => 0,
+            Found::FieldRefused(n) => n,
+        }
+    }
+
+    // Where the part starts in the file, 0 where there is none.
+    pub fn start(self) -> usize
+        ensures { λ r. ⌜ r ≡ startOf self ⌝ }
+    {
+        match self {
+            Found::At(start, _) => start,
+            Found::SizeRefused => 0,
+            Found::CutRefused => 0,
+            Found::LengthRefused => 0,
+            Found::TypeRefused => 0,
+            Found::FieldRefused(_) => 0,
+        }
+    }
+
+    // How long it is.
+    pub fn size(self) -> usize
+        ensures { λ r. ⌜ r ≡ sizeOf self ⌝ }
+    {
+        match self {
+            Found::At(_, size) => size,
+            Found::SizeRefused => 0,
+            Found::CutRefused => 0,
+            Found::LengthRefused => 0,
+            Found::TypeRefused => 0,
+            Found::FieldRefused(_) => 0,
+        }
+    }
+}
+
+// The picture of a record whose body starts at a place of the file.
+fn in_body(start: usize, body: &[u8]) -> Found
+    requires { ⌜ start + length (now body) ≤ 268_435_456 ⌝ }
+    ensures { λ r. ⌜ r ≡ inBody start (now (body .entry)) ⌝ }
+{
+    if body.len() < 2 {
+        return Found::LengthRefused;
+    }
+    if kind::type_of(body) != ImageViewData::TYPE {
+        return Found::TypeRefused;
+    }
+    match ImageViewData::judge(body) {
+        Judged::Sound => Found::At(start + kind::image_start(body), kind::image_size(body)),
+        Judged::WrongLength => Found::LengthRefused,
+        Judged::UnknownType => Found::TypeRefused,
+        Judged::WrongField(n) => Found::FieldRefused(n),
+    }
+}
+
+// The companion call: what the picture call finds. Any file and any offset get their answer.
+pub fn find_picture(file: &[u8], offset: usize) -> Found
+    ensures { λ r. ⌜ r ≡ pictureAt (now (file .entry)) offset ⌝ }
+{
+    if file.len() < 1 {
+        return Found::SizeRefused;
+    }
+    if 268_435_456 < file.len() {
+        return Found::SizeRefused;
+    }
+    match Cursor::at(offset).frame(file) {
+        Frame::Cut => Found::CutRefused,
+        Frame::Whole(start, size) => in_body(start, frame::part_of(file, start, size)),
+    }
+}
+
+// The picture call: the Image Data part of the 52 whose length field stands at an offset, or an empty part.
+pub fn picture(file: &[u8], offset: usize) -> &[u8]
+    ensures { λ r. ⌜ now r ≡ bytesOf (now (file .entry)) (pictureAt (now (file .entry)) offset) ⌝ }
+{
+    let found = find_picture(file, offset);
+    frame::part_of(file, found.start(), found.size())
+}
