@@ -1,0 +1,19 @@
+use mathlib.Core.Path.{sym}
+use borrow.Author.Needs.{needs}
+use Rattle.abi.proofs.x9_record.Statement.{statement}
+use Rattle.abi.proofs.x9_record.Tie as tie
+
+judge-record-requires : tie.Need-judge-record-requires
+judge-record-requires c κs = search needs
+
+number-requires : tie.Need-number-requires
+number-requires c κs = search needs
+
+field-requires : tie.Need-field-requires
+field-requires c κs = search needs
+
+returns : tie.Need-returns
+returns c = (rw (sym (c .before .before .before .judge-record .ensures)) (c .before .before .number .ensures), rw (sym (c .before .before .before .judge-record .ensures), c .before .before .number .ensures, c .before .field .ensures))
+
+pub x9-record-spec : {M : Type 1} → statement M
+x9-record-spec = tie.close (tie.spec judge-record-requires number-requires field-requires returns)

@@ -1,0 +1,73 @@
+-- Document 01, "Samples at the edges": those marked P, one table with one proof.
+use Prim.Native.Nat.{ℕ, _+_}
+use mathlib.Core.Bool.{Bool, true, false, _&&_, not}
+use mathlib.Core.List.{List, [], _∷_, _++_, map}
+use mathlib.Core.Path.{_≡_, refl}
+use lib.Dec.{eqb}
+use lib.ListN.{length, replicate}
+use Rattle.text.specs.DataTypes.{ofType}
+use Rattle.text.specs.Number.{number}
+use Rattle.field.specs.Values.{isCode}
+use Rattle.field.specs.Formats.{isDate, isRoutingNumber, isHoursMinutes, isHoursMinutesSeconds}
+use Rattle.field.specs.Rules.{follows, meets, holds}
+use Rattle.frame.specs.Frames.{lengthIn}
+use Rattle.kind.specs.Layout.{Kind}
+use Rattle.kind.specs.Kinds.{checkDetailAddendumB, imageViewData}
+use Rattle.kind.specs.Alone.{numberOf, alone, judged, lineHolds, firstWrong, firstWrongPart, statedSizes}
+
+-- numeric characters
+abbrev pub digits : List ℕ → List ℕ
+digits ds = map (λ (d : ℕ). d + 0x30) ds
+
+abbrev pub zeros : ℕ → List ℕ
+zeros n = replicate n 0x30
+
+abbrev pub blanks : ℕ → List ℕ
+blanks n = replicate n 0x20
+
+-- a record alone is sound as it stands, and has a wrong LENGTH with a byte more
+abbrev pub endsThere : Kind → List ℕ → Bool
+endsThere k body = eqb (numberOf (alone k body)) 0 && eqb (numberOf (alone k (body ++ 0x20 ∷ []))) 4
+
+-- the fixed part of a 52 with 1,000 image bytes and no other part: type, routing number, date, blank fields 4 to 8, clipping origin
+-- and coordinates, ancillary data indicator, and the seven lengths
+abbrev pub viewData : List ℕ
+viewData =
+    digits (5 ∷ 2 ∷ 1 ∷ 2 ∷ 3 ∷ 4 ∷ 5 ∷ 6 ∷ 7 ∷ 8 ∷ 0 ∷ 2 ∷ 0 ∷ 0 ∷ 5 ∷ 0 ∷ 2 ∷ 3 ∷ 0 ∷ []) ++ blanks 65 ++ zeros 17 ++ zeros 2
+    ++ zeros 24 ++ digits (0 ∷ 0 ∷ 0 ∷ 1 ∷ 0 ∷ 0 ∷ 0 ∷ []) ++ zeros 5
+
+-- the fixed part of a 27 with a 34-byte locator only: type, blank fields 2 to 5, the six lengths, and the reserved field
+abbrev pub addendumB : List ℕ
+addendumB = digits (2 ∷ 7 ∷ []) ++ blanks 49 ++ digits (0 ∷ 0 ∷ 3 ∷ 4 ∷ []) ++ zeros 13 ++ blanks 5
+
+pub record Sample : Type 0 where
+  pub name : ℕ
+  pub holds : Bool
+
+abbrev pub P : ℕ → Bool → Sample
+P n test = record { name = n; holds = test }
+
+abbrev pub samples : List Sample
+samples =
+    -- "routing 123456780 passes"; "123456781 not"
+    P 1 (isRoutingNumber (digits (1 ∷ 2 ∷ 3 ∷ 4 ∷ 5 ∷ 6 ∷ 7 ∷ 8 ∷ 0 ∷ []))) ∷
+    P 2 (not (isRoutingNumber (digits (1 ∷ 2 ∷ 3 ∷ 4 ∷ 5 ∷ 6 ∷ 7 ∷ 8 ∷ 1 ∷ [])))) ∷
+    -- "date 20050230 passes"; "19921231 not"
+    P 3 (isDate (digits (2 ∷ 0 ∷ 0 ∷ 5 ∷ 0 ∷ 2 ∷ 3 ∷ 0 ∷ []))) ∷
+    P 4 (not (isDate (digits (1 ∷ 9 ∷ 9 ∷ 2 ∷ 1 ∷ 2 ∷ 3 ∷ 1 ∷ [])))) ∷
+    -- "bytes 00 00 7D 00 are 32,000"
+    P 5 (eqb (lengthIn (0x00 ∷ 0x00 ∷ 0x7D ∷ 0x00 ∷ [])) 32_000) ∷
+    -- "a 52 with 1,000 image bytes and no other part is 1,139 long"
+    P 6 (eqb (length (viewData ++ replicate 1_000 0)) 1_139 && endsThere imageViewData (viewData ++ replicate 1_000 0)) ∷
+    -- "a 27 with a 34-byte locator only is 107"
+    P 7 (eqb (length (addendumB ++ replicate 34 0x41)) 107 && endsThere checkDetailAddendumB (addendumB ++ replicate 34 0x41)) ∷
+    []
+
+abbrev pub allHold : List Sample → Bool
+allHold [] = true
+allHold (s ∷ ss) = s .holds && allHold ss
+
+-- every sample of the table is as document 01 says
+pub samples-hold : allHold samples ≡ true
+unfolding ofType number isCode isDate isRoutingNumber isHoursMinutes isHoursMinutesSeconds follows meets holds judged lineHolds firstWrong firstWrongPart statedSizes
+samples-hold = refl
