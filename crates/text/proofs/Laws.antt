@@ -4,11 +4,13 @@ use mathlib.Core.Bool.{Bool, true, false, _&&_, _||_, not}
 use mathlib.Core.List.{List, [], _∷_}
 use Prim.Native.Nat.{ℕ, suc, _+_, _-_, _*_, _^_, _≤_, _<_}
 use native.Mathlib.Numerals.{add-one}
-use native.Mathlib.Nat.{pow-suc, pow-le-pow-right}
+use native.Mathlib.Nat.{pow-suc, pow-le-pow-right, mul-comm, mul-assoc, mul-le-mul-right, lt-of-lt-of-le}
 use native.Mathlib.Omega.{arith}
-use lib.ListN.{length, getD, take, drop, drop-of-length-le}
+use borrow.Author.Tests.{leb-true}
+use lib.Dec.{leb}
+use lib.ListN.{length, getD, take, drop, drop-of-length-le, length-take}
 use lib.Seq.{drop-cons, take-all}
-use Rattle.text.specs.Characters.{isBlank, isNumeric}
+use Rattle.text.specs.Characters.{isBlank, isNumeric, pickCharacter}
 use Rattle.text.specs.declared.DataType.{DataType}
 use Rattle.text.specs.declared.DataType.the-variants.{Binary}
 use Rattle.text.specs.DataTypes.{every, some, blankAfter, blankEmbedded, admits, keepsDigitsTogether, ofType}
@@ -108,3 +110,26 @@ apart t xs e = rw e (and-true (every (admits t) xs))
 pub number-short : (xs : List ℕ) → length xs ≤ 19 → number xs ≡ valueAfter 0 xs
 unfolding number
 number-short xs h = rw (take-all 19 xs h)
+
+-- a digit is at most 9, and a run of k digits has a number below the k-th power of ten
+digit-test : (a b : Bool) (x : ℕ) → (b ≡ true → x ≤ 0x39) → pickCharacter (a && b) (x - 0x30) 0 ≤ 9
+digit-test true true x h = omega (arith, h refl)
+digit-test true false x h = omega arith
+digit-test false b x h = omega arith
+
+digit-small : (x : ℕ) → digit x ≤ 9
+digit-small x = digit-test (leb 0x30 x) (leb x 0x39) x (λ e. leb-true x 0x39 e)
+
+value-below : (v : ℕ) (xs : List ℕ) → valueAfter v xs < (v + 1) * 10 ^ length xs
+value-below v [] = omega arith
+value-below v (x ∷ xs) =
+    let step : v * 10 + digit x + 1 ≤ (v + 1) * 10 = omega (arith, digit-small x) in
+    rw (pow-suc 10 (length xs), mul-comm (10 ^ length xs) 10, ← mul-assoc (v + 1) 10 (10 ^ length xs))
+    (lt-of-lt-of-le (value-below (v * 10 + digit x) xs) (mul-le-mul-right (10 ^ length xs) step))
+
+pub number-below : (xs : List ℕ) (k : ℕ) → length xs ≤ k → number xs < 10 ^ k
+unfolding number
+number-below xs k h =
+    let all = value-below 0 (take 19 xs) in
+    let short : length (take 19 xs) ≤ k = omega (arith, length-take 19 xs) in
+    omega (arith, all, pow-le-pow-right {n = 10} (omega arith) short)

@@ -1,0 +1,20 @@
+use mathlib.Core.Path.{_≡_, refl, sym, _∙_}
+use borrow.Author.Tests.{ne-eqb}
+use Rattle.order.specs.Order.{follows, mayFollow}
+use Rattle.order.proofs.Laws.{or-false}
+use borrow.Author.Needs.{needs}
+use Rattle.order.proofs.may_follow.Statement.{statement}
+use Rattle.order.proofs.may_follow.Tie as tie
+
+is-item-requires : tie.Need-is-item-requires
+is-item-requires c κs = search needs
+
+follows-last-requires : tie.Need-follows-last-requires
+follows-last-requires c κs = search needs
+
+returns : tie.Need-returns
+unfolding mayFollow
+returns c = rw (c .follows-last .ensures, c .before .is-item .ensures)
+
+pub may-follow-spec : {M : Type 1} → statement M
+may-follow-spec = tie.close (tie.spec is-item-requires follows-last-requires returns)

@@ -1,0 +1,24 @@
+use mathlib.Core.Path.{_≡_, refl, sym, _∙_, ap}
+use denote.Ref.{now}
+use Prim.Native.Nat.{ℕ, _+_, _-_, _≤_, _<_}
+use native.Mathlib.Omega.{arith}
+use lib.ListN.{length, List·getD-eq-default}
+use borrow.Author.Tests.{eq-eqb, ne-eqb, not-true, not-false, lt-leb, le-leb}
+use Rattle.frame.proofs.Laws.{part-outside}
+use Rattle.standing.specs.History.{characters, amountOf, micrOf, statedBy}
+use Rattle.standing.proofs.Laws.{ten-digits}
+use borrow.Author.Needs.{needs}
+use Rattle.standing.proofs.signature_after.Statement.{statement}
+use Rattle.standing.proofs.signature_after.Tie as tie
+
+number-at-requires : tie.Need-number-at-requires
+number-at-requires c κs = search needs
+
+returns : tie.Need-returns
+returns c = rw (eq-eqb _ _ (c .before .if1 .taken)) (c .number-at .ensures)
+
+returns-2 : tie.Need-returns-2
+returns-2 c = rw (ne-eqb _ _ (c .if1 .left))
+
+pub signature-after-spec : {M : Type 1} → statement M
+signature-after-spec = tie.close (tie.spec number-at-requires returns returns-2)

@@ -1,0 +1,48 @@
+-- Every figure of the history that the reader carries along.
+use Prim.Native.Nat.{ℕ, _+_, _<_}
+use mathlib.Core.List.{List, map}
+use lib.Dec.{eqb}
+use lib.ListN.{length}
+use Rattle.measure.specs.Measures.{cents, records, Small}
+use Rattle.order.specs.Order.{isItem, isAddendum, lastOf, kindInBundle}
+use Rattle.standing.specs.History.{Entry, micrOf, statedBy, indicatorIn, signatureIn, sumSince, sumsSince, atNewest, never, is, isItemEntry, countSince, isBofdAddendum, isEndorserAddendum}
+use Rattle.standing.specs.declared.Standing.{Standing}
+
+abbrev pub standing : List ℕ → List Entry → Standing
+standing file past =
+    record {
+      last = lastOf (map (λ (r : Entry). r .type) past);
+      present = kindInBundle (map (λ (r : Entry). r .type) past);
+      records = records (length past);
+      letters = countSince never (λ t. eqb t 10) past;
+      bundles = countSince never (λ t. eqb t 20) past;
+      opened = countSince (is 10) (λ t. eqb t 20) past;
+      whole = sumsSince never file past;
+      letter = sumsSince (is 10) file past;
+      bundle = sumsSince (is 20) file past;
+      micr = cents (sumSince (is 20) (λ r. micrOf file (r .type) (r .offset)) past);
+      addenda = countSince isItemEntry isAddendum past;
+      bofd = countSince isItemEntry isBofdAddendum past;
+      endorser = countSince isItemEntry isEndorserAddendum past;
+      shown = countSince isItemEntry (λ t. eqb t 50) past;
+      stated = atNewest isItemEntry (λ r. statedBy file (r .type) (r .offset)) past;
+      item = atNewest isItemEntry (λ r. r .offset) past;
+      header = atNewest (is 20) (λ r. r .offset) past;
+      indicator = atNewest (is 10) (λ r. indicatorIn file (r .offset)) past;
+      signature = atNewest (is 50) (λ r. signatureIn file (r .offset)) past;
+    }
+
+-- figures that leave room for those of one record more
+pub record Roomy (s : Standing) : Type 0 where
+  pub records : s .records .0 < 0x4000_0000_0000_0000
+  pub letters : s .letters < 0x4000_0000_0000_0000
+  pub bundles : s .bundles < 0x4000_0000_0000_0000
+  pub opened : s .opened < 0x4000_0000_0000_0000
+  pub whole : Small (s .whole)
+  pub letter : Small (s .letter)
+  pub bundle : Small (s .bundle)
+  pub micr : s .micr .0 < 0x4000_0000_0000_0000
+  pub addenda : s .addenda < 0x4000_0000_0000_0000
+  pub bofd : s .bofd < 0x4000_0000_0000_0000
+  pub endorser : s .endorser < 0x4000_0000_0000_0000
+  pub shown : s .shown < 0x4000_0000_0000_0000

@@ -1,0 +1,274 @@
+// What stands before a record: the figures of all the records read so far, and how one record more moves them on.
+use measure::Cents;
+use measure::Items;
+use measure::Records;
+use measure::Sums;
+use measure::Views;
+ghost use mathlib.Core.Path.{_≡_};
+ghost use mathlib.Core.Bool.{_&&_};
+ghost use mathlib.Core.List.{List, [], _∷_};
+ghost use Prim.Native.Nat.{ℕ, _+_, _-_, _<_, _≤_};
+ghost use lib.Dec.{eqb};
+ghost use lib.ListN.{getD};
+ghost use Rattle.text.specs.Number.{number};
+ghost use Rattle.measure.specs.Measures.{Small};
+ghost use Rattle.order.specs.Order.{pickNumber, isItem};
+ghost use Rattle.standing.specs.History.{Entry, entry, characters, amountOf, micrOf, statedBy, indicatorIn, signatureIn, adds, one, isBofdAddendum, isEndorserAddendum};
+ghost use Rattle.standing.specs.Standing.{standing, Roomy};
+
+pub struct Standing {
+    // The type of the last record, 0 at the start, and of the items in the open bundle, 0 where there is none yet.
+    pub last: u64,
+    pub present: u64,
+    pub records: Records,
+    pub letters: u64,
+    // Bundles in the file, and those opened in the open cash letter.
+    pub bundles: u64,
+    pub opened: u64,
+    pub whole: Sums,
+    pub letter: Sums,
+    pub bundle: Sums,
+    pub micr: Cents,
+    // Of the item: its addenda read so far, those of the bank of first deposit (26, 32) and of endorsers (28, 35) among them, its views
+    // shown so far, and the addenda that it states.
+    pub addenda: u64,
+    pub bofd: u64,
+    pub endorser: u64,
+    pub shown: u64,
+    pub stated: u64,
+    // Offsets of the item and of the bundle header.
+    pub item: usize,
+    pub header: usize,
+    // Field 8 of the cash letter header, and field 10 of the last image view detail.
+    pub indicator: u8,
+    pub signature: u64,
+}
+
+impl Standing {
+    pub fn start() -> Self
+        ensures { λ r. ⌜ ((file : List ℕ) → r ≡ standing file []) ⌝ }
+    {
+        Standing {
+            last: 0,
+            present: 0,
+            records: Records(0),
+            letters: 0,
+            bundles: 0,
+            opened: 0,
+            whole: Sums {
+                items: Items(0),
+                debit: Cents(0),
+                views: Views(0),
+            },
+            letter: Sums {
+                items: Items(0),
+                debit: Cents(0),
+                views: Views(0),
+            },
+            bundle: Sums {
+                items: Items(0),
+                debit: Cents(0),
+                views: Views(0),
+            },
+            micr: Cents(0),
+            addenda: 0,
+            bofd: 0,
+            endorser: 0,
+            shown: 0,
+            stated: 0,
+            item: 0,
+            header: 0,
+            indicator: 0,
+            signature: 0,
+        }
+    }
+}
+
+fn place_before(first: usize) -> usize
+    ensures { λ r. ⌜ r ≡ first - 1 ⌝ }
+{
+    if first == 0 {
+        return 0;
+    }
+    first - 1
+}
+
+// The characters of a record from a position on, counted from 1; its length field stands at an offset of the file.
+pub fn characters_at(file: &[u8], offset: usize, first: usize, size: usize) -> &[u8]
+    ensures { λ r. ⌜ now r ≡ characters (now (file .entry)) offset first size ⌝ }
+{
+    if file.len() < 4 {
+        return &file[0..0];
+    }
+    if file.len() - 4 < offset {
+        return &file[0..0];
+    }
+    let body = offset + 4;
+    let place = place_before(first);
+    if file.len() - body < place {
+        return &file[0..0];
+    }
+    let start = body + place;
+    frame::part_of(file, start, size)
+}
+
+// The number there.
+pub fn number_at(file: &[u8], offset: usize, first: usize, size: usize) -> u64
+    ensures { λ r. ⌜ r ≡ number (characters (now (file .entry)) offset first size) ⌝ }
+{
+    text::number_in(characters_at(file, offset, first, size))
+}
+
+// An item's amount (field 6, positions 48 to 57), 0 of any other record.
+pub fn amount_at(file: &[u8], kind: u64, offset: usize) -> u64
+    ensures { λ r. ⌜ (r ≡ amountOf (now (file .entry)) kind offset) × (r < 10_000_000_000) ⌝ }
+{
+    match kind {
+        25 => number_at(file, offset, 48, 10),
+        31 => number_at(file, offset, 48, 10),
+        _ => 0,
+    }
+}
+
+// An item's amount where its MICR Valid Indicator (25, field 10, position 75) is 1.
+fn micr_at(file: &[u8], kind: u64, offset: usize, amount: u64) -> u64
+    requires { ⌜ amount ≡ amountOf (now file) kind offset ⌝ }
+    ensures { λ r. ⌜ (r ≡ micrOf (now (file .entry)) kind offset) × (r ≤ amount) ⌝ }
+{
+    if kind == 25 {
+        if number_at(file, offset, 75, 1) == 1 {
+            return amount;
+        }
+    }
+    0
+}
+
+// The addenda that an item states: 25, field 12, positions 77 and 78; 31, field 8, positions 73 and 74.
+fn stated_at(file: &[u8], kind: u64, offset: usize) -> u64
+    ensures { λ r. ⌜ r ≡ statedBy (now (file .entry)) kind offset ⌝ }
+{
+    match kind {
+        25 => number_at(file, offset, 77, 2),
+        31 => number_at(file, offset, 73, 2),
+        _ => 0,
+    }
+}
+
+fn first_of(s: &[u8]) -> u8
+    ensures { λ r. ⌜ r ≡ getD (now (s .entry)) 0 0 ⌝ }
+{
+    if 0 < s.len() {
+        return s[0];
+    }
+    0
+}
+
+// 10, field 8, position 43.
+fn indicator_at(file: &[u8], offset: usize) -> u8
+    ensures { λ r. ⌜ r ≡ indicatorIn (now (file .entry)) offset ⌝ }
+{
+    text::capital_of(first_of(characters_at(file, offset, 43, 1)))
+}
+
+pub fn one_if(test: bool) -> u64
+    ensures { λ r. ⌜ (r ≡ one test) × (r ≤ 1) ⌝ }
+{
+    if test { 1 } else { 0 }
+}
+
+// A sum with what one record adds, or none where the record begins the level anew.
+fn since(begins: bool, more: u64, sum: u64) -> u64
+    requires { ⌜ (more < 0x4000_0000_0000_0000) × (sum < 0x4000_0000_0000_0000) ⌝ }
+    ensures { λ r. ⌜ r ≡ pickNumber begins 0 (more + sum) ⌝ }
+{
+    if begins {
+        return 0;
+    }
+    more + sum
+}
+
+// The newest record's figure where it is one of a sort, else the older figure.
+fn newest(found: bool, figure: u64, older: u64) -> u64
+    ensures { λ r. ⌜ r ≡ pickNumber found figure older ⌝ }
+{
+    if found { figure } else { older }
+}
+
+// What one record adds to the sums of each level.
+fn added_at(file: &[u8], kind: u64, offset: usize) -> Sums
+    ensures { λ r. ⌜ (r ≡ adds (now (file .entry)) kind offset) × Small r ⌝ }
+{
+    let items = one_if(order::is_item(kind));
+    let cents = amount_at(file, kind, offset);
+    let views = one_if(kind == 50);
+    Sums {
+        items: Items(items),
+        debit: Cents(cents),
+        views: Views(views),
+    }
+}
+
+// Field 8 of the newest cash letter header, and field 10 of the newest image view detail (position 29).
+fn indicator_after(file: &[u8], kind: u64, offset: usize, older: u8) -> u8
+    ensures { λ r. ⌜ r ≡ pickNumber (eqb kind 10) (indicatorIn (now (file .entry)) offset) older ⌝ }
+{
+    if kind == 10 {
+        return indicator_at(file, offset);
+    }
+    older
+}
+
+fn signature_after(file: &[u8], kind: u64, offset: usize, older: u64) -> u64
+    ensures { λ r. ⌜ r ≡ pickNumber (eqb kind 50) (signatureIn (now (file .entry)) offset) older ⌝ }
+{
+    if kind == 50 {
+        return number_at(file, offset, 29, 1);
+    }
+    older
+}
+
+fn present_after(kind: u64, older: u64) -> u64
+    ensures { λ r. ⌜ r ≡ pickNumber (eqb kind 20) 0 (pickNumber (isItem kind) kind older) ⌝ }
+{
+    if kind == 20 {
+        return 0;
+    }
+    newest(order::is_item(kind), kind, older)
+}
+
+// The figures with one record more, whose length field stands at an offset.
+pub fn moved(file: &[u8], s: Standing, kind: u64, offset: usize) -> Standing
+    requires { ⌜ Roomy s ⌝ }
+    ensures { λ r. ⌜ ((past : List Entry) (n : ℕ) → s ≡ standing (now (file .entry)) past → r ≡ standing (now (file .entry)) (entry kind offset n ∷ past)) ⌝ }
+{
+    let item = order::is_item(kind);
+    let letter = kind == 10;
+    let bundle = kind == 20;
+    let added = added_at(file, kind, offset);
+    let cents = added.debit.0;
+    let micr = micr_at(file, kind, offset, cents);
+    let whole = s.whole.since(false, added);
+    let of_letter = s.letter.since(letter, added);
+    let of_bundle = s.bundle.since(bundle, added);
+    Standing {
+        last: kind,
+        present: present_after(kind, s.present),
+        records: Records(s.records.0 + 1),
+        letters: since(false, one_if(letter), s.letters),
+        bundles: since(false, one_if(bundle), s.bundles),
+        opened: since(letter, one_if(bundle), s.opened),
+        whole,
+        letter: of_letter,
+        bundle: of_bundle,
+        micr: Cents(since(bundle, micr, s.micr.0)),
+        addenda: since(item, one_if(order::is_addendum(kind)), s.addenda),
+        bofd: since(item, one_if((kind == 26) | (kind == 32)), s.bofd),
+        endorser: since(item, one_if((kind == 28) | (kind == 35)), s.endorser),
+        shown: since(item, one_if(kind == 50), s.shown),
+        stated: newest(item, stated_at(file, kind, offset), s.stated),
+        item: newest(item, offset as u64, s.item as u64) as usize,
+        header: newest(bundle, offset as u64, s.header as u64) as usize,
+        indicator: indicator_after(file, kind, offset, s.indicator),
+        signature: signature_after(file, kind, offset, s.signature),
+    }
+}
