@@ -1,0 +1,75 @@
+use mathlib.Core.Path.{_≡_, refl, sym, _∙_, ap}
+use denote.Ref.{now}
+use Prim.Native.Nat.{ℕ, _+_, _-_, _≤_, _<_}
+use native.Mathlib.Omega.{arith}
+use lib.Dec.{eqb}
+use lib.ListN.{length, drop}
+use borrow.Author.Tests.{eq-eqb, ne-eqb, not-true, not-false, lt-leb, le-leb}
+use Rattle.standing.specs.History.{characters}
+use Rattle.agree.specs.Links.{same, addendaKept, annexB, numberedOn}
+use Rattle.agree.proofs.Laws.{same-lengths, same-differs, same-goes-on, same-ends, either-way}
+use borrow.Author.Needs.{needs}
+use Rattle.agree.proofs.numbered_on.Statement.{statement}
+use Rattle.agree.proofs.numbered_on.Tie as tie
+
+number-at-requires : tie.Need-number-at-requires
+number-at-requires c κs = search needs
+
+add-result : tie.Need-add-result
+add-result c = search needs
+
+number-at-requires-2 : tie.Need-number-at-requires-2
+number-at-requires-2 c κs = search needs
+
+add-result-2 : tie.Need-add-result-2
+add-result-2 c = search needs
+
+number-at-requires-3 : tie.Need-number-at-requires-3
+number-at-requires-3 c κs = search needs
+
+add-result-3 : tie.Need-add-result-3
+add-result-3 c = search needs
+
+number-at-requires-4 : tie.Need-number-at-requires-4
+number-at-requires-4 c κs = search needs
+
+add-result-4 : tie.Need-add-result-4
+add-result-4 c = search needs
+
+returns : tie.Need-returns
+unfolding numberedOn
+returns c = rw (c .before .match .keys1, c .number-at .ensures)
+
+returns-2 : tie.Need-returns-2
+unfolding numberedOn
+returns-2 c = rw (c .before .match .keys2, c .number-at2 .ensures)
+
+returns-3 : tie.Need-returns-3
+unfolding numberedOn
+returns-3 c = rw (c .before .match .keys3, c .number-at3 .ensures)
+
+returns-4 : tie.Need-returns-4
+unfolding numberedOn
+returns-4 c = rw (c .before .match .keys4, c .number-at4 .ensures)
+
+returns-5 : tie.Need-returns-5
+unfolding numberedOn
+returns-5 c = simp (ne-eqb _ _ (c .match .rest .1), ne-eqb _ _ (c .match .rest .0 .1), ne-eqb _ _ (c .match .rest .0 .0 .1), ne-eqb _ _ (c .match .rest .0 .0 .0 .1))
+
+pub numbered-on-spec : {M : Type 1} → statement M
+numbered-on-spec =
+    tie.close
+    (tie.spec
+    number-at-requires
+    add-result
+    number-at-requires-2
+    add-result-2
+    number-at-requires-3
+    add-result-3
+    number-at-requires-4
+    add-result-4
+    returns
+    returns-2
+    returns-3
+    returns-4
+    returns-5)

@@ -1,0 +1,72 @@
+-- LINK (document 01): "a field or record disagrees with an earlier one". The checks of a record of type k whose length field stands at an
+-- offset of the file, against the figures s of the records before it, in the order of their fields.
+use Prim.Native.Nat.{ℕ, _+_}
+use mathlib.Core.Bool.{Bool, true, false, _&&_, _||_, not}
+use mathlib.Core.List.{List, [], _∷_}
+use lib.Dec.{leb, ltb, eqb}
+use Rattle.text.specs.Characters.{isBlank}
+use Rattle.text.specs.DataTypes.{every}
+use Rattle.text.specs.Number.{number}
+use Rattle.kind.specs.Kinds.{bundleHeader, checkDetail, checkDetailAddendumA, checkDetailAddendumC, returnRecord, returnAddendumA, returnAddendumD, imageViewData}
+use Rattle.order.specs.Order.{isItem, isAddendum, pickBool}
+use Rattle.standing.specs.History.{field, pickLine}
+use Rattle.standing.specs.declared.Standing.{Standing}
+use Rattle.agree.specs.Checks.{Check, check, when}
+
+-- byte by byte
+abbrev pub same : List ℕ → List ℕ → Bool
+same [] [] = true
+same [] (y ∷ ys) = false
+same (x ∷ xs) [] = false
+same (x ∷ xs) (y ∷ ys) = eqb x y && same xs ys
+
+-- "An addendum beyond the item's stated count, or another record while addenda are owed (field 1)"
+unfoldable pub addendaKept : ℕ → ℕ → ℕ → Bool
+addendaKept k stated read = pickBool (isAddendum k) (ltb read stated) (leb stated read)
+
+-- "Cash letter field 8 (Annex B)", faulted at field 1: N with a 20; E with a 50; I or F and an item of the bundle without a view, at
+-- the next item or the 70; E, I or F without a bundle, at the 90
+unfoldable pub annexB : ℕ → ℕ → ℕ → ℕ → ℕ → Bool
+annexB k indicator opened items shown =
+    not (eqb k 20 && eqb indicator 0x4E)
+    && (not (eqb k 50 && eqb indicator 0x45)
+    && (not ((isItem k || eqb k 70) && ((eqb indicator 0x49 || eqb indicator 0x46) && (leb 1 items && eqb shown 0)))
+    && not (eqb k 90 && (not (eqb indicator 0x4E) && eqb opened 0))))
+
+-- "26 and 32: record numbers run from 1 in each item; 28 and 35 likewise, each on its own (field 2)"
+unfoldable pub numberedOn : List ℕ → ℕ → ℕ → ℕ → ℕ → Bool
+numberedOn file bofd endorser k offset =
+    pickBool (eqb k 26) (eqb (number (field checkDetailAddendumA 2 file offset)) (bofd + 1))
+    (pickBool (eqb k 32) (eqb (number (field returnAddendumA 2 file offset)) (bofd + 1))
+    (pickBool (eqb k 28) (eqb (number (field checkDetailAddendumC 2 file offset)) (endorser + 1))
+    (pickBool (eqb k 35) (eqb (number (field returnAddendumD 2 file offset)) (endorser + 1)) true)))
+
+-- field 7 of the item, a 25 or a 31
+abbrev pub sequenceOfItem : List ℕ → ℕ → ℕ → List ℕ
+sequenceOfItem file present item = pickLine (eqb present 31) (field returnRecord 7 file item) (field checkDetail 7 file item)
+
+-- "Fields 7 and 8 are not blank if the 50's field 10 is 1"
+abbrev pub signed : ℕ → List ℕ → Bool
+signed signature characters = not (eqb signature 1) || not (every isBlank characters)
+
+-- "52: field 2 equals the bundle header's field 4, field 3 its field 5, field 4 its field 9; field 5 equals field 7 of the item."
+abbrev pub viewLinks : List ℕ → ℕ → ℕ → ℕ → ℕ → ℕ → List Check
+viewLinks file header item present signature offset =
+    check 2 (same (field imageViewData 2 file offset) (field bundleHeader 4 file header)) ∷
+    check 3 (same (field imageViewData 3 file offset) (field bundleHeader 5 file header)) ∷
+    check 4 (same (field imageViewData 4 file offset) (field bundleHeader 9 file header)) ∷
+    check 5 (same (field imageViewData 5 file offset) (sequenceOfItem file present item)) ∷
+    check 7 (signed signature (field imageViewData 7 file offset)) ∷
+    check 8 (signed signature (field imageViewData 8 file offset)) ∷
+    []
+
+abbrev pub pickChecks : Bool → List Check → List Check → List Check
+pickChecks true a b = a
+pickChecks false a b = b
+
+abbrev pub linkChecks : List ℕ → Standing → ℕ → ℕ → List Check
+linkChecks file s k offset =
+    check 1 (addendaKept k (s .stated) (s .addenda)) ∷
+    check 1 (annexB k (s .indicator) (s .opened) (s .bundle .items .0) (s .shown)) ∷
+    check 2 (numberedOn file (s .bofd) (s .endorser) k offset) ∷
+    pickChecks (eqb k 52) (viewLinks file (s .header) (s .item) (s .present) (s .signature) offset) []
