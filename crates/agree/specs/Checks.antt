@@ -1,6 +1,6 @@
 -- A list of checks, each with the field that it faults, and the first that fails.
 use Prim.Native.Nat.{ℕ}
-use mathlib.Core.Bool.{Bool, true, false, _||_, not}
+use mathlib.Core.Bool.{Bool, true, false}
 use mathlib.Core.List.{List, [], _∷_}
 use Rattle.order.specs.Order.{pickNumber}
 
@@ -15,7 +15,3 @@ check n test = record { field = n; holds = test }
 abbrev pub firstFailing : List Check → ℕ
 firstFailing [] = 0
 firstFailing (c ∷ cs) = pickNumber (c .holds) (firstFailing cs) (c .field)
-
--- a condition that is asked only in a case
-abbrev pub when : Bool → Bool → Bool
-when asked test = not asked || test

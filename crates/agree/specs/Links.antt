@@ -11,7 +11,7 @@ use Rattle.kind.specs.Kinds.{bundleHeader, checkDetail, checkDetailAddendumA, c
 use Rattle.order.specs.Order.{isItem, isAddendum, pickBool}
 use Rattle.standing.specs.History.{field, pickLine}
 use Rattle.standing.specs.declared.Standing.{Standing}
-use Rattle.agree.specs.Checks.{Check, check, when}
+use Rattle.agree.specs.Checks.{Check, check, firstFailing}
 
 -- byte by byte
 abbrev pub same : List ℕ → List ℕ → Bool
@@ -70,3 +70,7 @@ linkChecks file s k offset =
     check 1 (annexB k (s .indicator) (s .opened) (s .bundle .items .0) (s .shown)) ∷
     check 2 (numberedOn file (s .bofd) (s .endorser) k offset) ∷
     pickChecks (eqb k 52) (viewLinks file (s .header) (s .item) (s .present) (s .signature) offset) []
+
+-- "LINK by lowest field", or 0
+unfoldable pub linkFault : List ℕ → Standing → ℕ → ℕ → ℕ
+linkFault file s k offset = firstFailing (linkChecks file s k offset)

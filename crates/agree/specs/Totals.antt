@@ -12,7 +12,7 @@ use Rattle.kind.specs.Kinds.{bundleControl, cashLetterControl, fileControl}
 use Rattle.measure.specs.declared.Sums.{Sums}
 use Rattle.standing.specs.History.{field}
 use Rattle.standing.specs.declared.Standing.{Standing}
-use Rattle.agree.specs.Checks.{Check, check}
+use Rattle.agree.specs.Checks.{Check, check, firstFailing}
 use Rattle.agree.specs.Links.{pickChecks}
 
 -- field n of a control record states a number
@@ -56,3 +56,7 @@ totalChecks file s k offset =
     pickChecks (eqb k 70) (bundleTotals file (s .bundle) (s .micr .0) offset)
     (pickChecks (eqb k 90) (letterTotals file (s .opened) (s .letter) offset)
     (pickChecks (eqb k 99) (fileTotals file (s .letters) (s .records .0) (s .whole) offset) []))
+
+-- "TOTAL by lowest field", or 0
+unfoldable pub totalFault : List ℕ → Standing → ℕ → ℕ → ℕ
+totalFault file s k offset = firstFailing (totalChecks file s k offset)

@@ -15,8 +15,8 @@ ghost use Rattle.text.specs.DataTypes.{every};
 ghost use Rattle.text.specs.Number.{number};
 ghost use Rattle.standing.specs.History.{characters};
 ghost use Rattle.agree.specs.Checks.{firstFailing};
-ghost use Rattle.agree.specs.Links.{same, addendaKept, annexB, numberedOn, signed, viewLinks, linkChecks};
-ghost use Rattle.agree.specs.Totals.{bundleTotals, letterTotals, fileTotals, totalChecks};
+ghost use Rattle.agree.specs.Links.{same, addendaKept, annexB, numberedOn, signed, viewLinks, linkFault};
+ghost use Rattle.agree.specs.Totals.{bundleTotals, letterTotals, fileTotals, totalFault};
 
 pub fn same_bytes<'a>(a: &'a [u8], b: &'a [u8]) -> bool
     ensures { λ r. ⌜ r ≡ same (now (a .entry)) (now (b .entry)) ⌝ }
@@ -131,7 +131,7 @@ fn view_fault(
 // The lowest field of a record that disagrees with an earlier one, or 0.
 pub fn link_fault(file: &[u8], s: Standing, kind: u64, offset: usize) -> usize
     requires { ⌜ (s .bofd < 0x4000_0000_0000_0000) × (s .endorser < 0x4000_0000_0000_0000) ⌝ }
-    ensures { λ r. ⌜ r ≡ firstFailing (linkChecks (now (file .entry)) s kind offset) ⌝ }
+    ensures { λ r. ⌜ r ≡ linkFault (now (file .entry)) s kind offset ⌝ }
 {
     if !addenda_kept(kind, s.stated, s.addenda) {
         return 1;
@@ -242,7 +242,7 @@ fn file_fault(file: &[u8], letters: u64, before: Records, s: Sums, offset: usize
 // The lowest field of a control record that is not what its part adds up to, or 0.
 pub fn total_fault(file: &[u8], s: Standing, kind: u64, offset: usize) -> usize
     requires { ⌜ s .records .0 < 0x4000_0000_0000_0000 ⌝ }
-    ensures { λ r. ⌜ r ≡ firstFailing (totalChecks (now (file .entry)) s kind offset) ⌝ }
+    ensures { λ r. ⌜ r ≡ totalFault (now (file .entry)) s kind offset ⌝ }
 {
     match kind {
         70 => {

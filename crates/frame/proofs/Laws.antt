@@ -54,3 +54,10 @@ unfolding frameAt
 whole-within file offset start size e =
     let tests = both-tests (leb (offset + 4) (length file)) (leb (offset + 4 + lengthAt file offset) (length file)) e in
     omega (arith, leb-true (offset + 4 + lengthAt file offset) (length file) (tests .0), tests .1, tests .2)
+
+-- and its body starts behind the length
+pub whole-start : (file : List ℕ) (offset start size : ℕ) → frameAt file offset ≡ Whole start size → start ≡ offset + 4
+unfolding frameAt
+whole-start file offset start size e =
+    let tests = both-tests (leb (offset + 4) (length file)) (leb (offset + 4 + lengthAt file offset) (length file)) e in
+    sym (tests .1)

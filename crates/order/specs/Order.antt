@@ -79,3 +79,10 @@ oneKind inBundle next = not (isItem next) || (eqb inBundle 0 || eqb inBundle nex
 -- a type may come next after a last type, with items of a kind in the open bundle
 unfoldable pub mayFollow : ℕ → ℕ → ℕ → Bool
 mayFollow last inBundle next = follows last next && oneKind inBundle next
+
+-- "Carried record types"
+abbrev pub carried : List ℕ
+carried = 1 ∷ 10 ∷ 20 ∷ 25 ∷ 26 ∷ 27 ∷ 28 ∷ 31 ∷ 32 ∷ 33 ∷ 34 ∷ 35 ∷ 50 ∷ 52 ∷ 54 ∷ 70 ∷ 90 ∷ 99 ∷ []
+
+unfoldable pub isCarried : ℕ → Bool
+isCarried t = isOneOf t carried

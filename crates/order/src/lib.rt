@@ -1,6 +1,6 @@
 // Which record may follow.
 ghost use mathlib.Core.Path.{_≡_};
-ghost use Rattle.order.specs.Order.{follows, isItem, isAddendum, mayFollow};
+ghost use Rattle.order.specs.Order.{isCarried, follows, isItem, isAddendum, mayFollow};
 
 pub fn is_item(kind: u64) -> bool
     ensures { λ r. ⌜ r ≡ isItem kind ⌝ }
@@ -12,6 +12,31 @@ pub fn is_addendum(kind: u64) -> bool
     ensures { λ r. ⌜ r ≡ isAddendum kind ⌝ }
 {
     ((26 <= kind) & (kind <= 28)) | ((32 <= kind) & (kind <= 35))
+}
+
+// The record types that are carried.
+pub fn is_carried(kind: u64) -> bool
+    ensures { λ r. ⌜ r ≡ isCarried kind ⌝ }
+{
+    (kind == 1)
+        | ((kind == 10)
+            | ((kind == 20)
+                | ((kind == 25)
+                    | ((kind == 26)
+                        | ((kind == 27)
+                            | ((kind == 28)
+                                | ((kind == 31)
+                                    | ((kind == 32)
+                                        | ((kind == 33)
+                                            | ((kind == 34)
+                                                | ((kind == 35)
+                                                    | ((kind == 50)
+                                                        | ((kind == 52)
+                                                            | ((kind == 54)
+                                                                | ((kind == 70)
+                                                                    | ((kind == 90)
+                                                                        | ((kind
+                                                                            == 99))))))))))))))))))
 }
 
 // The table of document 01; 0 is the start.

@@ -8,7 +8,7 @@ use Rattle.order.specs.Order.{isItem, isAddendum, lastOf, kindInBundle}
 use Rattle.standing.specs.History.{Entry, micrOf, statedBy, indicatorIn, signatureIn, sumSince, sumsSince, atNewest, never, is, isItemEntry, countSince, isBofdAddendum, isEndorserAddendum}
 use Rattle.standing.specs.declared.Standing.{Standing}
 
-abbrev pub standing : List ℕ → List Entry → Standing
+unfoldable pub standing : List ℕ → List Entry → Standing
 standing file past =
     record {
       last = lastOf (map (λ (r : Entry). r .type) past);

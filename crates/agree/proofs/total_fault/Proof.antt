@@ -1,3 +1,4 @@
+use Rattle.agree.specs.Totals.{totalFault}
 use mathlib.Core.Path.{_≡_, refl, sym, _∙_, ap}
 use denote.Ref.{now}
 use Prim.Native.Nat.{ℕ, _+_, _-_, _≤_, _<_}
@@ -22,15 +23,19 @@ file-fault-requires : tie.Need-file-fault-requires
 file-fault-requires c κs = search needs
 
 returns : tie.Need-returns
+unfolding totalFault
 returns c = rw (c .before .before .before .match .keys1, c .bundle-fault .ensures)
 
 returns-2 : tie.Need-returns-2
+unfolding totalFault
 returns-2 c = rw (c .before .before .match .keys2, c .letter-fault .ensures)
 
 returns-3 : tie.Need-returns-3
+unfolding totalFault
 returns-3 c = rw (c .before .before .before .match .keys3, c .file-fault .ensures)
 
 returns-4 : tie.Need-returns-4
+unfolding totalFault
 returns-4 c = simp (ne-eqb _ _ (c .match .rest .1), ne-eqb _ _ (c .match .rest .0 .1), ne-eqb _ _ (c .match .rest .0 .0 .1))
 
 pub total-fault-spec : {M : Type 1} → statement M

@@ -1,3 +1,4 @@
+use Rattle.standing.specs.Standing.{standing}
 use Rattle.standing.specs.History.{one, indicatorIn, signatureIn}
 use mathlib.Core.Bool.{false}
 use Rattle.measure.specs.Measures.{records, cents}
@@ -112,6 +113,7 @@ signature-after-requires : tie.Need-signature-after-requires
 signature-after-requires c κs = search needs
 
 returns : tie.Need-returns
+unfolding standing
 returns c = λ past n e. assembled refl (c .before .before .before .before .before .before .before .before .before .before .before .before .before .before .before .before .before .before .before .before .before .before .before .present-after .ensures ∙ ap (λ (o : ℕ). pickNumber (eqb (c .before .before .before .before .before .before .before .before .before .before .before .before .before .before .before .before .before .before .before .before .before .before .before .before .before .before .before .before .before .before .before .args .kind) 20) 0 (pickNumber (isItem (c .before .before .before .before .before .before .before .before .before .before .before .before .before .before .before .before .before .before .before .before .before .before .before .before .before .before .before .before .before .before .before .args .kind)) (c .before .before .before .before .before .before .before .before .before .before .before .before .before .before .before .before .before .before .before .before .before .before .before .before .before .before .before .before .before .before .before .args .kind) o)) (ap (λ (t : Standing). t .present) e)) (ap (λ (t : Standing). records (t .records .0 + 1)) e ∙ ap records (add-one (length past))) (since-moves (c .before .before .before .before .before .before .before .before .before .before .before .before .before .before .before .before .before .before .before .before .since4 .ensures) (refl {a = false}) (c .before .before .before .before .before .before .before .before .before .before .before .before .before .before .before .before .before .before .before .before .before .one-if .ensures .0) (ap (λ (t : Standing). t .letters) e)) (since-moves (c .before .before .before .before .before .before .before .before .before .before .before .before .before .before .before .before .before .before .since5 .ensures) (refl {a = false}) (c .before .before .before .before .before .before .before .before .before .before .before .before .before .before .before .before .before .before .before .one-if2 .ensures .0) (ap (λ (t : Standing). t .bundles) e)) (since-moves (c .before .before .before .before .before .before .before .before .before .before .before .before .before .before .before .before .since6 .ensures) (refl {a = eqb (c .before .before .before .before .before .before .before .before .before .before .before .before .before .before .before .before .before .before .before .before .before .before .before .before .before .before .before .before .before .before .before .args .kind) 10}) (c .before .before .before .before .before .before .before .before .before .before .before .before .before .before .before .before .before .one-if3 .ensures .0) (ap (λ (t : Standing). t .opened) e)) (sums-move false (c .before .before .before .before .before .before .before .before .before .before .before .before .before .before .before .before .before .before .before .before .before .before .before .before .before .before .since .ensures) (c .before .before .before .before .before .before .before .before .before .before .before .before .before .before .before .before .before .before .before .before .before .before .before .before .before .before .before .before .added-at .ensures .0) (ap (λ (t : Standing). t .whole) e)) (sums-move (eqb (c .before .before .before .before .before .before .before .before .before .before .before .before .before .before .before .before .before .before .before .before .before .before .before .before .before .before .before .before .before .before .before .args .kind) 10) (c .before .before .before .before .before .before .before .before .before .before .before .before .before .before .before .before .before .before .before .before .before .before .before .before .before .since2 .ensures) (c .before .before .before .before .before .before .before .before .before .before .before .before .before .before .before .before .before .before .before .before .before .before .before .before .before .before .before .before .added-at .ensures .0) (ap (λ (t : Standing). t .letter) e)) (sums-move (eqb (c .before .before .before .before .before .before .before .before .before .before .before .before .before .before .before .before .before .before .before .before .before .before .before .before .before .before .before .before .before .before .before .args .kind) 20) (c .before .before .before .before .before .before .before .before .before .before .before .before .before .before .before .before .before .before .before .before .before .before .before .before .since3 .ensures) (c .before .before .before .before .before .before .before .before .before .before .before .before .before .before .before .before .before .before .before .before .before .before .before .before .before .before .before .before .added-at .ensures .0) (ap (λ (t : Standing). t .bundle) e)) (ap cents (since-moves (c .before .before .before .before .before .before .before .before .before .before .before .before .before .before .before .since7 .ensures) (refl {a = eqb (c .before .before .before .before .before .before .before .before .before .before .before .before .before .before .before .before .before .before .before .before .before .before .before .before .before .before .before .before .before .before .before .args .kind) 20}) (c .before .before .before .before .before .before .before .before .before .before .before .before .before .before .before .before .before .before .before .before .before .before .before .before .before .before .before .micr-at .ensures .0) (ap (λ (t : Standing). t .micr .0) e))) (since-moves (c .before .before .before .before .before .before .before .before .before .before .before .before .since8 .ensures) (c .before .before .before .before .before .before .before .before .before .before .before .before .before .before .before .before .before .before .before .before .before .before .before .before .before .before .before .before .before .is-item .ensures) (c .before .before .before .before .before .before .before .before .before .before .before .before .before .one-if4 .ensures .0 ∙ ap one (c .before .before .before .before .before .before .before .before .before .before .before .before .before .before .is-addendum .ensures)) (ap (λ (t : Standing). t .addenda) e)) (since-moves (c .before .before .before .before .before .before .before .before .before .before .since9 .ensures) (c .before .before .before .before .before .before .before .before .before .before .before .before .before .before .before .before .before .before .before .before .before .before .before .before .before .before .before .before .before .is-item .ensures) (c .before .before .before .before .before .before .before .before .before .before .before .one-if5 .ensures .0) (ap (λ (t : Standing). t .bofd) e)) (since-moves (c .before .before .before .before .before .before .before .before .since10 .ensures) (c .before .before .before .before .before .before .before .before .before .before .before .before .before .before .before .before .before .before .before .before .before .before .before .before .before .before .before .before .before .is-item .ensures) (c .before .before .before .before .before .before .before .before .before .one-if6 .ensures .0) (ap (λ (t : Standing). t .endorser) e)) (since-moves (c .before .before .before .before .before .before .since11 .ensures) (c .before .before .before .before .before .before .before .before .before .before .before .before .before .before .before .before .before .before .before .before .before .before .before .before .before .before .before .before .before .is-item .ensures) (c .before .before .before .before .before .before .before .one-if7 .ensures .0) (ap (λ (t : Standing). t .shown) e)) (newest-moves (c .before .before .before .before .newest .ensures) (c .before .before .before .before .before .before .before .before .before .before .before .before .before .before .before .before .before .before .before .before .before .before .before .before .before .before .before .before .before .is-item .ensures) (c .before .before .before .before .before .stated-at .ensures) (ap (λ (t : Standing). t .stated) e)) (newest-moves (c .before .before .before .newest2 .ensures) (c .before .before .before .before .before .before .before .before .before .before .before .before .before .before .before .before .before .before .before .before .before .before .before .before .before .before .before .before .before .is-item .ensures) (refl {a = c .before .before .before .before .before .before .before .before .before .before .before .before .before .before .before .before .before .before .before .before .before .before .before .before .before .before .before .before .before .before .before .args .offset}) (ap (λ (t : Standing). t .item) e)) (newest-moves (c .before .before .newest3 .ensures) (refl {a = eqb (c .before .before .before .before .before .before .before .before .before .before .before .before .before .before .before .before .before .before .before .before .before .before .before .before .before .before .before .before .before .before .before .args .kind) 20}) (refl {a = c .before .before .before .before .before .before .before .before .before .before .before .before .before .before .before .before .before .before .before .before .before .before .before .before .before .before .before .before .before .before .before .args .offset}) (ap (λ (t : Standing). t .header) e)) (newest-moves (c .before .indicator-after .ensures) (refl {a = eqb (c .before .before .before .before .before .before .before .before .before .before .before .before .before .before .before .before .before .before .before .before .before .before .before .before .before .before .before .before .before .before .before .args .kind) 10}) (refl {a = indicatorIn (now (c .before .before .before .before .before .before .before .before .before .before .before .before .before .before .before .before .before .before .before .before .before .before .before .before .before .before .before .before .before .before .before .args .file)) (c .before .before .before .before .before .before .before .before .before .before .before .before .before .before .before .before .before .before .before .before .before .before .before .before .before .before .before .before .before .before .before .args .offset)}) (ap (λ (t : Standing). t .indicator) e)) (newest-moves (c .signature-after .ensures) (refl {a = eqb (c .before .before .before .before .before .before .before .before .before .before .before .before .before .before .before .before .before .before .before .before .before .before .before .before .before .before .before .before .before .before .before .args .kind) 50}) (refl {a = signatureIn (now (c .before .before .before .before .before .before .before .before .before .before .before .before .before .before .before .before .before .before .before .before .before .before .before .before .before .before .before .before .before .before .before .args .file)) (c .before .before .before .before .before .before .before .before .before .before .before .before .before .before .before .before .before .before .before .before .before .before .before .before .before .before .before .before .before .before .before .args .offset)}) (ap (λ (t : Standing). t .signature) e))
 
 pub moved-spec : {M : Type 1} → statement M
