@@ -1,8 +1,11 @@
 /* The proved reader of X9.100-180 image cash letters: its calls for C. Link with libabi.a (rt staticlib abi).
  *
  * Every call takes any bytes and gives a definite answer. The numbers are those of the answers in README.md:
- * 0 ACCEPTED, 1 SIZE, 3 CUT, 4 LENGTH, 5 TYPE, 7 FIELD. A pointer must not be null and must point to as many bytes as the length
- * beside it says; with length 0 it may point anywhere. The calls keep nothing and write only the array that is lent for it. */
+ * 0 ACCEPTED, 1 SIZE, 2 ROOM, 3 CUT, 4 LENGTH, 5 TYPE, 6 PLACE, 7 FIELD, 8 LINK, 9 TOTAL, 10 OPEN, 11 AFTER.
+ *
+ * A pointer must not be null, must be aligned for what it points to, and must point to as many elements as the length beside it says;
+ * with length 0 it may point anywhere. What is lent to be written must not overlap what is lent to be read. The calls keep nothing and
+ * write only the arrays that are lent for it. */
 #ifndef X9180_H
 #define X9180_H
 
@@ -12,6 +15,16 @@
 #ifdef __cplusplus
 extern "C" {
 #endif
+
+/* The reading of a whole file. `table_len` counts numbers, not rows: a row is seven numbers, and the rows available are the whole
+ * sevens. Returns the number and fills `answer` with
+ *   [0] the number   [1] the record, from 1   [2] the field, 0 for the whole record   [3] the offset of the record's length field
+ *   [4] records   [5] cash letters   [6] bundles   [7] items   [8] views   [9] debit cents
+ * Accepted: the record is the record count, the field 0, the offset the file's length; the totals are those of the whole file; and the
+ * table has a row for each record: record type; offset of the record's length field; the length; cash letter ordinal in the file; bundle
+ * ordinal in its cash letter; item ordinal in its bundle; amount in cents. Numbers after the last row are untouched.
+ * Refused: the totals are 0 and the whole table is untouched. ROOM gives the rows needed as the record. */
+uint64_t x9_read(const uint8_t *file, size_t file_len, uint64_t *table, size_t table_len, uint64_t answer[10]);
 
 /* The picture call. In the file, at `offset`, the four-byte length of an Image View Data record (type 52) is to stand. Returns the
  * number and fills `place` with

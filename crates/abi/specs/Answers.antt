@@ -11,5 +11,5 @@ abbrev pub placeOf : Found → List ℕ
 placeOf found = picture.numberOf found ∷ picture.fieldOf found ∷ picture.startOf found ∷ picture.sizeOf found ∷ []
 
 -- x9_record: number, field
-abbrev pub answerOf : Judged → List ℕ
-answerOf judged = alone.numberOf judged ∷ alone.fieldOf judged ∷ []
+abbrev pub judgementOf : Judged → List ℕ
+judgementOf judged = alone.numberOf judged ∷ alone.fieldOf judged ∷ []

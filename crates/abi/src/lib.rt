@@ -1,15 +1,50 @@
 // The calls for C and Rust (include/x9180.h).
-ghost use mathlib.Core.Path.{_≡_};
-ghost use Rattle.abi.specs.Answers.{placeOf, answerOf};
-ghost use Rattle.kind.specs.Alone.{judgedRecord};
-ghost use Rattle.kind.specs.Alone as alone;
-ghost use Rattle.picture.specs.Picture.{pictureAt};
-ghost use Rattle.picture.specs.Picture as picture;
+use reader::Answer;
+ghost use Rattle.abi.specs.Outcomes.{Reading, Picturing, Judging};
+
+// The reading of a whole file: the number, in `table` the rows of an accepted file, and in `answer` number, record, field, offset, and
+// the totals: records, cash letters, bundles, items, views, debit cents.
+#[no_mangle]
+pub extern "C" fn x9_read(file: &[u8], table: &mut [u64], answer: &mut [u64; 10]) -> u64
+    ensures { λ r. ⌜ Reading (now (file .entry)) (now (table .entry)) r (now (table .exit)) (now (answer .exit)) ⌝ }
+{
+    let size = file.len() as u64;
+    match reader::read(file, table) {
+        Answer::Accepted(totals) => {
+            let sums = totals.sums;
+            let records = totals.records.0;
+            let letters = totals.letters;
+            let bundles = totals.bundles;
+            let items = sums.items.0;
+            let views = sums.views.0;
+            let cents = sums.debit.0;
+            *answer = [
+                0,
+                records,
+                0,
+                size,
+                records,
+                letters,
+                bundles,
+                items,
+                views,
+                cents,
+            ];
+            0
+        }
+        Answer::Refused(fault, record, offset) => {
+            let number = fault.number();
+            let field = fault.field() as u64;
+            *answer = [number, record, field, offset as u64, 0, 0, 0, 0, 0, 0];
+            number
+        }
+    }
+}
 
 // The picture call: the number, and in `place` number, field, and start and length of the Image Data part within the file.
 #[no_mangle]
 pub extern "C" fn x9_picture(file: &[u8], offset: u64, place: &mut [u64; 4]) -> u64
-    ensures { λ r. ⌜ (r ≡ picture.numberOf (pictureAt (now (file .entry)) offset)) × (now (place .exit) ≡ placeOf (pictureAt (now (file .entry)) offset)) ⌝ }
+    ensures { λ r. ⌜ Picturing (now (file .entry)) offset r (now (place .exit)) ⌝ }
 {
     let found = picture::find_picture(file, offset as usize);
     let number = found.number();
@@ -23,7 +58,7 @@ pub extern "C" fn x9_picture(file: &[u8], offset: u64, place: &mut [u64; 4]) -> 
 // One record judged alone, from its body: the number, and in `answer` number and field.
 #[no_mangle]
 pub extern "C" fn x9_record(body: &[u8], answer: &mut [u64; 2]) -> u64
-    ensures { λ r. ⌜ (r ≡ alone.numberOf (judgedRecord (now (body .entry)))) × (now (answer .exit) ≡ answerOf (judgedRecord (now (body .entry)))) ⌝ }
+    ensures { λ r. ⌜ Judging (now (body .entry)) r (now (answer .exit)) ⌝ }
 {
     let judged = kind::judge_record(body);
     let number = judged.number();

@@ -1,3 +1,4 @@
 pub mod Checks
 pub mod Links
 pub mod Totals
+pub mod Carried

@@ -130,7 +130,7 @@ on-frame file s at t size (Whole start n) q e =
     record {
       start = start;
       whole = q ∙ ap (Whole start) (p .1);
-      type = ap (λ (m : ℕ). typeOf (part start m file)) (sym (p .1)) ∙ good-type file s at t (part start n file) (p .0)
+      type = ap (λ (m : ℕ). typeOf (part start m file)) (sym (p .1)) ∙ good-type file s at t (part start n file) (p .0);
     }
 
 on-step : (file : List ℕ) (s : Standing) (at t size : ℕ) (b : Bool) → pickStep b (Stop After) (ofFrame file s at (frameAt file at)) ≡ On t size
@@ -155,16 +155,16 @@ pub splice-more : (t : List ℕ) (base : ℕ) (row r : List ℕ) → base + (len
 splice-more t base row r h =
     let h₁ : base + length row ≤ length t = omega arith in
     let l : length (take base t ++ row) ≡ base + length row =
-        length-append (take base t) row ∙ ap (λ (n : ℕ). n + length row) (length-take-le base t (omega arith)) in
+    length-append (take base t) row ∙ ap (λ (n : ℕ). n + length row) (length-take-le base t (omega arith)) in
     let e₂ : sets t base row ≡ (take base t ++ row) ++ drop (base + length row) t = sets-eq row t base h₁ in
     let a : take (base + length row) (sets t base row) ≡ take base t ++ row =
-        ap (take (base + length row)) e₂ ∙ take-at (take base t ++ row) (drop (base + length row) t) (base + length row) l in
+    ap (take (base + length row)) e₂ ∙ take-at (take base t ++ row) (drop (base + length row) t) (base + length row) l in
     let b : drop (base + length row + length r) (sets t base row) ≡ drop (base + length (row ++ r)) t =
-        ap (drop (base + length row + length r)) e₂
-        ∙ ap (λ (n : ℕ). drop (n + length r) ((take base t ++ row) ++ drop (base + length row) t)) (sym l)
-        ∙ drop-append-add (take base t ++ row) (drop (base + length row) t) (length r)
-        ∙ drop-drop (length r) (base + length row) t
-        ∙ ap (λ (n : ℕ). drop n t) (add-assoc base (length row) (length r) ∙ ap (λ (n : ℕ). base + n) (sym (length-append row r))) in
+    ap (drop (base + length row + length r)) e₂
+    ∙ ap (λ (n : ℕ). drop (n + length r) ((take base t ++ row) ++ drop (base + length row) t)) (sym l)
+    ∙ drop-append-add (take base t ++ row) (drop (base + length row) t) (length r)
+    ∙ drop-drop (length r) (base + length row) t
+    ∙ ap (λ (n : ℕ). drop n t) (add-assoc base (length row) (length r) ∙ ap (λ (n : ℕ). base + n) (sym (length-append row r))) in
     rw (a, b)
     (append-assoc (take base t) row (r ++ drop (base + length (row ++ r)) t)
     ∙ ap (λ (x : List ℕ). take base t ++ x) (sym (append-assoc row r (drop (base + length (row ++ r)) t))))

@@ -57,7 +57,7 @@ place-first file s h e =
       limit = h;
       few = omega arith;
       enough = omega arith;
-      stands = e
+      stands = e;
     }
 
 pub place-on : (file : List ℕ) (at : ℕ) (s : Standing) (p : Place file at s) (t size : ℕ) (r : Standing) → at < length file
@@ -70,7 +70,7 @@ place-on file at s p t size r h l m =
       limit = p .limit;
       few = omega (arith, p .few);
       enough = omega (arith, p .enough);
-      stands = m (p .past) size (p .stands)
+      stands = m (p .past) size (p .stands);
     }
 
 -- the first pass: the answer from here is the whole answer, and each record so far has its row
@@ -123,11 +123,11 @@ module _ (file : List ℕ) (at : ℕ) (s : Standing) (v : Survey file at s) wher
       let rows : rowsFrom fuel file at past ≡ row ++ others = rows-on file at past fuel (f .start) size t h (left h) (f .whole) (f .type) in
       let long : length (rowsFrom fuel file at past) ≡ 7 + length others = ap length rows ∙ length-append row others in
       let there : length others ≡ length (rowsFrom (fuel - 1) file (at + 4 + size) (entry t at size ∷ past)) =
-          ap (λ (n : ℕ). length (rowsFrom (fuel - 1) file (n + size) (entry t at size ∷ past))) begins in
+      ap (λ (n : ℕ). length (rowsFrom (fuel - 1) file (n + size) (entry t at size ∷ past))) begins in
       record {
         place = place-on file at s (v .place) t size r h (omega arith) m;
         same = v .same ∙ run-on file at past fuel t size h (left h) (step-here e);
-        count = omega (arith, v .count)
+        count = omega (arith, v .count);
       }
 
 -- a step that goes on stays within the file
@@ -191,7 +191,7 @@ module _ (file table₀ : List ℕ) (at : ℕ) (s : Standing) (base : ℕ) (tabl
         let long : length (rowsFrom (v .place .fuel) file at (v .place .past)) ≡ 7 + length others = ap length rows-here ∙ length-append row others in
         let width = ap length written ∙ length-sets table base row in
         let there : others ≡ rowsFrom (v .place .fuel - 1) file (at + 4 + size) (entry t at size ∷ v .place .past) =
-            ap (λ (n : ℕ). rowsFrom (v .place .fuel - 1) file (n + size) (entry t at size ∷ v .place .past)) begins in
+        ap (λ (n : ℕ). rowsFrom (v .place .fuel - 1) file (n + size) (entry t at size ∷ v .place .past)) begins in
         subst (λ (n : ℕ). Fill file table₀ (n + size) r (base + 7) after) (sym begins)
         (record {
           place = place-on file at s (v .place) t size r h (omega arith) m;
@@ -202,7 +202,7 @@ module _ (file table₀ : List ℕ) (at : ℕ) (s : Standing) (base : ℕ) (tabl
               ∙ ap (splice table base) rows-here
               ∙ sym (splice-more table base row others (omega (arith, v .room)))
               ∙ ap (λ (x : List ℕ). splice x (base + 7) others) (sym written)
-              ∙ ap (splice after (base + 7)) there
+              ∙ ap (splice after (base + 7)) there;
         })
 
 small-pick : (b : Bool) (a : Answer) (t : Totals) → pickAnswer b a (Refused Size 0 0) ≡ Accepted t → b ≡ true

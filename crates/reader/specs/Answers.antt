@@ -43,3 +43,7 @@ numbersOf fileLength (Accepted t) =
     ∷ t .sums .debit .0 ∷ []
 numbersOf fileLength (Refused fault place offset) =
     numberOf fault ∷ place ∷ fieldOf fault ∷ offset ∷ 0 ∷ 0 ∷ 0 ∷ 0 ∷ 0 ∷ 0 ∷ []
+
+abbrev pub answerNumber : Answer → ℕ
+answerNumber (Accepted t) = 0
+answerNumber (Refused fault place offset) = numberOf fault

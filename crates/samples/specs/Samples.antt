@@ -14,6 +14,8 @@ use Rattle.frame.specs.Frames.{lengthIn}
 use Rattle.kind.specs.Layout.{Kind}
 use Rattle.kind.specs.Kinds.{checkDetailAddendumB, imageViewData}
 use Rattle.kind.specs.Alone.{numberOf, alone, judged, lineHolds, firstWrong, firstWrongPart, statedSizes}
+use Rattle.order.specs.Order.{pickNumber, lastOf, kindInBundle, mayFollow}
+use Rattle.order.specs.Order.{follows as follows-last}
 
 -- numeric characters
 abbrev pub digits : List ℕ → List ℕ
@@ -40,6 +42,16 @@ viewData =
 abbrev pub addendumB : List ℕ
 addendumB = digits (2 ∷ 7 ∷ []) ++ blanks 49 ++ digits (0 ∷ 0 ∷ 3 ∷ 4 ∷ []) ++ zeros 13 ++ blanks 5
 
+-- the place of the first type that may not follow those before it, counted from 1, or 0 where the order is lawful; the types before it
+-- stand newest first
+abbrev pub misplacedAfter : List ℕ → ℕ → List ℕ → ℕ
+misplacedAfter past n [] = 0
+misplacedAfter past n (t ∷ ts) =
+    pickNumber (mayFollow (lastOf past) (kindInBundle past) t) (misplacedAfter (t ∷ past) (n + 1) ts) n
+
+abbrev pub misplaced : List ℕ → ℕ
+misplaced types = misplacedAfter [] 1 types
+
 pub record Sample : Type 0 where
   pub name : ℕ
   pub holds : Bool
@@ -61,6 +73,11 @@ samples =
     P 6 (eqb (length (viewData ++ replicate 1_000 0)) 1_139 && endsThere imageViewData (viewData ++ replicate 1_000 0)) ∷
     -- "a 27 with a 34-byte locator only is 107"
     P 7 (eqb (length (addendumB ++ replicate 34 0x41)) 107 && endsThere checkDetailAddendumB (addendumB ++ replicate 34 0x41)) ∷
+    -- "types 01 99: PLACE at 2"; "01 10 20 70: PLACE at 4"; "01 10 20 31 34: PLACE at 5"; "types 01 10 90 99 are a lawful order"
+    P 8 (eqb (misplaced (1 ∷ 99 ∷ [])) 2) ∷
+    P 9 (eqb (misplaced (1 ∷ 10 ∷ 20 ∷ 70 ∷ [])) 4) ∷
+    P 10 (eqb (misplaced (1 ∷ 10 ∷ 20 ∷ 31 ∷ 34 ∷ [])) 5) ∷
+    P 11 (eqb (misplaced (1 ∷ 10 ∷ 90 ∷ 99 ∷ [])) 0) ∷
     []
 
 abbrev pub allHold : List Sample → Bool
@@ -69,5 +86,5 @@ allHold (s ∷ ss) = s .holds && allHold ss
 
 -- every sample of the table is as document 01 says
 pub samples-hold : allHold samples ≡ true
-unfolding ofType number isCode isDate isRoutingNumber isHoursMinutes isHoursMinutesSeconds follows meets holds judged lineHolds firstWrong firstWrongPart statedSizes
+unfolding ofType number isCode isDate isRoutingNumber isHoursMinutes isHoursMinutesSeconds follows meets holds judged lineHolds firstWrong firstWrongPart statedSizes follows-last mayFollow
 samples-hold = refl

@@ -92,7 +92,7 @@ sums-below begins file (r ∷ rs) =
     (record {
       items = omega (arith, older .items, one-small (isItem (r .type)));
       debit = omega (arith, older .debit, amount-small file (r .type) (r .offset));
-      views = omega (arith, older .views, one-small (eqb (r .type) 50))
+      views = omega (arith, older .views, one-small (eqb (r .type) 50));
     })
 
 small : (s : Sums) (n : ℕ) → n ≤ 268_435_456 → Below s n → Small s
@@ -103,7 +103,7 @@ pub roomy : (file : List ℕ) (past : List Entry) → length past ≤ 268_435_45
 unfolding standing
 roomy file past h =
     let count : (begins : Entry → Bool) (sort : ℕ → Bool) → countSince begins sort past ≤ length past * 1 =
-        λ begins sort. sum-small begins (λ r. one (sort (r .type))) 1 (λ r. one-small (sort (r .type))) past in
+    λ begins sort. sum-small begins (λ r. one (sort (r .type))) 1 (λ r. one-small (sort (r .type))) past in
     record {
       records = omega arith;
       letters = omega (arith, count never (λ t. eqb t 10));
@@ -117,5 +117,5 @@ roomy file past h =
       addenda = omega (arith, count isItemEntry isAddendum);
       bofd = omega (arith, count isItemEntry isBofdAddendum);
       endorser = omega (arith, count isItemEntry isEndorserAddendum);
-      shown = omega (arith, count isItemEntry (λ t. eqb t 50))
+      shown = omega (arith, count isItemEntry (λ t. eqb t 50));
     }

@@ -1,3 +1,4 @@
+use mathlib.Core.Path.{_≡_, refl, sym, ap, _∙_}
 use mathlib.Core.Path.{sym}
 use borrow.Author.Needs.{needs}
 use Rattle.abi.proofs.x9_picture.Statement.{statement}
@@ -19,7 +20,7 @@ size-requires : tie.Need-size-requires
 size-requires c κs = search needs
 
 returns : tie.Need-returns
-returns c = (rw (sym (c .before .before .before .before .before .find-picture .ensures)) (c .before .before .before .before .number .ensures), rw (sym (c .before .before .before .before .before .find-picture .ensures), c .before .before .before .before .number .ensures, c .before .before .before .field .ensures, c .before .before .start .ensures, c .before .size .ensures))
+returns c = record { number = rw (sym (c .before .before .before .before .before .find-picture .ensures)) (c .before .before .before .before .number .ensures); place = rw (sym (c .before .before .before .before .before .find-picture .ensures), c .before .before .before .before .number .ensures, c .before .before .before .field .ensures, c .before .before .start .ensures, c .before .size .ensures) }
 
 pub x9-picture-spec : {M : Type 1} → statement M
 x9-picture-spec =

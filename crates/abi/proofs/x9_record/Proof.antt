@@ -1,3 +1,4 @@
+use mathlib.Core.Path.{_≡_, refl, sym, ap, _∙_}
 use mathlib.Core.Path.{sym}
 use borrow.Author.Needs.{needs}
 use Rattle.abi.proofs.x9_record.Statement.{statement}
@@ -13,7 +14,7 @@ field-requires : tie.Need-field-requires
 field-requires c κs = search needs
 
 returns : tie.Need-returns
-returns c = (rw (sym (c .before .before .before .judge-record .ensures)) (c .before .before .number .ensures), rw (sym (c .before .before .before .judge-record .ensures), c .before .before .number .ensures, c .before .field .ensures))
+returns c = record { number = rw (sym (c .before .before .before .judge-record .ensures)) (c .before .before .number .ensures); answer = rw (sym (c .before .before .before .judge-record .ensures), c .before .before .number .ensures, c .before .field .ensures) }
 
 pub x9-record-spec : {M : Type 1} → statement M
 x9-record-spec = tie.close (tie.spec judge-record-requires number-requires field-requires returns)

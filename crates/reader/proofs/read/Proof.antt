@@ -1,42 +1,44 @@
+use mathlib.Core.Path.{_≡_, refl, sym, _∙_, ap}
+use denote.Ref.{now}
+use Prim.Native.Nat.{ℕ, _+_, _-_, _≤_, _<_}
+use native.Mathlib.Omega.{arith}
+use lib.Dec.{eqb}
+use lib.ListN.{length, drop, length-set}
+use borrow.Author.Tests.{eq-eqb, ne-eqb, not-true, not-false, lt-leb, le-leb}
+use Rattle.frame.specs.Frames.{frameAt}
+use Rattle.reader.specs.Order.{agreement, turnOf}
+use Rattle.reader.specs.Reading.{stepOf, endedWith, surveyed, answerOf, tableOf}
+use Rattle.reader.proofs.Passes.{accepted-small}
 use borrow.Author.Needs.{needs}
 use Rattle.reader.proofs.read.Statement.{statement}
 use Rattle.reader.proofs.read.Tie as tie
-use Rattle.reader.proofs.read.Reads as reads
-use Rattle.reader.proofs.read.Lts as lts
-use Rattle.reader.proofs.fill.Reads as fill-reads
-use Rattle.reader.proofs.survey.Reads as survey-reads
 
--- src/lib.rt:280:9
 survey-requires : tie.Need-survey-requires
-survey-requires c κs = ?
+survey-requires c κs = search needs
 
--- src/lib.rt:282:26
 enum-known-answer : tie.Need-enum-known-answer
-enum-known-answer c = ?
+enum-known-answer c = search needs
 
--- src/lib.rt:285:17
 returns : tie.Need-returns
-returns c = ?
+unfolding answerOf tableOf
+returns c = (simp ((sym (c .before .before .before .before .survey .ensures .0) ∙ c .before .before .answer .given .1), lt-leb _ _ (c .if1 .taken)), simp ((sym (c .before .before .before .before .survey .ensures .0) ∙ c .before .before .answer .given .1), lt-leb _ _ (c .if1 .taken)))
 
--- src/lib.rt:287:13
 fill-requires : tie.Need-fill-requires
-fill-requires c κs = ?
+fill-requires c κs = let g = rw (c .before .before .before .answer .given .1) at (c .before .before .before .before .before .survey .ensures .1) in (accepted-small (now (c .before .before .before .before .before .before .before .before .args .file)) _ (sym (c .before .before .before .before .before .survey .ensures .0) ∙ c .before .before .before .answer .given .1), omega (arith, g))
 
--- src/lib.rt:290:37
 enum-told : tie.Need-enum-told
-enum-told c = ?
+enum-told c = search needs
 
--- src/lib.rt:276:1
 same-length : tie.Need-same-length
-same-length c = ?
+same-length c = search needs
 
--- src/lib.rt:276:1
 returns-2 : tie.Need-returns-2
-returns-2 c = ?
+unfolding answerOf tableOf
+returns-2 c = (simp ((sym (c .before .before .before .before .before .before .before .before .survey .ensures .0) ∙ c .before .before .before .before .before .before .answer .given .1), le-leb _ _ (c .before .before .before .before .if1 .left)), c .before .before .fill .ensures ∙ sym (simp ((sym (c .before .before .before .before .before .before .before .before .survey .ensures .0) ∙ c .before .before .before .before .before .before .answer .given .1), le-leb _ _ (c .before .before .before .before .if1 .left))))
 
--- src/lib.rt:276:1
 returns-3 : tie.Need-returns-3
-returns-3 c = ?
+unfolding answerOf tableOf
+returns-3 c = let e = sym (c .before .before .survey .ensures .0) ∙ c .enum-told .given .1 in (c .enum-told .given .1 ∙ sym (simp e), sym (simp e))
 
 pub read-spec : {M : Type 1} → statement M
 read-spec =
