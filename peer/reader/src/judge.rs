@@ -1,0 +1,261 @@
+//! One record judged alone: its length, its fields and its variable parts.
+
+use crate::layout::{Field, Layout, Part, Rule, Type, Usage};
+
+/// What is wrong with a record taken by itself.
+#[derive(Clone, Copy, Debug, PartialEq, Eq)]
+pub enum Flaw {
+    Length,
+    Field(u8),
+}
+
+/// The checks of one record in document 01's order: length against the fixed part, fixed fields, length against the
+/// stated part lengths, variable fields.
+pub fn record(layout: &Layout, body: &[u8]) -> Result<(), Flaw> {
+    let too_long = layout.parts.is_empty() && body.len() > layout.fixed;
+    if body.len() < layout.fixed || too_long {
+        return Err(Flaw::Length);
+    }
+    for fixed in layout.fields {
+        if !field(fixed, fixed.of(body)) || clipping_broken(layout, fixed, body) {
+            return Err(Flaw::Field(fixed.number));
+        }
+    }
+    variable(layout, body)
+}
+
+/// The variable parts of types 27, 34 and 52 (clauses 12, 17, 22).
+fn variable(layout: &Layout, body: &[u8]) -> Result<(), Flaw> {
+    if layout.parts.is_empty() {
+        return Ok(());
+    }
+    let stated: u64 = layout.parts.iter().map(|part| part_length(layout, body, part)).sum();
+    if body.len() as u64 != layout.fixed as u64 + stated {
+        return Err(Flaw::Length);
+    }
+    for part in layout.parts {
+        if !of_type(part.kind, part_of(layout, body, part)) {
+            return Err(Flaw::Field(part.number));
+        }
+    }
+    Ok(())
+}
+
+/// The length that a part's sizing field states.
+pub fn part_length(layout: &Layout, body: &[u8], part: &Part) -> u64 {
+    number(layout.field(part.sized_by).of(body))
+}
+
+/// Where a part starts in a record whose length is right.
+pub fn part_start(layout: &Layout, body: &[u8], wanted: &Part) -> usize {
+    let before = layout.parts.iter().take_while(|part| part.number < wanted.number);
+    layout.fixed + before.map(|part| part_length(layout, body, part) as usize).sum::<usize>()
+}
+
+/// A part's bytes in a record whose length is right.
+pub fn part_of<'a>(layout: &Layout, body: &'a [u8], part: &Part) -> &'a [u8] {
+    let start = part_start(layout, body, part);
+    &body[start..start + part_length(layout, body, part) as usize]
+}
+
+/// Clause 22.9: clipping origin '0' asks four coordinates of '0000'; the fault is the coordinate's.
+fn clipping_broken(layout: &Layout, fixed: &Field, body: &[u8]) -> bool {
+    let coordinate = layout.code == 52 && (10..=13).contains(&fixed.number);
+    coordinate && layout.field(9).of(body) == b"0" && fixed.of(body) != b"0000"
+}
+
+/// A fixed field: clause 5.4 a) to c) with document 01's reading of blanks.
+pub fn field(field: &Field, bytes: &[u8]) -> bool {
+    if field.usage == Usage::Conditional && all_blank(bytes) {
+        return true;
+    }
+    of_type(field.kind, bytes) && (marked(field, bytes) || by_rule(field.rule, bytes))
+}
+
+/// A routing number or date that holds a mark its type admits is left to its type.
+fn marked(field: &Field, bytes: &[u8]) -> bool {
+    let judged_so = matches!(field.rule, Rule::Routing | Rule::Date);
+    let cant_read = matches!(field.kind, Type::MicrCantRead | Type::MicrDash | Type::MicrOnUs | Type::MicrUnparsed);
+    let questionable = field.kind == Type::NumericBlankQuestion;
+    judged_so && ((cant_read && bytes.contains(&b'*')) || (questionable && bytes.contains(&b'?')))
+}
+
+/// Clause 5.3: the characters of each data type.
+pub fn of_type(kind: Type, bytes: &[u8]) -> bool {
+    match kind {
+        Type::AllBlank => all_blank(bytes),
+        Type::Alphabetic => bytes.iter().all(|byte| byte.is_ascii_alphabetic() || *byte == b' '),
+        Type::Alphanumeric => bytes.iter().all(|byte| byte.is_ascii_alphanumeric() || *byte == b' '),
+        Type::AlphanumericSpecial => bytes.iter().all(|byte| (0x20..=0x7E).contains(byte)),
+        Type::Binary => true,
+        Type::Numeric => all_digits(bytes),
+        Type::NumericBlank => digits_and(bytes, b" ") && !blank_embedded(bytes),
+        Type::NumericBlankDash => digits_and(bytes, b" -") && !blank_embedded(bytes),
+        Type::NumericBlankQuestion => digits_and(bytes, b" ?") && !blank_embedded(bytes),
+        Type::MicrCantRead => digits_and(bytes, b" *"),
+        Type::MicrDash => digits_and(bytes, b" *-"),
+        Type::MicrOnUs => digits_and(bytes, b" *-/"),
+        Type::MicrUnparsed => digits_and(bytes, b" *-/$#"),
+    }
+}
+
+/// The rest of a field's own clause.
+fn by_rule(rule: Rule, bytes: &[u8]) -> bool {
+    match rule {
+        Rule::TypeAlone => true,
+        Rule::Codes(codes) => codes.iter().any(|code| code.as_bytes().eq_ignore_ascii_case(bytes)),
+        Rule::Range(low, high) => all_digits(bytes) && (low..=high).contains(&number(bytes)),
+        Rule::Digits => all_digits(bytes),
+        Rule::OneOrTwoDigits => one_or_two_digits(bytes),
+        Rule::Date => date(bytes),
+        Rule::HourMinute => time(bytes, &[23, 59]),
+        Rule::HourMinuteSecond => time(bytes, &[23, 59, 59]),
+        Rule::Routing => routing(bytes),
+    }
+}
+
+pub fn all_blank(bytes: &[u8]) -> bool {
+    bytes.iter().all(|byte| *byte == b' ')
+}
+
+pub fn all_digits(bytes: &[u8]) -> bool {
+    bytes.iter().all(|byte| byte.is_ascii_digit())
+}
+
+fn digits_and(bytes: &[u8], others: &[u8]) -> bool {
+    bytes.iter().all(|byte| byte.is_ascii_digit() || others.contains(byte))
+}
+
+/// A blank with some digit before it and some digit after it (clauses 5.3.8 to 5.3.10).
+fn blank_embedded(bytes: &[u8]) -> bool {
+    let first = bytes.iter().position(|byte| byte.is_ascii_digit());
+    let last = bytes.iter().rposition(|byte| byte.is_ascii_digit());
+    match (first, last) {
+        (Some(first), Some(last)) => bytes[first..=last].contains(&b' '),
+        _ => false,
+    }
+}
+
+/// The number that digits spell; at most sixteen of them stand in one field.
+pub fn number(digits: &[u8]) -> u64 {
+    digits.iter().fold(0, |so_far, digit| so_far * 10 + u64::from(digit - b'0'))
+}
+
+fn one_or_two_digits(bytes: &[u8]) -> bool {
+    let digits = bytes.iter().filter(|byte| byte.is_ascii_digit()).count();
+    digits >= 1 && digits_and(bytes, b" ")
+}
+
+/// YYYYMMDD by three ranges alone: 30 February passes.
+fn date(bytes: &[u8]) -> bool {
+    all_digits(bytes)
+        && bytes.len() == 8
+        && (1993..=9999).contains(&number(&bytes[..4]))
+        && (1..=12).contains(&number(&bytes[4..6]))
+        && (1..=31).contains(&number(&bytes[6..]))
+}
+
+/// Pairs of digits, each at most its limit.
+fn time(bytes: &[u8], limits: &[u64]) -> bool {
+    all_digits(bytes) && bytes.chunks(2).zip(limits).all(|(pair, limit)| number(pair) <= *limit)
+}
+
+/// Nine digits whose sum weighted 3, 7, 1 is a multiple of ten (the ABA rule).
+pub fn routing(bytes: &[u8]) -> bool {
+    if bytes.len() != 9 || !all_digits(bytes) {
+        return false;
+    }
+    let weights = [3, 7, 1, 3, 7, 1, 3, 7, 1];
+    let sum: u64 = bytes.iter().zip(weights).map(|(digit, weight)| u64::from(digit - b'0') * weight).sum();
+    sum.is_multiple_of(10)
+}
+
+#[cfg(test)]
+mod tests {
+    use super::*;
+    use crate::layout::layout;
+
+    fn passes(code: u8, number: u8, bytes: &[u8]) -> bool {
+        let at = layout(code).field(number);
+        assert_eq!(at.size(), bytes.len());
+        field(at, bytes)
+    }
+
+    #[test]
+    fn routing_numbers_p1_p2() {
+        assert!(passes(1, 4, b"123456780")); // 3+14+3+12+35+6+21+56+0 = 150
+        assert!(!passes(1, 4, b"123456781"));
+        assert!(passes(1, 4, b"000000000"));
+        assert!(!passes(1, 4, b"12345-780"));
+        assert!(!passes(1, 4, b"         "));
+        assert!(passes(20, 10, b"         "));
+        assert!(!passes(1, 4, b"12345678*"));
+        assert!(passes(25, 4, b"12345678*"));
+        assert!(passes(25, 4, b" 1-2 3*  "));
+        assert!(!passes(25, 4, b"12345678?"));
+        assert!(!passes(25, 4, b"1234-5678"));
+        assert!(!passes(25, 4, b" 12345678"));
+        assert!(!passes(25, 4, b"         "));
+    }
+
+    #[test]
+    fn dates_p3_p4() {
+        assert!(passes(1, 6, b"20050230"));
+        assert!(!passes(1, 6, b"19921231"));
+        assert!(passes(1, 6, b"19930101"));
+        assert!(passes(1, 6, b"99991231"));
+        for wrong in [b"20050001", b"20051301", b"20050100", b"20050132", b"2005 101", b"        "] {
+            assert!(!passes(1, 6, wrong));
+        }
+        assert!(passes(20, 6, b"        "));
+        assert!(!passes(20, 6, b"2005    "));
+        assert!(passes(32, 4, b"2005????"));
+        assert!(passes(32, 4, b"?  ?1234"));
+        assert!(!passes(32, 4, b"20 05???"));
+        assert!(!passes(32, 4, b"20059999"));
+        assert!(!passes(26, 4, b"2005????"));
+    }
+
+    #[test]
+    fn times() {
+        assert!(passes(1, 7, b"2359"));
+        assert!(!passes(1, 7, b"2400"));
+        assert!(!passes(1, 7, b"0060"));
+        assert!(passes(27, 4, b"235959"));
+        assert!(!passes(27, 4, b"235960"));
+        assert!(passes(27, 4, b"      "));
+        assert!(!passes(27, 4, b"1200  "));
+    }
+
+    #[test]
+    fn blanks_among_digits() {
+        assert!(passes(20, 8, b" 12 "));
+        assert!(passes(20, 8, b"   1"));
+        assert!(!passes(20, 8, b"1 2 "));
+        assert!(passes(25, 7, b"               "));
+        assert!(passes(32, 5, b"12? ???????  ? "));
+        assert!(!passes(32, 5, b"12? ???????  ?3"));
+        assert!(passes(25, 2, b"1 2 - *  3    1"));
+        assert!(!passes(25, 2, b"1 2 - /  3    1"));
+        assert!(passes(70, 4, b"            "));
+        assert!(!passes(70, 4, b"000000001   "));
+        assert!(passes(70, 4, b"000000000001"));
+    }
+
+    #[test]
+    fn defined_values() {
+        assert!(passes(1, 3, b"t"));
+        assert!(!passes(1, 3, b" "));
+        assert!(passes(10, 9, b"z") && passes(10, 9, b" ") && !passes(10, 9, b"N"));
+        assert!(passes(10, 13, b"99") && !passes(10, 13, b"00") && !passes(10, 13, b"1 "));
+        assert!(passes(10, 2, b"99") && passes(10, 2, b"20") && passes(10, 2, b"10"));
+        assert!(!passes(20, 2, b"99") && !passes(20, 2, b"20") && !passes(20, 2, b"10"));
+        assert!(passes(50, 11, b" 1") && passes(50, 11, b"1 ") && passes(50, 11, b"99") && passes(50, 11, b"  "));
+        assert!(!passes(50, 11, b"1A"));
+        assert!(passes(50, 20, b"r") && !passes(50, 20, b"S") && !passes(50, 20, b"1"));
+        assert!(!passes(50, 5, b"  ") && passes(50, 5, b"00"));
+        assert!(passes(33, 2, b"  ") && passes(33, 2, b"a1") && !passes(33, 2, b"-1"));
+        assert!(passes(25, 10, b" ") && passes(25, 10, b"4") && !passes(25, 10, b"0") && !passes(25, 10, b"5"));
+        assert!(passes(52, 9, b"4") && !passes(52, 9, b"5") && !passes(52, 9, b" "));
+    }
+}

@@ -1,0 +1,15 @@
+//! The independent side: a reader of X9.100-180 files written from the standard's text and document 01 alone,
+//! and a generator of sound and damaged files. It shares no table and no code with the proved library.
+
+pub mod descent;
+pub mod harm;
+pub mod judge;
+pub mod layout;
+pub mod line;
+pub mod make;
+pub mod picture;
+pub mod plain;
+pub mod random;
+pub mod samples;
+pub mod stream;
+pub mod tally;

@@ -1,0 +1,188 @@
+//! What the files of a run have covered, as the independent reader judged them.
+
+use std::collections::BTreeMap;
+
+use crate::descent::{Number, Reading};
+use crate::harm::{field_targets, lawful_pairs, place_targets, total_targets};
+use crate::layout::{name_of, CARRIED, LAYOUTS, NOT_CARRIED};
+
+/// One thing that a run is to show.
+#[derive(Clone, Copy, Debug, PartialEq, Eq, PartialOrd, Ord)]
+pub enum Point {
+    Answer(Number),
+    FieldRefused(u8, u8),
+    PairAccepted(u8, u8),
+    PairRefused(u8, u8),
+    LinkRefused(u8, u8, &'static str),
+    TotalRefused(u8, u8),
+    LengthRefused(u8, &'static str),
+    BelowTwo,
+    CutIn(&'static str),
+    OpenAfter(u8),
+    TypeRefused(u8),
+    Room,
+    PictureAnswer(Number),
+    PictureFieldRefused(u8),
+}
+
+/// How often each point was met.
+#[derive(Clone, Debug, Default)]
+pub struct Tally {
+    pub met: BTreeMap<Point, u64>,
+}
+
+impl Tally {
+    pub fn note(&mut self, point: Point) {
+        *self.met.entry(point).or_insert(0) += 1;
+    }
+
+    pub fn add(&mut self, other: &Tally) {
+        for (point, count) in &other.met {
+            *self.met.entry(*point).or_insert(0) += count;
+        }
+    }
+
+    /// Notes what one file shows.
+    pub fn note_reading(&mut self, file: &[u8], reading: &Reading) {
+        let answer = &reading.answer;
+        let field = answer.field as u8;
+        self.note(Point::Answer(answer.number));
+        match answer.number {
+            Number::Accepted => self.note_pairs(reading),
+            Number::Place => {
+                if let Some(code) = code_at(file, answer.offset) {
+                    self.note(Point::PairRefused(reading.last, code));
+                }
+            }
+            Number::Field => self.note_typed(file, answer.offset, |code| Point::FieldRefused(code, field)),
+            Number::Link => self.note_typed(file, answer.offset, |code| Point::LinkRefused(code, field, reading.why)),
+            Number::Total => self.note_typed(file, answer.offset, |code| Point::TotalRefused(code, field)),
+            Number::Length if reading.why == "below two" => self.note(Point::BelowTwo),
+            Number::Length => self.note_typed(file, answer.offset, |code| Point::LengthRefused(code, reading.why)),
+            Number::Cut => self.note(Point::CutIn(reading.why)),
+            Number::Open => self.note(Point::OpenAfter(reading.last)),
+            Number::Type => self.note_typed(file, answer.offset, Point::TypeRefused),
+            Number::Size | Number::Room | Number::After => {}
+        }
+    }
+
+    fn note_typed(&mut self, file: &[u8], offset: u64, point: impl Fn(u8) -> Point) {
+        if let Some(code) = code_at(file, offset) {
+            self.note(point(code));
+        }
+    }
+
+    fn note_pairs(&mut self, reading: &Reading) {
+        let mut last = 0;
+        for row in &reading.rows {
+            let next = row[0] as u8;
+            self.note(Point::PairAccepted(last, next));
+            last = next;
+        }
+    }
+
+    /// The points of a whole run that were not met.
+    pub fn missing(&self) -> Vec<Point> {
+        demanded().into_iter().filter(|point| !self.met.contains_key(point)).collect()
+    }
+
+    /// A line for each group: met of demanded.
+    pub fn report(&self) -> String {
+        let mut groups: BTreeMap<&'static str, (usize, usize, u64)> = BTreeMap::new();
+        for point in demanded() {
+            let group = groups.entry(group_of(&point)).or_insert((0, 0, u64::MAX));
+            let count = self.met.get(&point).copied().unwrap_or(0);
+            group.0 += usize::from(count > 0);
+            group.1 += 1;
+            group.2 = group.2.min(count);
+        }
+        let lines = groups
+            .iter()
+            .map(|(name, (met, of, least))| format!("  {name}: {met} of {of}, the rarest met {least} times\n"));
+        lines.collect()
+    }
+}
+
+/// The type that the record at this offset names by two digits.
+fn code_at(file: &[u8], offset: u64) -> Option<u8> {
+    let at = offset as usize + 4;
+    let name = file.get(at..at + 2)?;
+    (0..100).find(|code| name_of(*code) == name)
+}
+
+/// The LINK points of document 01.
+fn link_points() -> Vec<Point> {
+    let mut points = Vec::new();
+    let mut link = |code, field, why| points.push(Point::LinkRefused(code, field, why));
+    for code in [26, 28, 32, 35] {
+        link(code, 2, "record number");
+    }
+    link(26, 2, "tenth of one digit");
+    link(32, 2, "tenth of one digit");
+    for code in [26, 27, 28, 32, 33, 34, 35] {
+        link(code, 1, "addendum beyond the count");
+    }
+    for code in [25, 31, 50, 70] {
+        link(code, 1, "addenda owed");
+    }
+    let key = [(2, "routing number"), (3, "business date"), (4, "cycle number"), (5, "sequence number")];
+    for (field, why) in key.into_iter().chain([(7, "authenticator name"), (8, "key name")]) {
+        link(52, field, why);
+    }
+    link(20, 1, "bundle under N");
+    link(50, 1, "view under E");
+    for why in ["no bundle under E", "no bundle under I", "no bundle under F"] {
+        link(90, 1, why);
+    }
+    for code in [25, 31, 70] {
+        link(code, 1, "no view under I");
+        link(code, 1, "no view under F");
+    }
+    points
+}
+
+/// Everything that a run of 100,000 files is to show.
+pub fn demanded() -> Vec<Point> {
+    use Number::{Accepted, After, Cut, Field, Length, Link, Open, Place, Size, Total, Type};
+    let numbers = [Accepted, Size, Cut, Length, Type, Place, Field, Link, Total, Open, After];
+    let mut points: Vec<Point> = numbers.into_iter().map(Point::Answer).collect();
+    points.push(Point::Room);
+    points.extend(field_targets().into_iter().map(|(code, field)| Point::FieldRefused(code, field)));
+    points.extend(lawful_pairs().into_iter().map(|(last, next)| Point::PairAccepted(last, next)));
+    points.extend(place_targets().into_iter().map(|(last, next)| Point::PairRefused(last, next)));
+    points.extend(link_points());
+    points.extend(total_targets().into_iter().map(|(code, field)| Point::TotalRefused(code, field)));
+    for layout in &LAYOUTS {
+        points.push(Point::LengthRefused(layout.code, "shorter than the fixed part"));
+        let long = if layout.parts.is_empty() { "fixed record too long" } else { "stated parts" };
+        points.push(Point::LengthRefused(layout.code, long));
+    }
+    points.push(Point::BelowTwo);
+    points.push(Point::CutIn("cut in the length"));
+    points.push(Point::CutIn("cut in the record"));
+    points.extend(CARRIED.into_iter().filter(|code| *code != 99).map(Point::OpenAfter));
+    points.extend(NOT_CARRIED.map(Point::TypeRefused));
+    points.extend([Accepted, Size, Cut, Length, Type, Field].map(Point::PictureAnswer));
+    let of_52 = field_targets().into_iter().filter(|(code, _)| *code == 52);
+    points.extend(of_52.map(|(_, field)| Point::PictureFieldRefused(field)));
+    points
+}
+
+fn group_of(point: &Point) -> &'static str {
+    match point {
+        Point::Answer(_) => "answers given",
+        Point::FieldRefused(..) => "fields refused at FIELD",
+        Point::PairAccepted(..) => "lawful pairs accepted",
+        Point::PairRefused(..) => "pairs refused at PLACE",
+        Point::LinkRefused(..) => "LINK rules refused",
+        Point::TotalRefused(..) => "control fields refused at TOTAL",
+        Point::LengthRefused(..) => "types refused at LENGTH",
+        Point::BelowTwo => "lengths below two",
+        Point::CutIn(_) => "sorts of CUT",
+        Point::OpenAfter(_) => "types after which OPEN",
+        Point::TypeRefused(_) => "types not carried refused",
+        Point::Room => "tables too short",
+        Point::PictureAnswer(_) => "picture answers given",
+        Point::PictureFieldRefused(_) => "picture fields refused",
+    }
+}

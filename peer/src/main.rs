@@ -1,0 +1,184 @@
+//! Compares the proved library with the independent reader over many generated files.
+//! Use: compare [--files N] [--seed S] [--save DIR] [--threads T] [--sweep | --no-sweep]
+
+mod abi;
+mod check;
+mod large;
+mod shrink;
+mod sweep;
+
+use std::path::{Path, PathBuf};
+use std::process::ExitCode;
+use std::sync::atomic::{AtomicBool, AtomicU64, Ordering};
+use std::sync::Mutex;
+use std::time::{Instant, SystemTime, UNIX_EPOCH};
+
+use peer_reader::random::Random;
+use peer_reader::stream;
+use peer_reader::tally::Tally;
+
+use check::Counts;
+
+/// Coverage is demanded of runs at least this long.
+const WHOLE_RUN: u64 = 100_000;
+
+/// A shorter run names at most so many points that it did not cover.
+const SHORT_LIST: usize = 20;
+
+struct Options {
+    files: u64,
+    seed: u64,
+    save: PathBuf,
+    threads: u64,
+    /// Forced or forbidden; a whole run sweeps by itself.
+    sweep: Option<bool>,
+}
+
+/// What the threads share.
+struct Shared {
+    done: AtomicU64,
+    stop: AtomicBool,
+    found: Mutex<Vec<String>>,
+}
+
+fn main() -> ExitCode {
+    let options = match options() {
+        Ok(options) => options,
+        Err(message) => {
+            eprintln!("compare: {message}");
+            eprintln!("use: compare [--files N] [--seed S] [--save DIR] [--threads T] [--sweep | --no-sweep]");
+            return ExitCode::from(2);
+        }
+    };
+    println!("seed {} files {} threads {}", options.seed, options.files, options.threads);
+    let begun = Instant::now();
+    let shared = Shared { done: AtomicU64::new(0), stop: AtomicBool::new(false), found: Mutex::new(Vec::new()) };
+    let (mut tally, mut counts) = run(&options, &shared);
+    let whole = options.files >= WHOLE_RUN;
+    let going = !shared.stop.load(Ordering::Relaxed);
+    if going && whole {
+        large::check_largest(&options.save, &mut tally, &mut counts, &shared.found);
+    }
+    if going && options.sweep.unwrap_or(whole) {
+        sweep::sweep(&options, &mut tally, &mut counts, &shared.found);
+    }
+    conclude(&options, &shared, &tally, &counts, begun)
+}
+
+fn options() -> Result<Options, String> {
+    let clock = SystemTime::now().duration_since(UNIX_EPOCH).map(|time| time.as_nanos() as u64).unwrap_or(1);
+    let threads = std::thread::available_parallelism().map(|count| count.get() as u64).unwrap_or(2);
+    let mut options = Options {
+        files: WHOLE_RUN,
+        seed: clock % 1_000_000_000,
+        save: PathBuf::from("differences"),
+        threads,
+        sweep: None,
+    };
+    let mut words = std::env::args().skip(1);
+    while let Some(word) = words.next() {
+        if word == "--sweep" || word == "--no-sweep" {
+            options.sweep = Some(word == "--sweep");
+            continue;
+        }
+        let next = words.next().ok_or_else(|| format!("{word} wants a value"))?;
+        let number = || next.parse::<u64>().map_err(|_| format!("{next} is no number"));
+        match word.as_str() {
+            "--files" => options.files = number()?,
+            "--seed" => options.seed = number()?,
+            "--threads" => options.threads = number()?.max(1),
+            "--save" => options.save = PathBuf::from(next),
+            _ => return Err(format!("{word} is not known")),
+        }
+    }
+    Ok(options)
+}
+
+/// Shares the files among the threads by index, so that the thread count changes nothing.
+fn run(options: &Options, shared: &Shared) -> (Tally, Counts) {
+    let mut tally = Tally::default();
+    let mut counts = Counts::default();
+    std::thread::scope(|scope| {
+        let workers: Vec<_> =
+            (0..options.threads).map(|first| scope.spawn(move || work(options, shared, first))).collect();
+        for worker in workers {
+            let (part, counted) = worker.join().expect("a worker ends well");
+            tally.add(&part);
+            counts.add(&counted);
+        }
+    });
+    (tally, counts)
+}
+
+fn work(options: &Options, shared: &Shared, first: u64) -> (Tally, Counts) {
+    let mut tally = Tally::default();
+    let mut counts = Counts::default();
+    for index in (first..options.files).step_by(options.threads as usize) {
+        if shared.stop.load(Ordering::Relaxed) {
+            break;
+        }
+        let made = stream::file(options.seed, index);
+        let mut random = Random::for_file(!options.seed, index);
+        if let Err(difference) = check::check(&made.bytes, &mut random, &mut tally, &mut counts) {
+            let name = format!("seed{}-file{index}", options.seed);
+            report(&options.save, &name, made.shape, &made.bytes, &difference, &shared.found);
+            let many = shared.found.lock().map(|found| found.len() >= 10).unwrap_or(true);
+            shared.stop.fetch_or(many, Ordering::Relaxed);
+        }
+        let done = shared.done.fetch_add(1, Ordering::Relaxed) + 1;
+        if done.is_multiple_of(20_000) {
+            println!("{done} files");
+        }
+    }
+    (tally, counts)
+}
+
+/// Prints a difference and saves the file, as it was and shrunk.
+pub fn report(save: &Path, name: &str, shape: &str, file: &[u8], difference: &str, found: &Mutex<Vec<String>>) {
+    let (smaller, smaller_difference) = shrink::shrink(file, difference);
+    let saved = std::fs::create_dir_all(save)
+        .and_then(|()| std::fs::write(save.join(format!("{name}.x9")), file))
+        .and_then(|()| std::fs::write(save.join(format!("{name}.small.x9")), &smaller));
+    println!("DIFFERENCE in {name} ({shape}, {} bytes): {difference}", file.len());
+    if smaller.len() < file.len() {
+        println!("  shrunk to {} bytes: {smaller_difference}", smaller.len());
+    }
+    match saved {
+        Ok(()) => println!("  saved as {name}.x9 and {name}.small.x9 in {}", save.display()),
+        Err(error) => println!("  not saved: {error}"),
+    }
+    if let Ok(mut found) = found.lock() {
+        found.push(name.to_string());
+    }
+}
+
+fn conclude(options: &Options, shared: &Shared, tally: &Tally, counts: &Counts, begun: Instant) -> ExitCode {
+    let differences = shared.found.lock().map(|found| found.len()).unwrap_or(1);
+    println!(
+        "{} files ({} accepted, {} bytes), {} readings, {} rows, {} pictures, {:.1} seconds",
+        counts.files,
+        counts.accepted,
+        counts.bytes,
+        counts.readings,
+        counts.rows,
+        counts.pictures,
+        begun.elapsed().as_secs_f64()
+    );
+    println!("coverage, by the independent reader:\n{}", tally.report().trim_end());
+    let missing = tally.missing();
+    let demanded = options.files >= WHOLE_RUN;
+    for point in missing.iter().take(if demanded { missing.len() } else { SHORT_LIST }) {
+        println!("not covered: {point:?}");
+    }
+    println!(
+        "differences {differences}, points not covered {}{}",
+        missing.len(),
+        if demanded { "" } else { " (not demanded)" }
+    );
+    if differences > 0 || (demanded && !missing.is_empty()) {
+        println!("FAILED with seed {}", options.seed);
+        return ExitCode::from(1);
+    }
+    println!("the two sides agree");
+    ExitCode::SUCCESS
+}
