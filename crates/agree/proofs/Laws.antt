@@ -3,16 +3,12 @@ use mathlib.Core.Path.{_≡_, refl, ap, sym, _∙_}
 use mathlib.Core.Bool.{Bool, true, false, _&&_}
 use mathlib.Core.List.{List, [], _∷_}
 use Prim.Native.Nat.{ℕ, suc, _+_, _≤_, _<_}
-use native.Mathlib.Numerals.{add-one}
 use native.Mathlib.Omega.{arith}
 use lib.Dec.{eqb}
 use lib.ListN.{length, getD, drop, drop-of-length-le}
-use lib.Seq.{drop-cons}
+use Rattle.text.proofs.Laws.{rest}
 use Rattle.standing.specs.History.{pickLine}
 use Rattle.agree.specs.Links.{same}
-
-rest : (s : List ℕ) (i : ℕ) → i < length s → drop i s ≡ getD s i 0 ∷ drop (i + 1) s
-rest s i h = rw add-one (drop-cons s i 0 h)
 
 and-false : (b : Bool) → b && false ≡ false
 and-false true = refl

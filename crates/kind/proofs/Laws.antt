@@ -3,14 +3,14 @@ use mathlib.Core.Path.{_≡_, refl, ap, sym, _∙_}
 use mathlib.Core.Bool.{Bool, true, false, _&&_, _||_, not}
 use mathlib.Core.List.{List, [], _∷_}
 use Prim.Native.Nat.{ℕ, zero, suc, _+_, _-_, _≤_, _<_, min}
-use native.Mathlib.Numerals.{add-one}
 use native.Mathlib.Nat.{zero-add, suc-add, zero-min, suc-min-suc, not-suc-le-zero, le-of-suc-le-suc}
 use native.Mathlib.Omega.{arith}
 use borrow.Author.Tests.{ne-eqb, eqb-true}
 use lib.Dec.{leb, ltb, eqb, leb·zero, leb·suc-zero, leb·suc-suc, eqb·suc-zero, eqb·suc-suc}
 use lib.ListN.{length, getD, take, drop, drop-of-length-le}
-use lib.Seq.{drop-cons, drop-drop, drop-nil}
+use lib.Seq.{drop-drop, drop-nil}
 use Rattle.text.specs.DataTypes.{ofType}
+use Rattle.text.proofs.Laws.{rest}
 use Rattle.kind.specs.Alone.{lineHolds, firstWrong, Sized, statedSize, statedSizes, firstWrongPart, isVariable, unless, judged, alone, sizedParts}
 use Rattle.kind.specs.Kinds.{imageViewData}
 use Rattle.kind.specs.Image.{imageStart, imageSize}
@@ -18,9 +18,6 @@ use Rattle.kind.specs.Layout.{Line}
 use Rattle.kind.specs.declared.Judged.{Judged}
 use Rattle.kind.specs.declared.Judged.the-variants.{Sound, WrongLength, WrongField}
 use Rattle.kind.specs.Packing.{lineOf, linesFrom, sizedOf, sizedFrom}
-
-rest : (s : List ℕ) (i : ℕ) → i < length s → drop i s ≡ getD s i 0 ∷ drop (i + 1) s
-rest s i h = rw add-one (drop-cons s i 0 h)
 
 module _ (lines : List ℕ) (body : List ℕ) (n i : ℕ) where
   pub wrong-here : i < length lines → lineHolds (lineOf n (getD lines i 0)) body ≡ false → firstWrong (linesFrom n (drop i lines)) body ≡ n

@@ -13,14 +13,14 @@ use Rattle.measure.specs.Measures.{sums, noSums, together, pickSums}
 use Rattle.measure.specs.declared.Sums.{Sums}
 use Rattle.order.specs.Order.{isItem, isAddendum, pickNumber}
 
--- a record of the file: its type, the offset of its length field, and the length
+-- a record of the file: its type, the offset of its length field, and its size as the length field says it
 pub record Entry : Type 0 where
   pub type : ℕ
   pub offset : ℕ
-  pub length : ℕ
+  pub size : ℕ
 
 abbrev pub entry : ℕ → ℕ → ℕ → Entry
-entry t o l = record { type = t; offset = o; length = l }
+entry t o n = record { type = t; offset = o; size = n }
 
 -- the characters from a position on, counted from 1, of the record whose length field stands at an offset
 abbrev pub characters : List ℕ → ℕ → ℕ → ℕ → List ℕ
