@@ -1,5 +1,5 @@
--- How the code writes a layout: each line as one decimal number, the columns
---     first position (3 digits), size (2), usage (1), data type (2), rule (2), the rule's two numbers (2 and 2).
+-- How the code writes a layout: each line as one number, whose bytes are, from the highest, the first position (two), the size, the usage,
+-- the data type, the rule and the rule's two numbers.
 -- Nothing of this has to be believed: the contracts of the kinds speak of the layouts in specs/Kinds.antt.
 use Prim.Native.Nat.{ℕ, _+_, _-_, _/_, _%_}
 use mathlib.Core.Bool.{Bool, true, false}
@@ -73,12 +73,12 @@ abbrev pub lineOf : ℕ → ℕ → Line
 lineOf n packed =
     record {
       number = n;
-      usage = usageOf (packed / 100_000_000 % 10);
-      first = packed / 100_000_000_000;
-      last = packed / 100_000_000_000 + packed / 1_000_000_000 % 100 - 1;
-      size = packed / 1_000_000_000 % 100;
-      dataType = dataTypeOf (packed / 1_000_000 % 100);
-      rule = ruleOf (packed / 10_000 % 100) (packed / 100 % 100) (packed % 100);
+      usage = usageOf (packed / 0x1_0000_0000 % 0x100);
+      first = packed / 0x1_0000_0000_0000;
+      last = packed / 0x1_0000_0000_0000 + packed / 0x100_0000_0000 % 0x100 - 1;
+      size = packed / 0x100_0000_0000 % 0x100;
+      dataType = dataTypeOf (packed / 0x100_0000 % 0x100);
+      rule = ruleOf (packed / 0x1_0000 % 0x100) (packed / 0x100 % 0x100) (packed % 0x100);
     }
 
 abbrev pub linesFrom : ℕ → List ℕ → List Line
@@ -90,9 +90,9 @@ abbrev pub sizedOf : ℕ → ℕ → Sized
 sizedOf n packed =
     record {
       number = n;
-      first = packed / 100_000_000_000;
-      size = packed / 1_000_000_000 % 100;
-      dataType = dataTypeOf (packed / 1_000_000 % 100);
+      first = packed / 0x1_0000_0000_0000;
+      size = packed / 0x100_0000_0000 % 0x100;
+      dataType = dataTypeOf (packed / 0x100_0000 % 0x100);
     }
 
 abbrev pub sizedFrom : ℕ → List ℕ → List Sized

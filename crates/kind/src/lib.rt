@@ -76,11 +76,15 @@ impl Judged {
 fn line_holds(packed: u64, body: &[u8]) -> bool
     ensures { λ r. ⌜ ((n : ℕ) → r ≡ lineHolds (lineOf n packed) (now (body .entry))) ⌝ }
 {
-    let start = packing::place_of(packed / 100_000_000_000);
-    let size = (packed / 1_000_000_000 % 100) as usize;
-    let usage = packing::usage_of(packed / 100_000_000 % 10);
-    let data_type = packing::data_type_of(packed / 1_000_000 % 100);
-    let rule = packing::rule_of(packed / 10_000 % 100, packed / 100 % 100, packed % 100);
+    let start = packing::place_of(packed / 0x1_0000_0000_0000);
+    let size = (packed / 0x100_0000_0000 % 0x100) as usize;
+    let usage = packing::usage_of(packed / 0x1_0000_0000 % 0x100);
+    let data_type = packing::data_type_of(packed / 0x100_0000 % 0x100);
+    let rule = packing::rule_of(
+        packed / 0x1_0000 % 0x100,
+        packed / 0x100 % 0x100,
+        packed % 0x100,
+    );
     let part = frame::part_of(body, start, size);
     field::field_holds(usage, data_type, rule, part, body)
 }
@@ -103,8 +107,8 @@ fn first_wrong<'a>(lines: &'a [u64], body: &'a [u8]) -> usize
 fn stated_size(packed: u64, body: &[u8]) -> u64
     ensures { λ r. ⌜ ((n : ℕ) → r ≡ statedSize (sizedOf n packed) (now (body .entry))) ⌝ }
 {
-    let start = packing::place_of(packed / 100_000_000_000);
-    let size = (packed / 1_000_000_000 % 100) as usize;
+    let start = packing::place_of(packed / 0x1_0000_0000_0000);
+    let size = (packed / 0x100_0000_0000 % 0x100) as usize;
     text::number_in(frame::part_of(body, start, size))
 }
 
@@ -150,7 +154,7 @@ fn first_wrong_part<'a>(first: usize, parts: &'a [u64], start: usize, body: &'a 
     while i < parts.len() {
         let packed = parts[i];
         let size = stated_size(packed, body);
-        let data_type = packing::data_type_of(packed / 1_000_000 % 100);
+        let data_type = packing::data_type_of(packed / 0x100_0000 % 0x100);
         if !text::of_type(data_type, frame::part_of(body, at, size as usize)) {
             return first + i;
         }

@@ -1,5 +1,5 @@
-// How a layout is written: each line as one decimal number. Its columns are the field's first position (3 digits), its size (2), its
-// usage (1), its data type (2), its rule (2) and the rule's two numbers (2 each).
+// How a layout is written: each line as one number, whose parts are its bytes, from the highest: the field's first position (two bytes),
+// its size, its usage, its data type, its rule and the rule's two numbers.
 use field::CodeList;
 use field::Rule;
 use field::Usage;
@@ -8,78 +8,81 @@ ghost use mathlib.Core.Path.{_≡_};
 ghost use Prim.Native.Nat.{_-_};
 ghost use Rattle.kind.specs.Packing.{usageOf, dataTypeOf, ruleOf};
 
-// First position and size stand before the other columns.
-pub const AT: u64 = 1_000_000_000;
+pub const FIRST: u64 = 0x1_0000_0000_0000;
+
+pub const SIZE: u64 = 0x100_0000_0000;
+
+pub const LOW: u64 = 0x100;
 
 pub const M: u64 = 0;
 
-pub const C: u64 = 1_00_00_00_00;
+pub const C: u64 = 0x1_0000_0000;
 
-pub const AB: u64 = 01_00_00_00;
+pub const AB: u64 = 1 * 0x100_0000;
 
-pub const A: u64 = 02_00_00_00;
+pub const A: u64 = 2 * 0x100_0000;
 
-pub const AN: u64 = 03_00_00_00;
+pub const AN: u64 = 3 * 0x100_0000;
 
-pub const ANS: u64 = 04_00_00_00;
+pub const ANS: u64 = 4 * 0x100_0000;
 
-pub const BINARY: u64 = 05_00_00_00;
+pub const BINARY: u64 = 5 * 0x100_0000;
 
-pub const N: u64 = 06_00_00_00;
+pub const N: u64 = 6 * 0x100_0000;
 
-pub const NB: u64 = 07_00_00_00;
+pub const NB: u64 = 7 * 0x100_0000;
 
-pub const NBD: u64 = 08_00_00_00;
+pub const NBD: u64 = 8 * 0x100_0000;
 
-pub const NBQ: u64 = 09_00_00_00;
+pub const NBQ: u64 = 9 * 0x100_0000;
 
-pub const NBMC: u64 = 10_00_00_00;
+pub const NBMC: u64 = 10 * 0x100_0000;
 
-pub const NBMCD: u64 = 11_00_00_00;
+pub const NBMCD: u64 = 11 * 0x100_0000;
 
-pub const NBMCDO: u64 = 12_00_00_00;
+pub const NBMCDO: u64 = 12 * 0x100_0000;
 
-pub const NBMU: u64 = 13_00_00_00;
+pub const NBMU: u64 = 13 * 0x100_0000;
 
-pub const NUMBERS: u64 = 01_00_00;
+pub const NUMBERS: u64 = 1 * 0x1_0000;
 
-pub const ALL_DIGITS: u64 = 02_00_00;
+pub const ALL_DIGITS: u64 = 2 * 0x1_0000;
 
-pub const ONE_OR_TWO_DIGITS: u64 = 03_00_00;
+pub const ONE_OR_TWO_DIGITS: u64 = 3 * 0x1_0000;
 
-pub const STANDARD_LEVEL: u64 = 04_00_00;
+pub const STANDARD_LEVEL: u64 = 4 * 0x1_0000;
 
-pub const COLLECTION_TYPE: u64 = 05_00_00;
+pub const COLLECTION_TYPE: u64 = 5 * 0x1_0000;
 
-pub const BUNDLE_COLLECTION_TYPE: u64 = 06_00_00;
+pub const BUNDLE_COLLECTION_TYPE: u64 = 6 * 0x1_0000;
 
-pub const DATE: u64 = 07_00_00;
+pub const DATE: u64 = 7 * 0x1_0000;
 
-pub const HOURS_MINUTES: u64 = 08_00_00;
+pub const HOURS_MINUTES: u64 = 8 * 0x1_0000;
 
-pub const HOURS_MINUTES_SECONDS: u64 = 09_00_00;
+pub const HOURS_MINUTES_SECONDS: u64 = 9 * 0x1_0000;
 
-pub const ROUTING_NUMBER: u64 = 10_00_00;
+pub const ROUTING_NUMBER: u64 = 10 * 0x1_0000;
 
-pub const CLIPPED_BY: u64 = 11_00_00;
+pub const CLIPPED_BY: u64 = 11 * 0x1_0000;
 
-pub const FILE_TYPES: u64 = 21_00_00;
+pub const FILE_TYPES: u64 = 21 * 0x1_0000;
 
-pub const YES_NO: u64 = 22_00_00;
+pub const YES_NO: u64 = 22 * 0x1_0000;
 
-pub const YES_NO_UNKNOWN: u64 = 23_00_00;
+pub const YES_NO_UNKNOWN: u64 = 23 * 0x1_0000;
 
-pub const RECORD_TYPE_INDICATORS: u64 = 24_00_00;
+pub const RECORD_TYPE_INDICATORS: u64 = 24 * 0x1_0000;
 
-pub const CASH_LETTER_DOCUMENTATION: u64 = 25_00_00;
+pub const CASH_LETTER_DOCUMENTATION: u64 = 25 * 0x1_0000;
 
-pub const ITEM_DOCUMENTATION: u64 = 26_00_00;
+pub const ITEM_DOCUMENTATION: u64 = 26 * 0x1_0000;
 
-pub const RETURN_ACCEPTANCE: u64 = 27_00_00;
+pub const RETURN_ACCEPTANCE: u64 = 27 * 0x1_0000;
 
-pub const ARCHIVE_TYPES: u64 = 28_00_00;
+pub const ARCHIVE_TYPES: u64 = 28 * 0x1_0000;
 
-pub const TEST_OVERRIDES: u64 = 29_00_00;
+pub const TEST_OVERRIDES: u64 = 29 * 0x1_0000;
 
 // A position counted from 1 as a place counted from 0.
 pub fn place_of(position: u64) -> usize
