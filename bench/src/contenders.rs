@@ -1,0 +1,79 @@
+//! What is timed: the proved library, the independent reader, and a plain walk of memory.
+
+use std::alloc::{GlobalAlloc, Layout, System};
+use std::sync::atomic::{AtomicU64, Ordering::Relaxed};
+
+use peer_reader::descent;
+
+extern "C" {
+    fn x9_read(file: *const u8, file_len: usize, table: *mut u64, table_len: usize, answer: *mut [u64; 10]) -> u64;
+}
+
+/// The proved library.
+pub fn proved(file: &[u8], table: &mut [u64]) -> [u64; 10] {
+    let mut answer = [u64::MAX; 10];
+    // SAFETY: each pointer goes with its slice's own length, and the answer holds the ten numbers the call fills.
+    let number = unsafe { x9_read(file.as_ptr(), file.len(), table.as_mut_ptr(), table.len(), &mut answer) };
+    assert_eq!(number, answer[0]);
+    answer
+}
+
+/// The independent reader, which fills the lent table from rows it has allocated.
+pub fn independent(file: &[u8], table: &mut [u64]) -> [u64; 10] {
+    descent::read_into(file, table).listed()
+}
+
+/// Walks the lengths and adds up every byte of the records but the Image Data of the 52s. Nothing is judged.
+pub fn walk(file: &[u8], _: &mut [u64]) -> [u64; 10] {
+    let add = |bytes: &[u8]| bytes.iter().fold(0, |sum: u64, byte| sum.wrapping_add(u64::from(*byte)));
+    let (mut left, mut sum, mut records) = (file, 0u64, 0);
+    while let Some((length, rest)) = left.split_first_chunk() {
+        let (body, rest) = rest.split_at(u32::from_be_bytes(*length) as usize);
+        left = rest;
+        records += 1;
+        let picture = if body.starts_with(b"52") { image_data(body) } else { body.len()..body.len() };
+        sum = sum.wrapping_add(add(&body[..picture.start])).wrapping_add(add(&body[picture.end..]));
+    }
+    [sum, records, 0, 0, 0, 0, 0, 0, 0, 0]
+}
+
+/// Clause 22: fields 15 to 19, at positions 104 to 127, size the parts before the picture; field 20, 128 to 134, sizes it.
+fn image_data(body: &[u8]) -> std::ops::Range<usize> {
+    let number = |first: usize, last: usize| peer_reader::judge::number(&body[first - 1..last]) as usize;
+    let before = number(104, 107) + number(108, 112) + number(113, 117) + number(118, 122) + number(123, 127);
+    let start = 139 + before;
+    start..start + number(128, 134)
+}
+
+/// The system's allocator, counted.
+pub struct Counted;
+
+static CALLS: AtomicU64 = AtomicU64::new(0);
+static BYTES: AtomicU64 = AtomicU64::new(0);
+
+fn count(bytes: usize) {
+    CALLS.fetch_add(1, Relaxed);
+    BYTES.fetch_add(bytes as u64, Relaxed);
+}
+
+// SAFETY: every call is handed on unchanged.
+unsafe impl GlobalAlloc for Counted {
+    unsafe fn alloc(&self, layout: Layout) -> *mut u8 {
+        count(layout.size());
+        System.alloc(layout)
+    }
+    unsafe fn dealloc(&self, at: *mut u8, layout: Layout) {
+        System.dealloc(at, layout)
+    }
+    unsafe fn realloc(&self, at: *mut u8, layout: Layout, size: usize) -> *mut u8 {
+        count(size);
+        System.realloc(at, layout, size)
+    }
+}
+
+/// The allocations, and their bytes, that a piece of work asks for.
+pub fn allocations(work: impl FnOnce()) -> (u64, u64) {
+    let before = (CALLS.load(Relaxed), BYTES.load(Relaxed));
+    work();
+    (CALLS.load(Relaxed) - before.0, BYTES.load(Relaxed) - before.1)
+}

@@ -1,0 +1,618 @@
+/* The fuzz target: one input is sixteen control bytes and a file's bytes.
+ *
+ * Each input is put to the proved library (x9_read, x9_picture, x9_record) and to the independent reader. The target aborts with
+ *   ORACLE      an answer that breaks what include/x9180.h promises, whatever any other reader says
+ *   DIFFERENCE  an answer other than the independent reader's
+ * and a read or write outside what was lent ends at a page without access, or in AddressSanitizer's report.
+ *
+ * Control bytes: 0 where buffers stand and whether the file is also lent with a long tail of zeros; 1-2 a table length; 3 the pattern
+ * of untouched numbers; 4-11 a picture offset, 12 how it is taken; 13-15 a stretch of the file judged as a record. */
+#define _GNU_SOURCE
+#include <inttypes.h>
+#include <signal.h>
+#include <stdarg.h>
+#include <stdio.h>
+#include <stdlib.h>
+#include <string.h>
+#include <sys/mman.h>
+#include <ucontext.h>
+#include <unistd.h>
+
+#include "x9180.h"
+
+/* The independent reader (peer_c). */
+typedef struct reading reading;
+reading *peer_open(const uint8_t *file, size_t len);
+void peer_close(reading *r);
+size_t peer_rows(const reading *r);
+uint64_t peer_fill(const reading *r, uint64_t *table, size_t len, uint64_t answer[10]);
+uint64_t peer_picture(const uint8_t *file, size_t len, uint64_t offset, uint64_t place[4]);
+uint64_t peer_record(const uint8_t *body, size_t len, uint64_t answer[2]);
+void peer_setup(void);
+
+enum { ACCEPTED, SIZE, ROOM, CUT, LENGTH, TYPE, PLACE, FIELD, LINK, TOTAL, OPEN, AFTER, NUMBERS };
+
+#define CONTROL 16
+#define LARGEST ((size_t)268435456)
+#define FILE_MOST ((size_t)1 << 17)
+#define TABLE_MOST ((size_t)1 << 14) /* numbers; a sound record is at least 77 bytes with its length */
+
+/* ---- Failing ---- */
+
+static size_t now_len;
+
+__attribute__((noreturn, format(printf, 2, 3))) static void fail(const char *kind, const char *form, ...) {
+    va_list list;
+    fprintf(stderr, "%s: ", kind);
+    va_start(list, form);
+    vfprintf(stderr, form, list);
+    va_end(list);
+    fprintf(stderr, " (file of %zu bytes)\n", now_len);
+    fflush(stderr);
+    abort();
+}
+
+#define MUST(holds, ...)                       \
+    do {                                       \
+        if (!(holds)) fail("ORACLE", __VA_ARGS__); \
+    } while (0)
+
+static void show(const char *who, const uint64_t *numbers, int count) {
+    fprintf(stderr, "  %s", who);
+    for (int i = 0; i < count; i++) fprintf(stderr, " %" PRIu64, numbers[i]);
+    fprintf(stderr, "\n");
+}
+
+/* ---- Guidance and counts ----
+ * Counters that the fuzzer reads besides its own: a block of the library reached for the first time, and each answer given, by number,
+ * type of the record at fault and field. */
+
+#define BLOCKS_MOST 8192
+#define TYPES 19
+#define FIELDS 64
+#define ANSWERS (NUMBERS * TYPES * FIELDS)
+
+struct counters {
+    uint8_t blocks[BLOCKS_MOST];
+    uint8_t answers[ANSWERS];
+    uint8_t records[ANSWERS];
+    uint8_t pictures[NUMBERS * FIELDS];
+};
+/* Volatile, since nothing in this file reads them. */
+#ifdef REPLAY
+static volatile struct counters counted;
+#else
+__attribute__((used, section("__libfuzzer_extra_counters"))) static volatile struct counters counted;
+#endif
+
+static struct counters seen; /* over the whole process */
+static uint64_t inputs, reads, pictures, records, long_reads;
+static uint64_t by_number[NUMBERS];
+
+static int type_index(const uint8_t *two, size_t left) {
+    static const char types[] = "011020252627283132333435505254709099";
+    for (int i = 0; left >= 2 && i < 18; i++)
+        if (two[0] == types[2 * i] && two[1] == types[2 * i + 1]) return i + 1;
+    return 0;
+}
+
+#define COUNT(part, at)        \
+    do {                       \
+        counted.part[at] = 1;  \
+        seen.part[at] = 1;     \
+    } while (0)
+
+/* ---- The library's blocks ----
+ * The library is linked as it is. For guidance by its own blocks, each block's first byte is replaced by a breakpoint that puts the byte
+ * back when it is first reached. The offsets come from the disassembly (blocks.awk), relative to x9_read. */
+
+#ifndef REPLAY
+static struct {
+    uint8_t *at;
+    uint8_t was;
+} blocks[BLOCKS_MOST];
+static size_t block_count;
+
+static int block_order(const void *a, const void *b) {
+    const uint8_t *x = *(uint8_t *const *)a, *y = *(uint8_t *const *)b;
+    return x < y ? -1 : x > y;
+}
+
+static void on_trap(int sig, siginfo_t *info, void *context) {
+    ucontext_t *machine = context;
+    uint8_t *at = (uint8_t *)machine->uc_mcontext.gregs[REG_RIP] - 1;
+    size_t low = 0, high = block_count;
+    (void)info;
+    while (low < high) {
+        size_t mid = (low + high) / 2;
+        if (blocks[mid].at < at) low = mid + 1;
+        else high = mid;
+    }
+    if (low == block_count || blocks[low].at != at) {
+        signal(sig, SIG_DFL);
+        return;
+    }
+    *at = blocks[low].was;
+    machine->uc_mcontext.gregs[REG_RIP] = (greg_t)at;
+    COUNT(blocks, low);
+}
+
+static void arm_blocks(const char *list) {
+    FILE *from = fopen(list, "r");
+    long long offset;
+    uintptr_t page = (uintptr_t)sysconf(_SC_PAGESIZE), first, last;
+    struct sigaction action = {0};
+    if (!from) {
+        fprintf(stderr, "no list of blocks: %s\n", list);
+        exit(2);
+    }
+    while (block_count < BLOCKS_MOST && fscanf(from, "%lld", &offset) == 1)
+        blocks[block_count++].at = (uint8_t *)(uintptr_t)&x9_read + offset;
+    fclose(from);
+    if (!block_count) return;
+    qsort(blocks, block_count, sizeof blocks[0], block_order);
+    first = (uintptr_t)blocks[0].at & -page;
+    last = ((uintptr_t)blocks[block_count - 1].at + page) & -page;
+    if (mprotect((void *)first, last - first, PROT_READ | PROT_WRITE | PROT_EXEC)) {
+        perror("mprotect");
+        exit(2);
+    }
+    action.sa_sigaction = on_trap;
+    action.sa_flags = SA_SIGINFO | SA_NODEFER | SA_ONSTACK;
+    sigaction(SIGTRAP, &action, NULL);
+    for (size_t i = 0; i < block_count; i++) {
+        blocks[i].was = *blocks[i].at;
+        *blocks[i].at = 0xCC;
+    }
+}
+#else
+static const size_t block_count = 0;
+#endif
+
+/* ---- Buffers ----
+ * A region has a page without access on either side: what is lent ends at the one (END) or begins at the other (BEGIN). The third place
+ * is the heap (HEAP), where AddressSanitizer looks on. */
+
+enum { END, BEGIN, HEAP, PLACES };
+
+typedef struct {
+    uint8_t *base;
+    size_t cap;
+} region;
+
+static region region_of(size_t cap) {
+    size_t page = (size_t)sysconf(_SC_PAGESIZE);
+    uint8_t *all = mmap(NULL, cap + 2 * page, PROT_NONE, MAP_PRIVATE | MAP_ANONYMOUS, -1, 0);
+    if (all == MAP_FAILED || mprotect(all + page, cap, PROT_READ | PROT_WRITE)) {
+        perror("mmap");
+        exit(2);
+    }
+    return (region){all + page, cap};
+}
+
+static uint8_t *stand(region r, int place, size_t len) { return place == END ? r.base + r.cap - len : r.base; }
+
+static region file_regions[2], table_region, answer_region, body_region;
+static uint8_t *lent_file[PLACES];
+static uint8_t *long_file; /* LARGEST + 1 zeros, and a page without access */
+
+static void make_regions(void) {
+    file_regions[END] = region_of(FILE_MOST);
+    file_regions[BEGIN] = region_of(FILE_MOST);
+    table_region = region_of(TABLE_MOST * 8);
+    answer_region = region_of((size_t)sysconf(_SC_PAGESIZE));
+    body_region = region_of(FILE_MOST);
+    long_file = mmap(NULL, LARGEST + 8192, PROT_READ | PROT_WRITE, MAP_PRIVATE | MAP_ANONYMOUS | MAP_NORESERVE, -1, 0);
+    if (long_file == MAP_FAILED) {
+        perror("mmap");
+        exit(2);
+    }
+}
+
+/* The file in all three places; in the regions it cannot be written while the library has it. */
+static void lend_file(const uint8_t *file, size_t len) {
+    for (int place = END; place <= BEGIN; place++) {
+        region r = file_regions[place];
+        lent_file[place] = stand(r, place, len);
+        mprotect(r.base, r.cap, PROT_READ | PROT_WRITE);
+        memcpy(lent_file[place], file, len);
+        mprotect(r.base, r.cap, PROT_READ);
+    }
+    lent_file[HEAP] = malloc(len);
+    memcpy(lent_file[HEAP], file, len);
+}
+
+static void take_back(const uint8_t *file, size_t len) {
+    for (int place = 0; place < PLACES; place++)
+        MUST(!memcmp(lent_file[place], file, len), "the file was changed");
+    free(lent_file[HEAP]);
+}
+
+/* ---- Where the lengths lead ---- */
+
+typedef struct {
+    size_t count;
+    size_t at[FILE_MOST / 4 + 1]; /* offsets of length fields; at[count] is where the walk ends */
+} walk;
+
+static size_t told(const uint8_t *at) {
+    return (size_t)at[0] << 24 | (size_t)at[1] << 16 | (size_t)at[2] << 8 | at[3];
+}
+
+static void walk_file(walk *w, const uint8_t *file, size_t len) {
+    size_t at = 0, most = sizeof w->at / sizeof w->at[0] - 1;
+    w->count = 0;
+    while (w->count < most && len - at >= 4 && told(file + at) <= len - at - 4) {
+        w->at[w->count++] = at;
+        at += 4 + told(file + at);
+    }
+    w->at[w->count] = at;
+}
+
+/* ---- What the header promises, checked without any other reader ---- */
+
+static int has_field(uint64_t number) { return number == FIELD || number == LINK || number == TOTAL; }
+
+static void check_refused(const uint8_t *file, size_t len, const walk *w, size_t rows, const uint64_t a[10]) {
+    for (int i = 4; i < 10; i++) MUST(a[i] == 0, "refused with %" PRIu64 ", yet total %d is %" PRIu64, a[0], i, a[i]);
+    MUST((a[0] == SIZE) == (len == 0 || len > LARGEST), "SIZE or not: answer %" PRIu64, a[0]);
+    if (a[0] == SIZE) {
+        MUST(!a[1] && !a[2] && !a[3], "SIZE with record, field or offset");
+        return;
+    }
+    if (a[0] == ROOM) {
+        MUST(a[1] > rows && !a[2] && !a[3], "ROOM: record %" PRIu64 ", field %" PRIu64 ", offset %" PRIu64 ", rows %zu", a[1], a[2], a[3], rows);
+        MUST(a[1] == w->count, "ROOM asks %" PRIu64 " rows for %zu records", a[1], w->count);
+        return;
+    }
+    MUST(has_field(a[0]) ? a[2] >= 1 && a[2] < FIELDS : a[2] == 0, "number %" PRIu64 " with field %" PRIu64, a[0], a[2]);
+    MUST(a[1] >= 1 && a[1] <= w->count + 1, "record %" PRIu64 " of %zu", a[1], w->count);
+    MUST(a[3] == w->at[a[1] - 1], "record %" PRIu64 " at offset %" PRIu64 ", not %zu", a[1], a[3], w->at[a[1] - 1]);
+    size_t left = len - (size_t)a[3];
+    const uint8_t *at = file + a[3];
+    int cut = left < 4 || told(at) > left - 4;
+    MUST((a[0] == OPEN) == (left == 0), "OPEN or not: answer %" PRIu64 " with %zu bytes left", a[0], left);
+    if (a[0] == AFTER) {
+        const uint8_t *last = a[1] > 1 ? file + w->at[a[1] - 2] : at;
+        MUST(a[1] > 1 && last[4] == '9' && last[5] == '9', "AFTER without a 99 before it");
+    } else if (a[0] != OPEN) {
+        MUST((a[0] == CUT) == cut, "CUT or not: answer %" PRIu64 " with %zu bytes left", a[0], left);
+    }
+    if (a[0] == TYPE) MUST(told(at) >= 2 && !type_index(at + 4, left - 4), "TYPE at a carried type");
+    if (a[0] == PLACE || has_field(a[0])) MUST(told(at) >= 2 && type_index(at + 4, left - 4), "number %" PRIu64 " at no carried type", a[0]);
+}
+
+static void check_accepted(const uint8_t *file, size_t len, const walk *w, size_t rows, const uint64_t a[10], const uint64_t *table) {
+    uint64_t letters = 0, bundles = 0, items = 0, views = 0, cents = 0, letter_cents = 0, bundle_cents = 0;
+    uint64_t bundle = 0, item = 0;
+    MUST(len >= 1 && len <= LARGEST, "accepted at this size");
+    MUST(a[1] == a[4] && a[2] == 0 && a[3] == len, "accepted: record %" PRIu64 " of %" PRIu64 ", field %" PRIu64 ", offset %" PRIu64, a[1], a[4], a[2], a[3]);
+    MUST(a[4] == w->count && w->at[w->count] == len, "accepted: %" PRIu64 " records, %zu by the lengths", a[4], w->count);
+    MUST(a[4] <= rows, "accepted: %" PRIu64 " records in %zu rows", a[4], rows);
+    for (size_t i = 0; i < w->count; i++) {
+        const uint64_t *row = table + 7 * i;
+        const uint8_t *at = file + w->at[i];
+        uint64_t type = (uint64_t)(at[4] - '0') * 10 + (uint64_t)(at[5] - '0');
+        uint64_t in_letter, in_bundle, in_item, amount = 0;
+        MUST(told(at) >= 57 && type_index(at + 4, 2), "accepted with record %zu short or of no carried type", i + 1);
+        if (type == 10) letters++, bundle = 0, letter_cents = 0;
+        if (type == 20) bundles++, bundle++, item = 0, bundle_cents = 0;
+        if (type == 50) views++;
+        if (type == 25 || type == 31) {
+            items++, item++;
+            for (int d = 48; d <= 57; d++) amount = amount * 10 + (uint64_t)(at[3 + d] - '0'); /* field 6 (clauses 10 and 14) */
+            cents += amount, letter_cents += amount, bundle_cents += amount;
+        }
+        if (type == 70) amount = bundle_cents;
+        if (type == 90) amount = letter_cents;
+        if (type == 99) amount = cents;
+        in_letter = type == 1 || type == 99 ? 0 : letters;
+        in_bundle = type == 1 || type == 99 || type == 10 || type == 90 ? 0 : bundle;
+        in_item = in_bundle && type != 20 && type != 70 ? item : 0;
+        uint64_t due[7] = {type, w->at[i], told(at), in_letter, in_bundle, in_item, amount};
+        for (int c = 0; c < 7; c++)
+            MUST(row[c] == due[c], "row %zu number %d is %" PRIu64 ", not %" PRIu64, i + 1, c + 1, row[c], due[c]);
+        MUST((i == 0) == (type == 1) && (i + 1 == w->count) == (type == 99), "accepted with type %" PRIu64 " as record %zu", type, i + 1);
+    }
+    MUST(a[5] == letters && a[6] == bundles && a[7] == items && a[8] == views && a[9] == cents, "totals are not what the rows add up to");
+}
+
+/* ---- The calls ---- */
+
+static int turn; /* from the control bytes: which place comes next */
+
+static uint64_t *lend_answer(int place, size_t count, uint64_t pattern) {
+    uint64_t *answer = place == HEAP ? malloc(count * 8) : (uint64_t *)stand(answer_region, place, count * 8);
+    for (size_t i = 0; i < count; i++) answer[i] = pattern;
+    return answer;
+}
+
+static void drop(int place, void *lent) {
+    if (place == HEAP) free(lent);
+}
+
+/* One reading with everything lent at one place; the answer is copied out, and the table compared. */
+static void read_at(int place, const uint8_t *file, size_t len, const walk *w, size_t table_len, uint64_t pattern, const reading *peer,
+                    uint64_t out[10]) {
+    static uint64_t due_table[TABLE_MOST];
+    uint64_t due[10];
+    uint64_t *answer = lend_answer(place, 10, ~pattern);
+    uint64_t *table = place == HEAP ? malloc(table_len * 8) : (uint64_t *)stand(table_region, place, table_len * 8);
+    size_t rows = table_len / 7, used;
+    for (size_t i = 0; i < table_len; i++) table[i] = due_table[i] = pattern;
+
+    uint64_t number = x9_read(file, len, table, table_len, answer);
+    reads++;
+    MUST(number == answer[0] && number < NUMBERS, "x9_read returns %" PRIu64 ", answer %" PRIu64, number, answer[0]);
+    if (number == ACCEPTED) check_accepted(file, len, w, rows, answer, table);
+    else check_refused(file, len, w, rows, answer);
+    used = number == ACCEPTED ? 7 * (size_t)answer[4] : 0;
+    for (size_t i = used; i < table_len; i++) MUST(table[i] == pattern, "number %zu of the table was written, %zu are used", i, used);
+
+    peer_fill(peer, due_table, table_len, due);
+    if (memcmp(answer, due, sizeof due) || memcmp(table, due_table, table_len * 8)) {
+        show("proved     ", answer, 10);
+        show("independent", due, 10);
+        fail("DIFFERENCE", "x9_read with a table of %zu", table_len);
+    }
+    memcpy(out, answer, sizeof due);
+    drop(place, answer);
+    drop(place, table);
+}
+
+/* The same table length twice, at two places and with two patterns. */
+static void read_twice(const uint8_t *const files[PLACES], size_t len, const walk *w, size_t table_len, uint64_t pattern,
+                       const reading *peer, uint64_t out[10]) {
+    uint64_t again[10];
+    int first = turn++ % PLACES, second = turn % PLACES;
+    read_at(first, files[first], len, w, table_len, pattern, peer, out);
+    read_at(second, files[second], len, w, table_len, ~pattern * 3, peer, again);
+    MUST(!memcmp(out, again, sizeof again), "the second answer is another");
+}
+
+static void picture_at(const uint8_t *const files[PLACES], size_t len, uint64_t offset) {
+    uint64_t due[4], kept[4];
+    for (int time = 0; time < 2; time++) {
+        int where = turn++ % PLACES;
+        uint64_t *p = lend_answer(where, 4, UINT64_C(0xA5A5A5A5A5A5A5A5) + (uint64_t)time);
+        const uint8_t *file = files[where];
+        uint64_t number = x9_picture(file, len, offset, p);
+        pictures++;
+        MUST(number == p[0], "x9_picture returns %" PRIu64 ", place says %" PRIu64, number, p[0]);
+        MUST(number == ACCEPTED || number == SIZE || number == CUT || number == LENGTH || number == TYPE || number == FIELD,
+             "x9_picture gives %" PRIu64, number);
+        MUST((number == FIELD) == (p[1] != 0) && p[1] < FIELDS, "x9_picture gives %" PRIu64 " with field %" PRIu64, number, p[1]);
+        MUST((number == SIZE) == (len == 0 || len > LARGEST), "x9_picture: SIZE or not: %" PRIu64, number);
+        if (number == ACCEPTED) {
+            MUST(offset < len && len - offset >= 4, "a picture at offset %" PRIu64, offset);
+            size_t length = told(file + offset), left = len - (size_t)offset - 4;
+            MUST(length <= left && length >= 139, "a picture in a record of %zu bytes", length);
+            MUST(file[offset + 4] == '5' && file[offset + 5] == '2', "a picture of no 52");
+            MUST(p[2] >= offset + 4 + 139 && p[2] <= offset + 4 + length && p[3] <= offset + 4 + length - p[2],
+                 "picture at offset %" PRIu64 ": start %" PRIu64 ", length %" PRIu64, offset, p[2], p[3]);
+        } else {
+            MUST(p[2] == 0 && p[3] == 0, "no picture, yet start %" PRIu64 ", length %" PRIu64, p[2], p[3]);
+            int cut = number != SIZE && (offset >= len || len - offset < 4 || told(file + offset) > len - offset - 4);
+            MUST(number == SIZE || (number == CUT) == cut, "x9_picture at %" PRIu64 ": CUT or not: %" PRIu64, offset, number);
+        }
+        if (time == 0) {
+            memcpy(kept, p, sizeof kept);
+            COUNT(pictures, number * FIELDS + p[1]);
+            peer_picture(file, len, offset, due);
+            if (memcmp(p, due, sizeof due)) {
+                show("proved     ", p, 4);
+                show("independent", due, 4);
+                fail("DIFFERENCE", "x9_picture at offset %" PRIu64, offset);
+            }
+        }
+        MUST(!memcmp(p, kept, sizeof kept), "x9_picture at offset %" PRIu64 ": the second answer is another", offset);
+        drop(where, p);
+    }
+}
+
+static void record_alone(const uint8_t *body, size_t len) {
+    uint64_t due[2], kept[2];
+    for (int time = 0; time < 2; time++) {
+        int where = turn++ % PLACES;
+        uint8_t *lent = where == HEAP ? malloc(len) : stand(body_region, where, len);
+        uint64_t *a = lend_answer(where, 2, UINT64_C(0x5A5A5A5A5A5A5A5A) + (uint64_t)time);
+        memcpy(lent, body, len);
+        uint64_t number = x9_record(lent, len, a);
+        records++;
+        MUST(number == a[0], "x9_record returns %" PRIu64 ", answer %" PRIu64, number, a[0]);
+        MUST(number == ACCEPTED || number == LENGTH || number == TYPE || number == FIELD, "x9_record gives %" PRIu64, number);
+        MUST((number == FIELD) == (a[1] != 0) && a[1] < FIELDS, "x9_record gives %" PRIu64 " with field %" PRIu64, number, a[1]);
+        MUST(!memcmp(lent, body, len), "x9_record changed the body");
+        if (time == 0) {
+            memcpy(kept, a, sizeof kept);
+            COUNT(records, (number * TYPES + (uint64_t)type_index(body, len)) * FIELDS + a[1]);
+            peer_record(lent, len, due);
+            if (memcmp(a, due, sizeof due)) {
+                show("proved     ", a, 2);
+                show("independent", due, 2);
+                fail("DIFFERENCE", "x9_record of %zu bytes", len);
+            }
+        }
+        MUST(!memcmp(a, kept, sizeof kept), "x9_record: the second answer is another");
+        drop(where, a);
+        drop(where, lent);
+    }
+}
+
+/* The same bytes at the head of a file of the largest size, zeros behind, and of one byte more. */
+static void with_long_tail(const uint8_t *file, size_t len, size_t table_len, uint64_t pattern, uint64_t offset) {
+    static walk w;
+    uint64_t answer[10];
+    memcpy(long_file, file, len);
+    const uint8_t *files[PLACES] = {long_file, long_file, long_file};
+    for (size_t size = LARGEST; size <= LARGEST + 1; size++) {
+        now_len = size;
+        walk_file(&w, long_file, size);
+        reading *peer = peer_open(long_file, size);
+        read_twice(files, size, &w, table_len, pattern, peer, answer);
+        peer_close(peer);
+        picture_at(files, size, 0);
+        for (size_t i = 0; i < w.count && i < 4; i++) picture_at(files, size, w.at[i]);
+        picture_at(files, size, offset % (size + 3));
+        picture_at(files, size, size - 4);
+        picture_at(files, size, size);
+        picture_at(files, size, offset);
+        long_reads += 2;
+    }
+    MUST(!memcmp(long_file, file, len), "the long file was changed");
+    memset(long_file, 0, len);
+}
+
+/* ---- One input ---- */
+
+int LLVMFuzzerTestOneInput(const uint8_t *data, size_t size);
+int LLVMFuzzerTestOneInput(const uint8_t *data, size_t size) {
+    static walk w;
+    uint8_t c[CONTROL] = {0};
+    uint64_t answer[10], offset;
+    size_t held = size < CONTROL ? size : CONTROL;
+    memcpy(c, data, held);
+    const uint8_t *file = data + held;
+    size_t len = size - held;
+    if (len > FILE_MOST) return -1;
+    now_len = len;
+    inputs++;
+    turn = c[0] % PLACES;
+    size_t table_len = ((size_t)c[1] << 8 | c[2]) % 4096;
+    uint64_t pattern = (uint64_t)c[3] * UINT64_C(0x0101010101010101) ^ UINT64_C(0x9E3779B97F4A7C15);
+    memcpy(&offset, c + 4, 8);
+
+    walk_file(&w, file, len);
+    lend_file(file, len);
+    const uint8_t *files[PLACES] = {lent_file[END], lent_file[BEGIN], lent_file[HEAP]};
+    reading *peer = peer_open(file, len);
+
+    /* Tables: ample, exact, one number short, one row short, none, and the control bytes' own. */
+    size_t enough = 7 * peer_rows(peer);
+    read_twice(files, len, &w, enough + 1 + c[2] % 30, pattern, peer, answer);
+    by_number[answer[0]]++;
+    size_t at = answer[0] == ACCEPTED ? 0 : (size_t)answer[3];
+    int type = at < len ? type_index(file + at + 4, len - at < 4 ? 0 : len - at - 4) : 0;
+    COUNT(answers, (answer[0] * TYPES + (uint64_t)type) * FIELDS + answer[2]);
+    read_twice(files, len, &w, 0, pattern, peer, answer);
+    read_twice(files, len, &w, table_len, pattern, peer, answer);
+    if (enough) {
+        read_twice(files, len, &w, enough, pattern, peer, answer);
+        MUST(answer[0] == ACCEPTED, "accepted with ample room, not with exact: %" PRIu64, answer[0]);
+        read_twice(files, len, &w, enough - 1, pattern, peer, answer);
+        MUST(answer[0] == ROOM, "one number short: %" PRIu64, answer[0]);
+        read_twice(files, len, &w, enough - 7, pattern, peer, answer);
+        MUST(answer[0] == ROOM, "one row short: %" PRIu64, answer[0]);
+        COUNT(answers, ROOM * TYPES * FIELDS);
+    }
+    peer_close(peer);
+
+    /* Pictures: at length fields (every 52 among the first 400, the first 24 of any type), at the ends, near 2^64, and by the control bytes. */
+    picture_at(files, len, 0);
+    for (size_t i = 0; i <= w.count && i < 400; i++) {
+        size_t here = w.at[i];
+        if (i < 24 || (len - here >= 6 && file[here + 4] == '5' && file[here + 5] == '2')) picture_at(files, len, here);
+    }
+    for (uint64_t back = 0; back < 7; back++) {
+        picture_at(files, len, (uint64_t)len + 1 - back); /* also 2^64 - k for the shortest files */
+        picture_at(files, len, UINT64_MAX - back);
+    }
+    switch (c[12] % 6) {
+    case 0: break;
+    case 1: offset %= len + 8; break;
+    case 2: offset = UINT64_MAX - offset % (len + 300); break;
+    case 3: offset = (offset << 32) + w.at[offset % (w.count + 1)]; break;
+    case 4: offset = w.at[offset % (w.count + 1)] + offset % 7 - 3; break;
+    default: offset = (UINT64_C(1) << offset % 64) + offset / 64 % 9 - 4; break;
+    }
+    picture_at(files, len, offset);
+
+    /* Records alone: those the lengths lead to, and a stretch of the file. */
+    for (size_t i = 0; i < w.count && i < 40; i++) record_alone(file + w.at[i] + 4, told(file + w.at[i]));
+    size_t start = ((size_t)c[13] << 8 | c[14]) % (len + 1);
+    size_t most = len - start;
+    record_alone(file + start, c[15] < 200 && c[15] < most ? c[15] : most);
+
+    take_back(file, len);
+    if (c[0] % 64 == 5) with_long_tail(file, len, table_len, pattern, offset);
+    return 0;
+}
+
+/* ---- Start and end ---- */
+
+static size_t held_in(const uint8_t *from, size_t count) {
+    size_t held = 0;
+    for (size_t i = 0; i < count; i++) held += from[i];
+    return held;
+}
+
+static void report(void) {
+    const char *path = getenv("X9FUZZ_STATS");
+    FILE *to = path ? fopen(path, "a") : stderr;
+    if (!to) return;
+    fprintf(to, "inputs %" PRIu64 " reads %" PRIu64 " pictures %" PRIu64 " records %" PRIu64 " long_reads %" PRIu64, inputs, reads, pictures,
+            records, long_reads);
+    for (int i = 0; i < NUMBERS; i++) fprintf(to, " n%d %" PRIu64, i, by_number[i]);
+    fprintf(to, " answers %zu alone %zu picture_answers %zu blocks %zu of %zu\n", held_in(seen.answers, ANSWERS),
+            held_in(seen.records, ANSWERS), held_in(seen.pictures, NUMBERS * FIELDS), held_in(seen.blocks, BLOCKS_MOST), block_count);
+    path = getenv("X9FUZZ_UNREACHED");
+#ifndef REPLAY
+    if (path) {
+        FILE *list = fopen(path, "w");
+        for (size_t i = 0; list && i < block_count; i++)
+            if (!seen.blocks[i]) fprintf(list, "%td\n", blocks[i].at - (uint8_t *)(uintptr_t)&x9_read);
+        if (list) fclose(list);
+    }
+#endif
+    if (to != stderr) fclose(to);
+}
+
+static void begin(void) {
+    make_regions();
+    peer_setup();
+    atexit(report);
+}
+
+#ifdef REPLAY
+/* Without a fuzzer and without AddressSanitizer: each file named is put through once. For valgrind. */
+int main(int count, char **names) {
+    static uint8_t data[CONTROL + FILE_MOST];
+    begin();
+    for (int i = 1; i < count; i++) {
+        FILE *from = fopen(names[i], "rb");
+        if (!from) {
+            perror(names[i]);
+            return 2;
+        }
+        size_t size = fread(data, 1, sizeof data, from);
+        fclose(from);
+        LLVMFuzzerTestOneInput(data, size);
+    }
+    return 0;
+}
+#else
+size_t LLVMFuzzerMutate(uint8_t *data, size_t size, size_t max);
+size_t peer_mutate(uint8_t *data, size_t size, size_t max, unsigned seed, size_t (*bytewise)(uint8_t *, size_t, size_t));
+size_t peer_cross(const uint8_t *one, size_t one_size, const uint8_t *two, size_t two_size, uint8_t *out, size_t max, unsigned seed);
+
+int LLVMFuzzerInitialize(int *argc, char ***argv);
+int LLVMFuzzerInitialize(int *argc, char ***argv) {
+    const char *list = getenv("X9FUZZ_BLOCKS");
+    (void)argc, (void)argv;
+    begin();
+    if (list) arm_blocks(list);
+    return 0;
+}
+
+size_t LLVMFuzzerCustomMutator(uint8_t *data, size_t size, size_t max, unsigned seed);
+size_t LLVMFuzzerCustomMutator(uint8_t *data, size_t size, size_t max, unsigned seed) {
+    return peer_mutate(data, size, max, seed, LLVMFuzzerMutate);
+}
+
+size_t LLVMFuzzerCustomCrossOver(const uint8_t *one, size_t one_size, const uint8_t *two, size_t two_size, uint8_t *out, size_t max,
+                                 unsigned seed);
+size_t LLVMFuzzerCustomCrossOver(const uint8_t *one, size_t one_size, const uint8_t *two, size_t two_size, uint8_t *out, size_t max,
+                                 unsigned seed) {
+    return peer_cross(one, one_size, two, two_size, out, max, seed);
+}
+#endif
