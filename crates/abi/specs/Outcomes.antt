@@ -7,20 +7,22 @@ use Rattle.kind.specs.Alone as alone
 use Rattle.picture.specs.Picture.{pictureAt, bytesOf}
 use Rattle.picture.specs.Picture as picture
 use Rattle.picture.specs.declared.Found.{Found}
-use Rattle.reader.specs.Answers.{answerNumber, numbersOf}
-use Rattle.reader.specs.Reading.{answerOf, tableOf}
-use Rattle.reader.specs.declared.Answer.{Answer}
+use Rattle.reading.specs.Answers.{answerNumber, numbersOf}
+use Rattle.reading.specs.Reading.{answerOf, tableOf}
+use Rattle.reading.specs.declared.Answer.{Answer}
+use Rattle.arrangement.specs.Arranged.{Arranged}
 use Rattle.abi.specs.Answers.{placeOf, judgementOf}
 
 -- two things that are equal to a third
 one : {A : Type 0} {x y z : A} → x ≡ z → y ≡ z → x ≡ y
 one e q = e ∙ sym q
 
--- x9_read: the number, the table afterwards, the ten numbers
+-- x9_read: the number, the table afterwards, the ten numbers, and what they say of the file's arrangement
 pub record Reading (file table : List ℕ) (n : ℕ) (after numbers : List ℕ) : Type 0 where
   pub number : n ≡ answerNumber (answerOf file (length table))
   pub rows : after ≡ tableOf file table
   pub answer : numbers ≡ numbersOf (length file) (answerOf file (length table))
+  pub arranged : Arranged file table (answerOf file (length table)) after
 
 pub one-reading : (file table : List ℕ) {n m : ℕ} {after later answer other : List ℕ}
     → Reading file table n after answer → Reading file table m later other → (n ≡ m) × (after ≡ later) × (answer ≡ other)

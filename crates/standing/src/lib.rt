@@ -194,13 +194,21 @@ fn newest(found: bool, figure: u64, older: u64) -> u64
     if found { figure } else { older }
 }
 
+// A view, whether or not it holds image bytes.
+fn views_at(file: &[u8], kind: u64, offset: usize) -> u64
+    ensures { λ r. ⌜ (r ≡ one (eqb kind 50)) × (r ≤ 1) ⌝ }
+{
+    let counts = kind == 50;
+    one_if(counts)
+}
+
 // What one record adds to the sums of each level.
 fn added_at(file: &[u8], kind: u64, offset: usize) -> Sums
     ensures { λ r. ⌜ (r ≡ adds (now (file .entry)) kind offset) × Small r ⌝ }
 {
     let items = one_if(order::is_item(kind));
     let cents = amount_at(file, kind, offset);
-    let views = one_if(kind == 50);
+    let views = views_at(file, kind, offset);
     Sums {
         items: Items(items),
         debit: Cents(cents),

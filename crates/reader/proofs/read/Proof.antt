@@ -1,14 +1,9 @@
-use mathlib.Core.Path.{_≡_, refl, sym, _∙_, ap}
+use mathlib.Core.Path.{sym, _∙_}
 use denote.Ref.{now}
-use Prim.Native.Nat.{ℕ, _+_, _-_, _≤_, _<_}
+use Prim.Native.Nat.{_-_}
 use native.Mathlib.Omega.{arith}
-use lib.Dec.{eqb}
-use lib.ListN.{length, drop, length-set}
-use borrow.Author.Tests.{eq-eqb, ne-eqb, not-true, not-false, lt-leb, le-leb}
-use Rattle.frame.specs.Frames.{frameAt}
-use Rattle.reader.specs.Order.{agreement, turnOf}
-use Rattle.reader.specs.Reading.{stepOf, endedWith, surveyed, answerOf, tableOf}
-use Rattle.reader.proofs.Passes.{accepted-small}
+use Rattle.reading.proofs.Passes.{accepted-small}
+use Rattle.reader.proofs.Laws.{no-room, rows-filled, refused}
 use borrow.Author.Needs.{needs}
 use Rattle.reader.proofs.read.Statement.{statement}
 use Rattle.reader.proofs.read.Tie as tie
@@ -20,8 +15,8 @@ enum-known-answer : tie.Need-enum-known-answer
 enum-known-answer c = search needs
 
 returns : tie.Need-returns
-unfolding answerOf tableOf
-returns c = (simp ((sym (c .before .before .before .before .survey .ensures .0) ∙ c .before .before .answer .given .1), lt-leb _ _ (c .if1 .taken)), simp ((sym (c .before .before .before .before .survey .ensures .0) ∙ c .before .before .answer .given .1), lt-leb _ _ (c .if1 .taken)))
+returns c =
+    no-room (now (c .before .before .before .before .before .before .before .args .file)) (now (c .before .before .before .before .before .before .before .args .table)) (λ i. omega (arith, c .before .before .before .before .before .before .shared-slice-known .given i)) _ (sym (c .before .before .before .before .survey .ensures .0) ∙ c .before .before .answer .given .1) (c .if1 .taken)
 
 fill-requires : tie.Need-fill-requires
 fill-requires c κs = let g = rw (c .before .before .before .answer .given .1) at (c .before .before .before .before .before .survey .ensures .1) in (accepted-small (now (c .before .before .before .before .before .before .before .before .args .file)) _ (sym (c .before .before .before .before .before .survey .ensures .0) ∙ c .before .before .before .answer .given .1), omega (arith, g))
@@ -33,12 +28,12 @@ same-length : tie.Need-same-length
 same-length c = search needs
 
 returns-2 : tie.Need-returns-2
-unfolding answerOf tableOf
-returns-2 c = (simp ((sym (c .before .before .before .before .before .before .before .before .survey .ensures .0) ∙ c .before .before .before .before .before .before .answer .given .1), le-leb _ _ (c .before .before .before .before .if1 .left)), c .before .before .fill .ensures ∙ sym (simp ((sym (c .before .before .before .before .before .before .before .before .survey .ensures .0) ∙ c .before .before .before .before .before .before .answer .given .1), le-leb _ _ (c .before .before .before .before .if1 .left))))
+returns-2 c =
+    rows-filled (now (c .before .before .before .before .before .before .before .before .before .before .before .args .file)) (now (c .before .before .before .before .before .before .before .before .before .before .before .args .table)) (λ i. omega (arith, c .before .before .before .before .before .before .before .before .before .before .shared-slice-known .given i)) _ _ (sym (c .before .before .before .before .before .before .before .before .survey .ensures .0) ∙ c .before .before .before .before .before .before .answer .given .1) (c .before .before .before .before .if1 .left) (c .before .before .fill .ensures)
 
 returns-3 : tie.Need-returns-3
-unfolding answerOf tableOf
-returns-3 c = let e = sym (c .before .before .survey .ensures .0) ∙ c .enum-told .given .1 in (c .enum-told .given .1 ∙ sym (simp e), sym (simp e))
+returns-3 c =
+    refused (now (c .before .before .before .before .before .args .file)) (now (c .before .before .before .before .before .args .table)) (λ i. omega (arith, c .before .before .before .before .shared-slice-known .given i)) _ _ _ _ (c .before .before .survey .ensures .0) (c .enum-told .given .1)
 
 pub read-spec : {M : Type 1} → statement M
 read-spec =

@@ -20,13 +20,13 @@ one-if-requires c κs = search needs
 amount-at-requires : tie.Need-amount-at-requires
 amount-at-requires c κs = search needs
 
-one-if-requires-2 : tie.Need-one-if-requires-2
-one-if-requires-2 c κs = search needs
+views-at-requires : tie.Need-views-at-requires
+views-at-requires c κs = search needs
 
 returns : tie.Need-returns
-returns c = (rw (c .before .before .one-if .ensures .0, c .one-if2 .ensures .0, c .before .amount-at .ensures .0, c .before .before .before .is-item .ensures), record { items = omega (arith, c .before .before .one-if .ensures .1); debit = omega (arith, c .before .amount-at .ensures .1); views = omega (arith, c .one-if2 .ensures .1) })
+returns c = (rw (c .before .before .one-if .ensures .0, c .views-at .ensures .0, c .before .amount-at .ensures .0, c .before .before .before .is-item .ensures), record { items = omega (arith, c .before .before .one-if .ensures .1); debit = omega (arith, c .before .amount-at .ensures .1); views = omega (arith, c .views-at .ensures .1) })
 
 pub added-at-spec : {M : Type 1} → statement M
 added-at-spec =
     tie.close
-    (tie.spec is-item-requires one-if-requires amount-at-requires one-if-requires-2 returns)
+    (tie.spec is-item-requires one-if-requires amount-at-requires views-at-requires returns)

@@ -1,0 +1,13 @@
+pub mod Rightness
+pub mod Figures
+pub mod Sums
+pub mod Places
+pub mod Levels
+pub mod Turns
+pub mod Within
+pub mod Soundness
+pub mod Making
+pub mod Goodness
+pub mod Unique
+pub mod Shape
+pub mod Theorem

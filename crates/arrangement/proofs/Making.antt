@@ -1,0 +1,116 @@
+-- What makes a record of each type good behind others: the record right, what it may follow, and figures of the others. Assumes nothing.
+use Prim.Native.Nat.{ℕ, _≤_}
+use mathlib.Core.Bool.{Bool, true, false, _||_}
+use mathlib.Core.Logic.{_⊎_, inl, inr}
+use mathlib.Core.Path.{_≡_, refl, sym, ap, _∙_}
+use mathlib.Core.List.{List, [], _∷_}
+use lib.Dec.{eqb}
+use borrow.Author.Tests.{le-leb, eq-eqb, ne-eqb}
+use Rattle.kind.specs.Layout.{Kind}
+use Rattle.kind.specs.Kinds.{bundleHeader, checkDetail, returnRecord, imageViewDetail, imageViewData, bundleControl, cashLetterControl, fileControl}
+use Rattle.order.specs.Order.{isAddendum, isOneOf, mayFollow, follows, oneKind, isCarried}
+use Rattle.agree.specs.Links.{addendaKept, annexB}
+use Rattle.framing.specs.Framed.{Body}
+use Rattle.framing.proofs.Good.{Good, AllHold, linkChecks, totalChecks, numberedAs, viewChecks, bundleChecks, letterChecks, fileChecks, is, statedIn, addendaIn, shownIn, openedIn, indicatorIn, itemsSince, lastIn, presentIn}
+use Rattle.arrangement.specs.Sound.{N, E, Right, kindIn}
+use Rattle.arrangement.specs.Tree.{Addenda, ofCheck, ofReturn}
+use Rattle.arrangement.proofs.Rightness.{Known, right-out, known-20, known-25, known-31, known-50, known-52, known-70, known-90, known-99}
+use Rattle.arrangement.proofs.Turns.{of-type, not-both, differs, seen-out, filled-out, Settled, Viewed}
+
+-- the types that may all follow one
+abbrev pub Allow : List ℕ → ℕ → Type 0
+Allow [] last = Unit {0}
+Allow (t ∷ ts) last = (follows last t ≡ true) × Allow ts last
+
+-- of any kind: at a kind written out, the checks compute to those of its type
+module _ (k : Kind) (known : Known k) (past : List Body) (b : Body) where
+  made : Right k b → isCarried (k .typeNumber) ≡ true → follows (lastIn past) (k .typeNumber) ≡ true
+      → oneKind (presentIn past) (k .typeNumber) ≡ true → AllHold (linkChecks (k .typeNumber) past b)
+      → AllHold (totalChecks (k .typeNumber) past b) → Good past b
+  unfolding mayFollow
+  made r c f o l s =
+      of-type (k .typeNumber) past b (r .type)
+      (record { carried = c; follows = rw (f, o) refl; alone = right-out k b known r; links = l; sums = s })
+
+-- the types with checks beside those of addenda and record numbers
+abbrev pub checked : List ℕ
+checked = 20 ∷ 25 ∷ 31 ∷ 50 ∷ 52 ∷ 70 ∷ 90 ∷ 99 ∷ []
+
+unlike : (t n : ℕ) (us : List ℕ) → isOneOf t us ≡ false → isOneOf n us ≡ true → eqb t n ≡ false
+unlike t n us o m = ne-eqb t n (λ e. not-both (sym o ∙ ap (λ (u : ℕ). isOneOf u us) e ∙ m))
+
+-- of a kind without such checks, left open so that one law serves a run of any addenda; a kind written out has both facts by `refl`
+module _ (k : Kind) (known : Known k) (c : isCarried (k .typeNumber) ≡ true) (o : isOneOf (k .typeNumber) checked ≡ false)
+    (past : List Body) (b : Body) where
+  pub made-plain : Right k b → follows (lastIn past) (k .typeNumber) ≡ true → addendaKept (k .typeNumber) (statedIn past) (addendaIn past) ≡ true
+      → numberedAs (k .typeNumber) past b ≡ true → Good past b
+  unfolding annexB
+  made-plain r f a n =
+      let t = k .typeNumber in
+      let not-20 = unlike t 20 checked o refl in
+      let not-25 = unlike t 25 checked o refl in
+      let not-31 = unlike t 31 checked o refl in
+      let not-50 = unlike t 50 checked o refl in
+      let not-52 = unlike t 52 checked o refl in
+      let not-70 = unlike t 70 checked o refl in
+      let not-90 = unlike t 90 checked o refl in
+      let not-99 = unlike t 99 checked o refl in
+      made k known past b r c f (simp (not-25, not-31)) (a, (simp (not-20, not-25, not-31, not-50, not-70, not-90), (n, simp not-52 tt)))
+      (simp (not-70, not-90, not-99) tt)
+
+pub settled-kept : (t : ℕ) (past : List Body) → isAddendum t ≡ false → Settled past → addendaKept t (statedIn past) (addendaIn past) ≡ true
+unfolding addendaKept
+settled-kept t past n s = rw (n, le-leb (statedIn past) (addendaIn past) s) refl
+
+module _ (past : List Body) (b : Body) where
+  pub made-20 : Right bundleHeader b → follows (lastIn past) 20 ≡ true → Settled past → (indicatorIn past ≡ N → ⊥) → Good past b
+  unfolding isCarried annexB
+  made-20 r f s n =
+      made bundleHeader known-20 past b r refl f refl
+      (settled-kept 20 past refl s, (rw (differs (indicatorIn past) N n) refl, (refl, tt))) tt
+
+  pub made-50 : Right imageViewDetail b → follows (lastIn past) 50 ≡ true → Settled past → (indicatorIn past ≡ E → ⊥) → Good past b
+  unfolding isCarried annexB
+  made-50 r f s n =
+      made imageViewDetail known-50 past b r refl f refl
+      (settled-kept 50 past refl s, (rw (differs (indicatorIn past) E n) refl, (refl, tt))) tt
+
+  pub made-52 : Right imageViewData b → follows (lastIn past) 52 ≡ true → Settled past → AllHold (viewChecks past b) → Good past b
+  unfolding isCarried annexB
+  made-52 r f s v = made imageViewData known-52 past b r refl f refl (settled-kept 52 past refl s, (refl, (refl, v))) tt
+
+  pub made-70 : Right bundleControl b → follows (lastIn past) 70 ≡ true → Settled past → Viewed past → AllHold (bundleChecks past b) → Good past b
+  unfolding isCarried annexB
+  made-70 r f s v c =
+      made bundleControl known-70 past b r refl f refl
+      (settled-kept 70 past refl s, (rw (seen-out (indicatorIn past) (itemsSince (is 20) past) (shownIn past) v) refl, (refl, tt))) c
+
+  pub made-90 : Right cashLetterControl b → follows (lastIn past) 90 ≡ true → Settled past → (indicatorIn past ≡ N) ⊎ (1 ≤ openedIn past)
+      → AllHold (letterChecks past b) → Good past b
+  unfolding isCarried annexB
+  made-90 r f s n c =
+      made cashLetterControl known-90 past b r refl f refl
+      (settled-kept 90 past refl s, (filled-out (indicatorIn past) (openedIn past) n, (refl, tt))) c
+
+  pub made-99 : Right fileControl b → follows (lastIn past) 99 ≡ true → Settled past → AllHold (fileChecks past b) → Good past b
+  unfolding isCarried annexB
+  made-99 r f s c = made fileControl known-99 past b r refl f refl (settled-kept 99 past refl s, (refl, (refl, tt))) c
+
+one-kind : (p t : ℕ) → (p ≡ 0) ⊎ (p ≡ t) → eqb p 0 || eqb p t ≡ true
+one-kind p t (inl e) = rw (eq-eqb p 0 e) refl
+one-kind p t (inr e) = rw (eq-eqb p t e) (either (eqb p 0))
+  where
+    either : (x : Bool) → x || true ≡ true
+    either true = refl
+    either false = refl
+
+-- an item's first record
+pub made-item : (a : Addenda) (d : Body) (past : List Body) → Right (kindIn a) d → follows (lastIn past) (kindIn a .typeNumber) ≡ true → Settled past
+    → Viewed past → (presentIn past ≡ 0) ⊎ (presentIn past ≡ kindIn a .typeNumber) → Good past d
+unfolding isCarried annexB
+made-item (ofCheck a b c) d past r f s v p =
+    made checkDetail known-25 past d r refl f (one-kind (presentIn past) 25 p)
+    (settled-kept 25 past refl s, (rw (seen-out (indicatorIn past) (itemsSince (is 20) past) (shownIn past) v) refl, (refl, tt))) tt
+made-item (ofReturn a b c e) d past r f s v p =
+    made returnRecord known-31 past d r refl f (one-kind (presentIn past) 31 p)
+    (settled-kept 31 past refl s, (rw (seen-out (indicatorIn past) (itemsSince (is 20) past) (shownIn past) v) refl, (refl, tt))) tt

@@ -1,0 +1,176 @@
+-- Records whose types follow one another are an arrangement, written out, and never two. Assumes nothing.
+use Prim.Native.Nat.{ℕ}
+use native.Mathlib.Omega.{arith}
+use mathlib.Core.Path.{_≡_, refl}
+use mathlib.Core.List.{List, [], _∷_, _++_}
+use mathlib.Core.Option.{none, some}
+use mathlib.Core.Bool.{Bool, true, false, _||_}
+use lib.Dec.{eqb}
+use borrow.Author.Tests.{eqb-true}
+use Rattle.kind.specs.Alone.{typeOf}
+use Rattle.order.specs.Order.{After, table, follows, isOneOf, inTable, pickBool}
+use Rattle.framing.specs.Framed.{Body}
+use Rattle.arrangement.specs.Tree.{ofCheck, ofReturn, File}
+use Rattle.arrangement.specs.Written.{optionalThen, viewsThen, itemsThen, bundlesThen, lettersThen, records}
+use Rattle.arrangement.specs.Sound.{All, IfAny}
+use Rattle.arrangement.specs.Kinds.{OfType, KindsView, KindsItem, KindsBundle, KindsLetter, Kinds}
+pub use Rattle.arrangement.proofs.Unique.{one-shape}
+
+-- types that follow one another, to the 99
+abbrev pub Chain : ℕ → List Body → Type 0
+Chain last [] = last ≡ 99
+Chain last (b ∷ bs) = (follows last (typeOf b) ≡ true) × Chain (typeOf b) bs
+
+-- what is said of a list of records, here: that it is the rest of an arrangement from some place on, written out
+abbrev Shape : Type 1
+Shape = List Body → Type 0
+
+-- a part, written out, and the rest after it
+data Then {A : Type 0} (Ok : A → Type 0) (write : A → List Body → List Body) (Rest : Shape) : List Body → Type 0 where
+  then : (x : A) (r : List Body) → Ok x → Rest r → Then Ok write Rest (write x r)
+
+abbrev One : ℕ → Shape → Shape
+One t Rest = Then (OfType t) _∷_ Rest
+
+abbrev Perhaps : ℕ → Shape → Shape
+Perhaps t Rest = Then (IfAny (OfType t)) optionalThen Rest
+
+abbrev Several : ℕ → Shape → Shape
+Several t Rest = Then (All (OfType t)) _++_ Rest
+
+abbrev Nothing : Shape
+Nothing bs = bs ≡ []
+
+abbrev Letters : Shape
+Letters = Then (All KindsLetter) lettersThen (One 99 Nothing)
+
+abbrev Bundles : Shape
+Bundles = Then (All KindsBundle) bundlesThen (One 90 Letters)
+
+abbrev Items : Shape
+Items = Then (All KindsItem) itemsThen (One 70 Bundles)
+
+abbrev Views : Shape
+Views = Then (All KindsView) viewsThen Items
+
+abbrev Image : Shape
+Image = One 52 (Perhaps 54 Views)
+
+abbrev OfCheck : Shape
+OfCheck = Several 26 (Perhaps 27 (Several 28 Views))
+
+abbrev OfReturn : Shape
+OfReturn = Several 32 (One 33 (Perhaps 34 (Several 35 Views)))
+
+abbrev pickShape : Bool → Shape → Shape → Shape
+pickShape true a b = a
+pickShape false a b = b
+
+-- the rest after a record of a type; 0 is the start
+abbrev Rest : ℕ → Shape
+Rest t =
+    pickShape (eqb t 0) (One 1 Letters)
+    (pickShape (isOneOf t (1 ∷ 90 ∷ [])) Letters
+    (pickShape (isOneOf t (10 ∷ 70 ∷ [])) Bundles
+    (pickShape (eqb t 20) Items
+    (pickShape (isOneOf t (25 ∷ 26 ∷ [])) OfCheck
+    (pickShape (isOneOf t (27 ∷ 28 ∷ [])) (Several 28 Views)
+    (pickShape (isOneOf t (31 ∷ 32 ∷ [])) OfReturn
+    (pickShape (eqb t 33) (Perhaps 34 (Several 35 Views))
+    (pickShape (isOneOf t (34 ∷ 35 ∷ [])) (Several 35 Views)
+    (pickShape (eqb t 50) Image
+    (pickShape (eqb t 52) (Perhaps 54 Views)
+    (pickShape (eqb t 54) Views Nothing)))))))))))
+
+-- with a record of the type t before it, a P is a Q
+abbrev Before : ℕ → Shape → Shape → Type 0
+Before t P Q = (b : Body) (bs : List Body) → OfType t b → P bs → Q (b ∷ bs)
+
+module _ {t : ℕ} {P : Shape} where
+  one : Before t P (One t P)
+  one b bs h x = then b bs h x
+
+  perhaps : Before t P (Perhaps t P)
+  perhaps b bs h x = then (some b) bs h x
+
+  several : Before t (Several t P) (Several t P)
+  several b bs h (then xs r hs x) = then (b ∷ xs) r (h, hs) x
+
+  not-any : (bs : List Body) → P bs → Perhaps t P bs
+  not-any bs x = then none bs tt x
+
+  no-more : (bs : List Body) → P bs → Several t P bs
+  no-more bs x = then [] bs tt x
+
+no-view : (bs : List Body) → Items bs → Views bs
+no-view bs x = then [] bs tt x
+
+view : Before 50 Image Views
+view b bs h (then i _ hi (then a _ ha (then vs r hs x))) = then (record { detail = b; image = i; analysis = a } ∷ vs) r ((h, hi, ha), hs) x
+
+check : Before 25 OfCheck Items
+check b bs h (then xs _ hx (then o _ ho (then cs _ hc (then vs _ hv (then is r hs x))))) =
+    then (record { detail = b; addenda = ofCheck xs o cs; views = vs } ∷ is) r ((h, (hx, ho, hc), hv), hs) x
+
+return : Before 31 OfReturn Items
+return b bs h (then xs _ hx (then s _ hb (then o _ ho (then ds _ hd (then vs _ hv (then is r hs x)))))) =
+    then (record { detail = b; addenda = ofReturn xs s o ds; views = vs } ∷ is) r ((h, (hx, hb, ho, hd), hv), hs) x
+
+bundle : Before 20 Items Bundles
+bundle b bs h (then is _ hi (then c _ hc (then us r hs x))) = then (record { header = b; items = is; control = c } ∷ us) r ((h, hi, hc), hs) x
+
+letter : Before 10 Bundles Letters
+letter b bs h (then us _ hu (then c _ hc (then ls r hs x))) = then (record { header = b; bundles = us; control = c } ∷ ls) r ((h, hu, hc), hs) x
+
+bundle-end : Before 70 Bundles Items
+bundle-end b bs h x = then [] (b ∷ bs) tt (then b bs h x)
+
+letter-end : Before 90 Letters Bundles
+letter-end b bs h x = then [] (b ∷ bs) tt (then b bs h x)
+
+file-end : Before 99 Nothing Letters
+file-end b bs h x = then [] (b ∷ bs) tt (then b bs h x)
+
+-- `All` as data: `search` builds it in one call, where it takes the product `All` apart too dearly
+data Each {A : Type 0} (P : A → Type 0) : List A → Type 0 where
+  end : Each P []
+  and : {x : A} {xs : List A} → P x → Each P xs → Each P (x ∷ xs)
+
+ruleset steps = (one, perhaps, several, not-any, no-more, no-view, view, check, return, bundle, letter, bundle-end, letter-end, file-end, end, and)
+
+-- each entry of the table leads from the rest after the later type to the rest after the earlier
+table-kept : (b : Body) (bs : List Body) →
+    Each (λ (line : After). Each (λ (t : ℕ). OfType t b → Rest t bs → Rest (line .last) (b ∷ bs)) (line .next)) table
+table-kept b bs = search steps depth 40 fits 4000
+
+or-picks : {R : Type 0} (c d : Bool) → c || d ≡ true → (c ≡ true → R) → (d ≡ true → R) → R
+or-picks true d f g h = g refl
+or-picks false d f g h = h f
+
+pick-picks : {R : Type 0} (c d e : Bool) → pickBool c d e ≡ true → (c ≡ true → d ≡ true → R) → (e ≡ true → R) → R
+pick-picks true d e f g h = g refl f
+pick-picks false d e f g h = h f
+
+of-list : (P : ℕ → Type 0) (t : ℕ) (ts : List ℕ) → Each P ts → isOneOf t ts ≡ true → P t
+of-list P t [] e f = let z : _≡_ {A = ℕ} 0 1 = cc in absurd (omega arith)
+of-list P t (u ∷ us) (and p e) f = or-picks (eqb t u) (isOneOf t us) f (λ h. rw (eqb-true t u h) p) (of-list P t us e)
+
+of-table : (P : ℕ → ℕ → Type 0) (last t : ℕ) (lines : List After) → Each (λ (line : After). Each (P (line .last)) (line .next)) lines →
+    inTable lines last t ≡ true → P last t
+of-table P last t [] e f = let z : _≡_ {A = ℕ} 0 1 = cc in absurd (omega arith)
+of-table P last t (line ∷ lines) (and p e) f = pick-picks (eqb last (line .last)) (isOneOf t (line .next)) (inTable lines last t) f
+    (λ h g. rw (eqb-true last (line .last) h) (of-list (P (line .last)) t (line .next) p g)) (of-table P last t lines e)
+
+rest : (bs : List Body) (last : ℕ) → Chain last bs → Rest last bs
+unfolding follows
+rest [] last c = rw c refl
+rest (b ∷ bs) last c =
+    of-table (λ (l t : ℕ). OfType t b → Rest t bs → Rest l (b ∷ bs)) last (typeOf b) table (table-kept b bs) (c .0)
+    refl (rest bs (typeOf b) (c .1))
+
+whole : (bs : List Body) → One 1 Letters bs → (x : File) × (records x ≡ bs) × Kinds x
+whole bs (then h _ hh (then ls _ hl (then c r hc e))) = (record { header = h; letters = ls; control = c }, rw e refl, (hh, hl, hc))
+
+-- records whose types follow one another are an arrangement, written out
+pub shape-of : (bs : List Body) → Chain 0 bs → (x : File) × (records x ≡ bs) × Kinds x
+shape-of bs c = whole bs (rest bs 0 c)

@@ -1,0 +1,188 @@
+-- What a good record of each type says, in figures of the records before it, and the other way round. Assumes nothing.
+use Prim.Native.Nat.{ℕ, _≤_, _<_}
+use native.Mathlib.Omega.{arith}
+use mathlib.Core.Bool.{Bool, true, false, _&&_, _||_, not}
+use mathlib.Core.Logic.{_⊎_, inl, inr}
+use mathlib.Core.Path.{_≡_, refl, sym, subst}
+use mathlib.Core.List.{List, [], _∷_}
+use lib.Dec.{leb, eqb}
+use borrow.Author.Tests.{leb-true, le-leb, ltb-true, eqb-true, eq-eqb, ne-eqb, eqb-false}
+use Rattle.kind.specs.Alone.{typeOf}
+use Rattle.order.specs.Order.{isItem, isAddendum, mayFollow, follows, oneKind}
+use Rattle.agree.specs.Links.{same, addendaKept, annexB}
+use Rattle.framing.specs.Framed.{Body}
+use Rattle.framing.proofs.Good.{Good, GoodAs, is, statedIn, addendaIn, shownIn, openedIn, indicatorIn, itemsSince, lastIn, presentIn}
+use Rattle.arrangement.specs.Sound.{N, E, I, F}
+use Rattle.arrangement.proofs.Rightness.{both}
+
+-- byte by byte
+pub same-in : (xs ys : List ℕ) → same xs ys ≡ true → xs ≡ ys
+same-in [] [] e = refl
+same-in [] (y ∷ ys) e = cc
+same-in (x ∷ xs) [] e = cc
+same-in (x ∷ xs) (y ∷ ys) e =
+    let p = both (eqb x y) (same xs ys) e in
+    let h = eqb-true x y (p .0) in
+    let t = same-in xs ys (p .1) in
+    cc
+
+pub same-self : (xs : List ℕ) → same xs xs ≡ true
+same-self [] = refl
+same-self (x ∷ xs) = rw (eq-eqb x x refl) (same-self xs)
+
+pub same-out : (xs ys : List ℕ) → xs ≡ ys → same xs ys ≡ true
+same-out xs ys e = subst (λ (zs : List ℕ). same xs zs ≡ true) e (same-self xs)
+
+-- "not blank if .. is 1"
+signed-bools : (a b : Bool) → not a || not b ≡ true → a ≡ true → b ≡ false
+signed-bools true true e h = sym e
+signed-bools true false e h = refl
+signed-bools false b e h = cc
+
+pub signed-in : (n : ℕ) (blank : Bool) → not (eqb n 1) || not blank ≡ true → n ≡ 1 → blank ≡ false
+signed-in n blank e h = signed-bools (eqb n 1) blank e (eq-eqb n 1 h)
+
+signed-cases : (a b : Bool) → (a ≡ true → b ≡ false) → not a || not b ≡ true
+signed-cases true b h = rw (h refl)
+signed-cases false b h = refl
+
+pub signed-out : (n : ℕ) (blank : Bool) → (n ≡ 1 → blank ≡ false) → not (eqb n 1) || not blank ≡ true
+signed-out n blank h = signed-cases (eqb n 1) blank (λ e. h (eqb-true n 1 e))
+
+-- tests of Annex B
+pub not-both : false ≡ true → ⊥
+not-both e = let z : _≡_ {A = ℕ} 0 1 = cc in omega arith
+
+pub unequal : (x y : ℕ) → not (eqb x y) ≡ true → x ≡ y → ⊥
+unequal x y e h = not-both (rw (eq-eqb x y h) at e)
+
+pub differs : (x y : ℕ) → (x ≡ y → ⊥) → not (eqb x y) ≡ true
+differs x y h = rw (ne-eqb x y h)
+
+either-in : (a b : Bool) → a || b ≡ true → (a ≡ true) ⊎ (b ≡ true)
+either-in true b e = inl refl
+either-in false b e = inr e
+
+abbrev pub Seen : ℕ → ℕ → ℕ → Type 0
+Seen indicator items shown = (indicator ≡ I) ⊎ (indicator ≡ F) → 1 ≤ items → 1 ≤ shown
+
+seen-bools : (a b c d : Bool) → not ((a || b) && (c && d)) ≡ true → (a ≡ true) ⊎ (b ≡ true) → c ≡ true → d ≡ false
+seen-bools true b true true e h k = sym e
+seen-bools true b true false e h k = refl
+seen-bools true b false d e h k = cc
+seen-bools false true true true e h k = sym e
+seen-bools false true true false e h k = refl
+seen-bools false true false d e h k = cc
+seen-bools false false c d e (inl h) k = cc
+seen-bools false false c d e (inr h) k = cc
+
+zero-or : (n : ℕ) → eqb n 0 ≡ false → 1 ≤ n
+zero-or n e = omega (arith, eqb-false n 0 e)
+
+either-tests : (i : ℕ) → (i ≡ I) ⊎ (i ≡ F) → (eqb i I ≡ true) ⊎ (eqb i F ≡ true)
+either-tests i (inl e) = inl (eq-eqb i I e)
+either-tests i (inr e) = inr (eq-eqb i F e)
+
+seen-in : (i items shown : ℕ) → not ((eqb i I || eqb i F) && (leb 1 items && eqb shown 0)) ≡ true → Seen i items shown
+seen-in i items shown e =
+    λ h k. zero-or shown (seen-bools (eqb i I) (eqb i F) (leb 1 items) (eqb shown 0) e (either-tests i h) (le-leb 1 items k))
+
+seen-cases : (a b c d : Bool) → ((a ≡ true) ⊎ (b ≡ true) → c ≡ true → d ≡ false) → not ((a || b) && (c && d)) ≡ true
+seen-cases true b true d h = rw (h (inl refl) refl)
+seen-cases true b false d h = refl
+seen-cases false true true d h = rw (h (inr refl) refl)
+seen-cases false true false d h = refl
+seen-cases false false c d h = refl
+
+tests-either : (i : ℕ) → (eqb i I ≡ true) ⊎ (eqb i F ≡ true) → (i ≡ I) ⊎ (i ≡ F)
+tests-either i (inl e) = inl (eqb-true i I e)
+tests-either i (inr e) = inr (eqb-true i F e)
+
+not-zero : (n : ℕ) → 1 ≤ n → eqb n 0 ≡ false
+not-zero n h = ne-eqb n 0 (λ e. omega (arith, h, e))
+
+pub seen-out : (i items shown : ℕ) → Seen i items shown → not ((eqb i I || eqb i F) && (leb 1 items && eqb shown 0)) ≡ true
+seen-out i items shown s =
+    seen-cases (eqb i I) (eqb i F) (leb 1 items) (eqb shown 0)
+    (λ h k. not-zero shown (s (tests-either i h) (leb-true 1 items k)))
+
+filled-bools : (a b : Bool) → not (not a && b) ≡ true → (a ≡ true) ⊎ (b ≡ false)
+filled-bools true b e = inl refl
+filled-bools false true e = inr (sym e)
+filled-bools false false e = inr refl
+
+filled-in : (i opened : ℕ) → not (not (eqb i N) && eqb opened 0) ≡ true → (i ≡ N) ⊎ (1 ≤ opened)
+filled-in i opened e = turn (filled-bools (eqb i N) (eqb opened 0) e)
+  where
+    turn : (eqb i N ≡ true) ⊎ (eqb opened 0 ≡ false) → (i ≡ N) ⊎ (1 ≤ opened)
+    turn (inl h) = inl (eqb-true i N h)
+    turn (inr h) = inr (zero-or opened h)
+
+pub filled-out : (i opened : ℕ) → (i ≡ N) ⊎ (1 ≤ opened) → not (not (eqb i N) && eqb opened 0) ≡ true
+filled-out i opened (inl h) = rw (eq-eqb i N h)
+filled-out i opened (inr h) = rw (not-zero opened h) (either-false (eqb i N))
+  where
+    either-false : (a : Bool) → not (not a && false) ≡ true
+    either-false true = refl
+    either-false false = refl
+
+-- what stands of the item before a record that is no addendum of it
+abbrev pub Settled : List Body → Type 0
+Settled past = statedIn past ≤ addendaIn past
+
+abbrev pub Viewed : List Body → Type 0
+Viewed past = Seen (indicatorIn past) (itemsSince (is 20) past) (shownIn past)
+
+pub as-type : (t : ℕ) (past : List Body) (b : Body) → typeOf b ≡ t → Good past b → GoodAs t past b
+as-type t past b e g = subst (λ (u : ℕ). GoodAs u past b) e g
+
+pub of-type : (t : ℕ) (past : List Body) (b : Body) → typeOf b ≡ t → GoodAs t past b → Good past b
+of-type t past b e g = subst (λ (u : ℕ). GoodAs u past b) (sym e) g
+
+module _ (t : ℕ) (past : List Body) (b : Body) (g : GoodAs t past b) where
+  pub settled-in : isAddendum t ≡ false → Settled past
+  unfolding addendaKept
+  settled-in h = leb-true (statedIn past) (addendaIn past) (rw h at (g .links .0))
+
+  pub short-in : isAddendum t ≡ true → addendaIn past < statedIn past
+  unfolding addendaKept
+  short-in h = ltb-true (addendaIn past) (statedIn past) (rw h at (g .links .0))
+
+  pub follows-in : follows (lastIn past) t ≡ true
+  unfolding mayFollow
+  follows-in = both (follows (lastIn past) t) (oneKind (presentIn past) t) (g .follows) .0
+
+module _ (past : List Body) (b : Body) where
+  pub bundle-in : GoodAs 20 past b → indicatorIn past ≡ N → ⊥
+  unfolding annexB
+  bundle-in g = unequal (indicatorIn past) N (both (not (eqb (indicatorIn past) N)) true (g .links .1 .0) .0)
+
+  pub view-in : GoodAs 50 past b → indicatorIn past ≡ E → ⊥
+  unfolding annexB
+  view-in g = unequal (indicatorIn past) E (both (not (eqb (indicatorIn past) E)) true (g .links .1 .0) .0)
+
+  pub viewed-check : GoodAs 25 past b → Viewed past
+  unfolding annexB
+  viewed-check g = seen-in (indicatorIn past) (itemsSince (is 20) past) (shownIn past) (both _ true (g .links .1 .0) .0)
+
+  pub viewed-return : GoodAs 31 past b → Viewed past
+  unfolding annexB
+  viewed-return g = seen-in (indicatorIn past) (itemsSince (is 20) past) (shownIn past) (both _ true (g .links .1 .0) .0)
+
+  pub viewed-control : GoodAs 70 past b → Viewed past
+  unfolding annexB
+  viewed-control g = seen-in (indicatorIn past) (itemsSince (is 20) past) (shownIn past) (both _ true (g .links .1 .0) .0)
+
+  pub letter-in : GoodAs 90 past b → (indicatorIn past ≡ N) ⊎ (1 ≤ openedIn past)
+  unfolding annexB
+  letter-in g = filled-in (indicatorIn past) (openedIn past) (g .links .1 .0)
+
+module _ (t : ℕ) (past : List Body) (b : Body) (g : GoodAs t past b) where
+  -- "as the first"
+  pub kind-in : isItem t ≡ true → (presentIn past ≡ 0) ⊎ (presentIn past ≡ t)
+  unfolding mayFollow
+  kind-in h = turn (either-in (eqb (presentIn past) 0) (eqb (presentIn past) t) (rw h at (both (follows (lastIn past) t) (oneKind (presentIn past) t) (g .follows) .1)))
+    where
+      turn : (eqb (presentIn past) 0 ≡ true) ⊎ (eqb (presentIn past) t ≡ true) → (presentIn past ≡ 0) ⊎ (presentIn past ≡ t)
+      turn (inl e) = inl (eqb-true (presentIn past) 0 e)
+      turn (inr e) = inr (eqb-true (presentIn past) t e)

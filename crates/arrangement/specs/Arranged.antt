@@ -1,0 +1,36 @@
+-- Demand 3: a file is accepted exactly when some arrangement, written out, gives these very bytes with everything in it right; never do two
+-- arrangements fit; the rows and the totals are those of that arrangement.
+use Prim.Native.Nat.{ℕ, _*_, _≤_, _<_}
+use mathlib.Core.Logic.{_↔_}
+use mathlib.Core.Path.{_≡_}
+use mathlib.Core.List.{List, _++_}
+use lib.ListN.{length, drop}
+use Rattle.reading.specs.declared.Fault.the-variants.{Room}
+use Rattle.reading.specs.declared.Totals.{Totals}
+use Rattle.reading.specs.declared.Answer.{Answer}
+use Rattle.reading.specs.declared.Answer.the-variants.{Accepted, Refused}
+use Rattle.arrangement.specs.Tree.{File}
+use Rattle.arrangement.specs.Written.{records, written}
+use Rattle.arrangement.specs.Sound.{Sound}
+use Rattle.arrangement.specs.Rows.{rows, totals}
+
+-- an arrangement of a file within the size limit: sound, and written out it is the file
+pub record Arranges (file : List ℕ) (x : File) : Type 0 where
+  pub sound : Sound x
+  pub bytes : written x ≡ file
+  pub size : length file ≤ 268_435_456
+
+abbrev pub IsAccepted : Answer → Type 0
+IsAccepted answer = (t : Totals) × (answer ≡ Accepted t)
+
+-- "Rows available = whole sevens in the lent slice"
+abbrev pub HasRoom : List ℕ → File → Type 0
+HasRoom table x = 7 * length (records x) ≤ length table
+
+-- what the answer to a file and the lent table afterwards say of its arrangement
+pub record Arranged (file table : List ℕ) (answer : Answer) (after : List ℕ) : Type 0 where
+  pub exact : IsAccepted answer ↔ ((x : File) × Arranges file x × HasRoom table x)
+  pub alone : (x y : File) → Arranges file x → Arranges file y → x ≡ y
+  pub its-totals : (x : File) → Arranges file x → IsAccepted answer → answer ≡ Accepted (totals x)
+  pub its-rows : (x : File) → Arranges file x → IsAccepted answer → after ≡ rows x ++ drop (length (rows x)) table
+  pub its-room : (x : File) → Arranges file x → length table < 7 * length (records x) → answer ≡ Refused Room (length (records x)) 0

@@ -1,0 +1,198 @@
+-- What is right about an arrangement, from document 01's "Fields, links and sums" and the clauses beside each line.
+use Prim.Native.Nat.{ℕ, _+_, _≤_}
+use mathlib.Core.Bool.{true, false}
+use mathlib.Core.Logic.{_⊎_}
+use mathlib.Core.Path.{_≡_}
+use mathlib.Core.List.{List, [], _∷_}
+use mathlib.Core.Option.{Option, none, some}
+use lib.Dec.{eqb}
+use lib.ListN.{length, getD, take, drop}
+use Rattle.text.specs.Characters.{isBlank, capital}
+use Rattle.text.specs.DataTypes.{every, ofType}
+use Rattle.text.specs.Number.{number}
+use Rattle.kind.specs.Layout.{Line, Kind}
+use Rattle.kind.specs.Kinds.{fileHeader, cashLetterHeader, bundleHeader, checkDetail, checkDetailAddendumA, checkDetailAddendumB, checkDetailAddendumC, returnRecord, returnAddendumA, returnAddendumB, returnAddendumC, returnAddendumD, imageViewDetail, imageViewData, imageViewAnalysis, bundleControl, cashLetterControl, fileControl}
+use Rattle.kind.specs.Alone.{typeOf, lineHolds, Sized, sizedParts, statedSize, statedSizes}
+use Rattle.order.specs.Order.{pickNumber}
+use Rattle.framing.specs.Framed.{Body, fieldOf}
+use Rattle.arrangement.specs.Tree.{View, Addenda, ofCheck, ofReturn, Item, Bundle, CashLetter, File}
+use Rattle.arrangement.specs.Written.{addendaThen, records}
+
+abbrev pub All : {A : Type 0} → (A → Type 0) → List A → Type 0
+All p [] = Unit {0}
+All p (x ∷ xs) = p x × All p xs
+
+abbrev pub IfAny : (Body → Type 0) → Option Body → Type 0
+IfAny p none = Unit {0}
+IfAny p (some b) = p b
+
+-- a figure of each, added up
+abbrev pub total : {A : Type 0} → (A → ℕ) → List A → ℕ
+total figure [] = 0
+total figure (x ∷ xs) = figure x + total figure xs
+
+-- fields after the fixed part stand one after the other, each as long as the record says
+abbrev pub PartsRight : List Sized → Body → List ℕ → Type 0
+PartsRight [] b rest = Unit {0}
+PartsRight (s ∷ ss) b rest = (ofType (s .dataType) (take (statedSize s b) rest) ≡ true) × PartsRight ss b (drop (statedSize s b) rest)
+
+-- a record of a kind, alone: its type, its length, each of its fields
+pub record Right (k : Kind) (b : Body) : Type 0 where
+  pub type : typeOf b ≡ k .typeNumber
+  pub long : length b ≡ k .fixedLength + statedSizes (sizedParts k) b
+  pub fields : All (λ (l : Line). lineHolds l b ≡ true) (k .lines)
+  pub parts : PartsRight (sizedParts k) b (drop (k .fixedLength) b)
+
+-- the number that a field states
+abbrev pub stated : Kind → ℕ → Body → ℕ
+stated k n b = number (fieldOf k n b)
+
+-- records of a kind whose record numbers, field 2, run on from a number
+abbrev pub Numbered : Kind → ℕ → List Body → Type 0
+Numbered k n [] = Unit {0}
+Numbered k n (b ∷ bs) = Right k b × (stated k 2 b ≡ n) × Numbered k (n + 1) bs
+
+-- what an item is and says: its type, its amount (field 6), its sequence number (field 7), and how many addenda it has (field 12 of a 25,
+-- field 8 of a 31)
+abbrev pub kindIn : Addenda → Kind
+kindIn (ofCheck a b c) = checkDetail
+kindIn (ofReturn a b c d) = returnRecord
+
+abbrev pub kindOf : Item → Kind
+kindOf i = kindIn (i .addenda)
+
+abbrev pub amount : Item → ℕ
+amount i = stated (kindOf i) 6 (i .detail)
+
+abbrev pub sequence : Item → List ℕ
+sequence i = fieldOf (kindOf i) 7 (i .detail)
+
+abbrev pub statedIn : Addenda → Body → ℕ
+statedIn (ofCheck a b c) detail = stated checkDetail 12 detail
+statedIn (ofReturn a b c d) detail = stated returnRecord 8 detail
+
+abbrev pub statedAddenda : Item → ℕ
+statedAddenda i = statedIn (i .addenda) (i .detail)
+
+-- "cents of the 25s whose MICR Valid Indicator is 1": field 10
+abbrev pub micrIn : Addenda → Body → ℕ
+micrIn (ofCheck a b c) detail = pickNumber (eqb (stated checkDetail 10 detail) 1) (stated checkDetail 6 detail) 0
+micrIn (ofReturn a b c d) detail = 0
+
+abbrev pub micr : Item → ℕ
+micr i = micrIn (i .addenda) (i .detail)
+
+abbrev pub viewsOf : Item → ℕ
+viewsOf i = length (i .views)
+
+-- the sums of each level, from the items themselves
+abbrev pub itemsIn : CashLetter → ℕ
+itemsIn l = total (λ (b : Bundle). length (b .items)) (l .bundles)
+
+abbrev pub debitOf : Bundle → ℕ
+debitOf b = total amount (b .items)
+
+abbrev pub debitIn : CashLetter → ℕ
+debitIn l = total debitOf (l .bundles)
+
+abbrev pub viewsIn : CashLetter → ℕ
+viewsIn l = total (λ (b : Bundle). total viewsOf (b .items)) (l .bundles)
+
+abbrev pub itemsOf : File → ℕ
+itemsOf f = total itemsIn (f .letters)
+
+abbrev pub centsOf : File → ℕ
+centsOf f = total debitIn (f .letters)
+
+-- "26 and 32: record numbers run from 1 in each item; 28 and 35 likewise, each on its own"
+abbrev pub SoundAddenda : Addenda → Type 0
+SoundAddenda (ofCheck a b c) =
+    Numbered checkDetailAddendumA 1 a × IfAny (Right checkDetailAddendumB) b × Numbered checkDetailAddendumC 1 c
+SoundAddenda (ofReturn a b c d) =
+    Numbered returnAddendumA 1 a × Right returnAddendumB b × IfAny (Right returnAddendumC) c × Numbered returnAddendumD 1 d
+
+-- "52: field 2 equals the bundle header's field 4, field 3 its field 5, field 4 its field 9; field 5 equals field 7 of the item. Fields 7
+-- and 8 are not blank if the 50's field 10 is 1"
+pub record SoundView (header : Body) (i : Item) (v : View) : Type 0 where
+  pub detail : Right imageViewDetail (v .detail)
+  pub image : Right imageViewData (v .image)
+  pub analysis : IfAny (Right imageViewAnalysis) (v .analysis)
+  pub institution : fieldOf imageViewData 2 (v .image) ≡ fieldOf bundleHeader 4 header
+  pub date : fieldOf imageViewData 3 (v .image) ≡ fieldOf bundleHeader 5 header
+  pub cycle : fieldOf imageViewData 4 (v .image) ≡ fieldOf bundleHeader 9 header
+  pub number : fieldOf imageViewData 5 (v .image) ≡ sequence i
+  pub signer : stated imageViewDetail 10 (v .detail) ≡ 1 → every isBlank (fieldOf imageViewData 7 (v .image)) ≡ false
+  pub key : stated imageViewDetail 10 (v .detail) ≡ 1 → every isBlank (fieldOf imageViewData 8 (v .image)) ≡ false
+
+-- Annex B: field 8 of the cash letter header, N, E, I or F, in either case
+abbrev pub indicator : Body → ℕ
+indicator letter = capital (getD (fieldOf cashLetterHeader 8 letter) 0 0)
+
+abbrev pub N : ℕ
+N = 0x4E
+
+abbrev pub E : ℕ
+E = 0x45
+
+abbrev pub I : ℕ
+I = 0x49
+
+abbrev pub F : ℕ
+F = 0x46
+
+-- an item under a cash letter header and a bundle header: it has the addenda that it states, no view in a letter of type E, and at least
+-- one in a letter of type I or F
+pub record SoundItem (letter header : Body) (i : Item) : Type 0 where
+  pub detail : Right (kindOf i) (i .detail)
+  pub addenda : SoundAddenda (i .addenda)
+  pub number : length (addendaThen (i .addenda) []) ≡ statedAddenda i
+  pub views : All (SoundView header i) (i .views)
+  pub unseen : indicator letter ≡ E → length (i .views) ≡ 0
+  pub seen : (indicator letter ≡ I) ⊎ (indicator letter ≡ F) → 1 ≤ length (i .views)
+
+-- "Items in a bundle are all 25 or all 31, as the first"
+abbrev pub OneKind : List Item → Type 0
+OneKind [] = Unit {0}
+OneKind (i ∷ is) = All (λ (j : Item). kindOf j .typeNumber ≡ kindOf i .typeNumber) is
+
+-- a bundle; no bundle stands in a letter of type N. Its control (clause 31): items, debit cents, cents of the 25s with a valid MICR line
+-- ("blank is not compared"), views, no credits
+pub record SoundBundle (letter : Body) (b : Bundle) : Type 0 where
+  pub header : Right bundleHeader (b .header)
+  pub allowed : indicator letter ≡ N → ⊥
+  pub filled : 1 ≤ length (b .items)
+  pub items : All (SoundItem letter (b .header)) (b .items)
+  pub one-kind : OneKind (b .items)
+  pub control : Right bundleControl (b .control)
+  pub item-count : stated bundleControl 2 (b .control) ≡ length (b .items)
+  pub debit : stated bundleControl 3 (b .control) ≡ debitOf b
+  pub valid : (every isBlank (fieldOf bundleControl 4 (b .control)) ≡ true) ⊎ (stated bundleControl 4 (b .control) ≡ total micr (b .items))
+  pub view-count : stated bundleControl 5 (b .control) ≡ total viewsOf (b .items)
+  pub credit : stated bundleControl 6 (b .control) ≡ 0
+  pub credit-count : stated bundleControl 7 (b .control) ≡ 0
+
+-- a cash letter; one of type E, I or F has a bundle. Its control (clause 34): bundles, items, debit cents, views, no credits
+pub record SoundLetter (l : CashLetter) : Type 0 where
+  pub header : Right cashLetterHeader (l .header)
+  pub filled : (indicator (l .header) ≡ N) ⊎ (1 ≤ length (l .bundles))
+  pub bundles : All (SoundBundle (l .header)) (l .bundles)
+  pub control : Right cashLetterControl (l .control)
+  pub bundle-count : stated cashLetterControl 2 (l .control) ≡ length (l .bundles)
+  pub item-count : stated cashLetterControl 3 (l .control) ≡ itemsIn l
+  pub debit : stated cashLetterControl 4 (l .control) ≡ debitIn l
+  pub view-count : stated cashLetterControl 5 (l .control) ≡ viewsIn l
+  pub credit : stated cashLetterControl 8 (l .control) ≡ 0
+  pub credit-count : stated cashLetterControl 9 (l .control) ≡ 0
+
+-- a file, with a cash letter at least. Its control (clause 35): cash letters, "all records with 01 and 99 included", items, debit cents,
+-- no credits
+pub record Sound (f : File) : Type 0 where
+  pub header : Right fileHeader (f .header)
+  pub filled : 1 ≤ length (f .letters)
+  pub letters : All SoundLetter (f .letters)
+  pub control : Right fileControl (f .control)
+  pub letter-count : stated fileControl 2 (f .control) ≡ length (f .letters)
+  pub record-count : stated fileControl 3 (f .control) ≡ length (records f)
+  pub item-count : stated fileControl 4 (f .control) ≡ itemsOf f
+  pub debit : stated fileControl 5 (f .control) ≡ centsOf f
+  pub credit : stated fileControl 8 (f .control) ≡ 0

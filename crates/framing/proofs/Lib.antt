@@ -1,0 +1,5 @@
+pub mod Good
+pub mod Held
+pub mod Opened
+pub mod Steps
+pub mod Accepted
