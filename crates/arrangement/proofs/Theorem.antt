@@ -106,6 +106,12 @@ theorem file table b =
       its-rows = λ x a acc.
           ap (λ (answer : Answer). tableAfter answer (rowsOf file) table) (accepted-answer file table x a (has-room file table x (acc .0) a (acc .1)))
           ∙ ap (λ (r : List ℕ). r ++ drop (length r) table) (arranged-accepted file x a .1);
+      its-control =
+          λ x t a e.
+          let u = same-totals t (totals x) (sym e ∙ accepted-answer file table x a (has-room file table x t a e)) in (
+            ap (λ (v : Totals). v .sums .items .0) u ∙ sym (a .sound .item-count),
+            ap (λ (v : Totals). v .sums .debit .0) u ∙ sym (a .sound .debit),
+          );
       its-room = λ x a h. room-answer file table x a h;
     }
 

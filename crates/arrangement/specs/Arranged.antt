@@ -5,13 +5,14 @@ use mathlib.Core.Logic.{_↔_}
 use mathlib.Core.Path.{_≡_}
 use mathlib.Core.List.{List, _++_}
 use lib.ListN.{length, drop}
+use Rattle.kind.specs.Kinds.{fileControl}
 use Rattle.reading.specs.declared.Fault.the-variants.{Room}
 use Rattle.reading.specs.declared.Totals.{Totals}
 use Rattle.reading.specs.declared.Answer.{Answer}
 use Rattle.reading.specs.declared.Answer.the-variants.{Accepted, Refused}
 use Rattle.arrangement.specs.Tree.{File}
 use Rattle.arrangement.specs.Written.{records, written}
-use Rattle.arrangement.specs.Sound.{Sound}
+use Rattle.arrangement.specs.Sound.{stated, Sound}
 use Rattle.arrangement.specs.Rows.{rows, totals}
 
 -- an arrangement of a file within the size limit: sound, and written out it is the file
@@ -33,4 +34,7 @@ pub record Arranged (file table : List ℕ) (answer : Answer) (after : List ℕ)
   pub alone : (x y : File) → Arranges file x → Arranges file y → x ≡ y
   pub its-totals : (x : File) → Arranges file x → IsAccepted answer → answer ≡ Accepted (totals x)
   pub its-rows : (x : File) → Arranges file x → IsAccepted answer → after ≡ rows x ++ drop (length (rows x)) table
+  -- the item count and the amount, as returned, are those that the 99 states (and, by Sound and `totals`, those of all the items added up)
+  pub its-control : (x : File) (t : Totals) → Arranges file x → answer ≡ Accepted t
+      → (t .sums .items .0 ≡ stated fileControl 4 (x .control)) × (t .sums .debit .0 ≡ stated fileControl 5 (x .control))
   pub its-room : (x : File) → Arranges file x → length table < 7 * length (records x) → answer ≡ Refused Room (length (records x)) 0
