@@ -121,8 +121,8 @@ mod interrupt {
             STOPPED.store(true, Ordering::Relaxed);
         }
         const IGNORED: usize = 1;
-        const HANGUP_INTERRUPT_TERMINATE: [i32; 3] = [1, 2, 15];
-        for number in HANGUP_INTERRUPT_TERMINATE {
+        // Hang-up, interrupt, terminate, and a file that outgrows the limit set for it (Linux), where the write then fails.
+        for number in [1, 2, 15, 25] {
             // SAFETY: `signal` of the C library, which the standard library links; the handler only stores to an atomic. A signal that
             // was ignored, as under nohup, stays so.
             unsafe {

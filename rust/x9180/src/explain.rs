@@ -32,6 +32,9 @@ pub(crate) fn reading(file: &[u8], number: Number, record: u64, field: u64, offs
             let before = Before::walk(file, offset);
             describe(&mut words, file, number, record, field, offset);
             match number {
+                Number::TYPE if words.kind.is_some() => {
+                    words.lines.push("the standard has this type of record, but it is not read here yet".to_string());
+                }
                 Number::PLACE => words.lines.push(before.place(words.kind, record)),
                 Number::LINK => words.lines.extend(before.link(words.kind, field)),
                 Number::TOTAL => words.lines.extend(before.total(words.kind, field, record)),
@@ -319,7 +322,7 @@ impl<'f> Before<'f> {
             90 => "cash letter",
             _ => "file",
         };
-        Some(format!("the {part} adds up to {counted} {what}"))
+        Some(format!("{what} in the {part}: {counted}"))
     }
 
     /// The sum that a field of a control record states, and what is summed. The record itself is of this ordinal.
@@ -334,14 +337,14 @@ impl<'f> Before<'f> {
         };
         Some(match (record_type, field) {
             (70, 2) | (90, 3) | (99, 4) => (sums.items, "items"),
-            (70, 3) | (90, 4) | (99, 5) => (sums.cents, "cents of its items"),
-            (70, 4) => (sums.micr_valid, "cents of its items whose MICR Valid Indicator is 1"),
+            (70, 3) | (90, 4) | (99, 5) => (sums.cents, "cents of the items"),
+            (70, 4) => (sums.micr_valid, "cents of the items with MICR Valid Indicator 1"),
             (70, 5) | (90, 5) => (sums.views, "views"),
             (90, 2) => (sums.bundles, "bundles"),
             (99, 2) => (self.letters, "cash letters"),
-            (99, 3) => (record, "records, the first and this one included"),
+            (99, 3) => (record, "records, this one included,"),
             (70, 6) | (90, 8) => (0, "credit items"),
-            (70, 7) | (90, 9) | (99, 8) => (0, "cents of credit items"),
+            (70, 7) | (90, 9) | (99, 8) => (0, "cents of the credit items"),
             _ => return None,
         })
     }
@@ -350,8 +353,8 @@ impl<'f> Before<'f> {
     fn link(&self, kind: Option<&'static Kind>, field: u64) -> Option<String> {
         match (kind?.number, field) {
             (_, 1) => self.link_of_record(kind?),
-            (26 | 32, 2) => Some(format!("the next number in this item is {}", self.first_addenda + 1)),
-            (28 | 35, 2) => Some(format!("the next number in this item is {}", self.last_addenda + 1)),
+            (26 | 32, 2) => Some(next_number(self.first_addenda + 1, 9)),
+            (28 | 35, 2) => Some(next_number(self.last_addenda + 1, 99)),
             (52, 2) => self.bundle?.says(4),
             (52, 3) => self.bundle?.says(5),
             (52, 4) => self.bundle?.says(9),
@@ -385,6 +388,11 @@ impl<'f> Before<'f> {
             _ => None,
         }
     }
+}
+
+fn next_number(next: u64, most: u64) -> String {
+    let beyond = if next > most { ", which the field cannot hold" } else { "" };
+    format!("the next number in this item is {next}{beyond}")
 }
 
 /// Whether a file of this length can be read at all.

@@ -127,7 +127,7 @@ fn plain_words_of_the_damaged_samples() {
                 "record 10, Bundle Control Record (type 70), at offset 818",
                 "field 2, Bundle Debit Item Count, at offset 824",
                 "found \"0003\"",
-                "the bundle adds up to 2 items",
+                "items in the bundle: 2",
             ],
         ),
         (
@@ -138,7 +138,7 @@ fn plain_words_of_the_damaged_samples() {
                 "record 10, Bundle Control Record (type 70), at offset 818",
                 "field 4, MICR Valid Debit Total Amount, at offset 840",
                 "found \"000000000350\"",
-                "the bundle adds up to 100 cents of its items whose MICR Valid Indicator is 1",
+                "cents of the items with MICR Valid Indicator 1 in the bundle: 100",
             ],
         ),
         (
@@ -159,6 +159,7 @@ fn plain_words_of_the_damaged_samples() {
                 "TYPE: the record's first two characters name no type that is read here",
                 "record 3, Credit/Reconciliation Record (type 61), at offset 168",
                 "found in place of the type: \"61\"",
+                "the standard has this type of record, but it is not read here yet",
             ],
         ),
         (
