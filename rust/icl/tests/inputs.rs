@@ -140,7 +140,7 @@ fn unreadable() {
     use std::os::unix::fs::PermissionsExt;
     let folder = Folder::new("unreadable");
     let file = folder.with("locked", &read(SOUND));
-    std::fs::set_permissions(&file, std::fs::Permissions::from_mode(0)).unwrap();
+    std::fs::set_permissions(&file, std::fs::Permissions::from_mode(0o000)).unwrap();
     if std::fs::read(&file).is_ok() {
         return; // root may read all
     }

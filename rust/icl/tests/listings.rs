@@ -7,9 +7,12 @@ use std::process::Stdio;
 
 use common::{icl, many_checks, outcome, run, Folder};
 
+/// Type, offset, length, cash letter, bundle, item, amount, name.
+type Row = (u64, u64, u64, u64, u64, u64, u64, &'static str);
+
 /// The rows of sound-2-checks.x9, by its description in peer/reader/src/samples.rs. A record takes 84 bytes with its length, a 26 takes
 /// 119, the 27 with its 34 bytes takes 111, the 90 takes 89.
-const ROWS: [(u64, u64, u64, u64, u64, u64, u64, &str); 12] = [
+const ROWS: [Row; 12] = [
     (1, 0, 80, 0, 0, 0, 0, "File Header Record"),
     (10, 84, 80, 1, 0, 0, 0, "Cash Letter Header Record"),
     (20, 168, 80, 1, 1, 0, 0, "Bundle Header Record"),
