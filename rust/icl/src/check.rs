@@ -1,7 +1,7 @@
 //! `icl check`: the line of the scope document for each file.
 
 use crate::args::Args;
-use crate::input::{bytes, judged, too_large, Input};
+use crate::input::{bytes, judged, Input};
 use crate::screen::{coloured, complain, print, Colour};
 use crate::words::{amount, counted};
 use crate::{words, Stop, DONE, REFUSED, TROUBLE};
@@ -12,10 +12,9 @@ pub fn run(args: Args) -> Result<u8, Stop> {
     for file in files {
         let result = match bytes(file) {
             Ok(Input::Bytes(bytes)) => judged(file, &bytes),
-            Ok(Input::TooLarge(length)) => {
-                complain(&too_large(file, length));
-                // By its length alone it is refused; LIMIT + 1 stands for a length that is not known.
-                x9180::refused_by_size(length.unwrap_or(x9180::LIMIT as u64 + 1)).map_or_else(|| x9180::read(&[]), Err)
+            Ok(Input::TooLarge(refusal, line)) => {
+                complain(&line);
+                Err(refusal)
             }
             Err(Stop::Message(_, message)) => {
                 complain(&message);

@@ -12,8 +12,8 @@ use crate::{words, Stop, REFUSED};
 /// What came of reading a file.
 pub enum Input {
     Bytes(Vec<u8>),
-    /// More bytes than may be read; how many there are, where that is known.
-    TooLarge(Option<u64>),
+    /// More bytes than may be read: the refusal, and the line that tells it.
+    TooLarge(Refusal, String),
 }
 
 /// How many bytes are read between two looks at the clock.
@@ -27,10 +27,11 @@ pub fn bytes(file: &OsStr) -> Result<Input, Stop> {
     }
     let opened = File::open(file).map_err(trouble)?;
     let about = opened.metadata().map_err(trouble)?;
-    let length = about.is_file().then_some(about.len());
-    match length {
-        Some(length) if length > LIMIT as u64 => Ok(Input::TooLarge(Some(length))),
-        _ => gather(opened, length, file).map_err(trouble),
+    // Files of the system that are made when read tell a length of 0.
+    let length = Some(about.len()).filter(|length| about.is_file() && *length > 0);
+    match length.and_then(above_limit) {
+        Some(refusal) => Ok(too_large(file, refusal, &format!("it has {}", about.len()))),
+        None => gather(opened, length, file).map_err(trouble),
     }
 }
 
@@ -42,17 +43,15 @@ fn gather(mut source: impl Read, length: Option<u64>, file: &OsStr) -> std::io::
     loop {
         let left = (LIMIT as u64 + 1) - bytes.len() as u64;
         let read = source.by_ref().take(left.min(PIECE)).read_to_end(&mut bytes)?;
-        if bytes.len() > LIMIT {
-            return Ok(Input::TooLarge(None));
+        if let Some(refusal) = above_limit(bytes.len() as u64) {
+            return Ok(too_large(file, refusal, "it has more"));
         }
         if read == 0 {
             return Ok(Input::Bytes(bytes));
         }
         progress.show(|| match length {
-            Some(length) if length > 0 => {
-                format!("reading {}: {} %", words::spoken(file), bytes.len() as u64 * 100 / length)
-            }
-            _ => format!("reading {}: {} MiB", words::spoken(file), bytes.len() >> 20),
+            Some(length) => format!("reading {}: {} %", words::spoken(file), bytes.len() as u64 * 100 / length),
+            None => format!("reading {}: {} MiB", words::spoken(file), bytes.len() >> 20),
         });
     }
 }
@@ -62,20 +61,21 @@ pub fn judged(file: &OsStr, bytes: &[u8]) -> Result<Reading, Refusal> {
     with_clock(&format!("judging {}", words::spoken(file)), || x9180::read(bytes))
 }
 
-/// The line for a file that is too large.
-pub fn too_large(file: &OsStr, length: Option<u64>) -> String {
-    let found = match length {
-        Some(length) => format!("it has {length} bytes"),
-        None => "it has more".to_string(),
-    };
-    format!("{}: too large: at most {LIMIT} bytes are read, and {found}", words::spoken(file))
+/// The refusal by a length above the limit. A length of 0 is for the library to refuse.
+fn above_limit(length: u64) -> Option<Refusal> {
+    x9180::refused_by_size(length).filter(|_| length > 0)
+}
+
+fn too_large(file: &OsStr, refusal: Refusal, found: &str) -> Input {
+    let line = format!("{}: too large: at most {LIMIT} bytes are read, and {found}", words::spoken(file));
+    Input::TooLarge(refusal, line)
 }
 
 /// The bytes of a file that is not too large.
 pub fn within_limit(file: &OsStr) -> Result<Vec<u8>, Stop> {
     match bytes(file)? {
         Input::Bytes(bytes) => Ok(bytes),
-        Input::TooLarge(length) => Err(Stop::Message(REFUSED, too_large(file, length))),
+        Input::TooLarge(_, line) => Err(Stop::Message(REFUSED, line)),
     }
 }
 

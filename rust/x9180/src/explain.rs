@@ -36,6 +36,7 @@ pub(crate) fn reading(file: &[u8], number: Number, record: u64, field: u64, offs
                     words.lines.push("the standard has this type of record, but it is not read here yet".to_string());
                 }
                 Number::PLACE => words.lines.push(before.place(words.kind, record)),
+                Number::CUT | Number::OPEN => words.lines.extend(before.last.map(|last| last.stands_before())),
                 Number::LINK => words.lines.extend(before.link(words.kind, field)),
                 Number::TOTAL => words.lines.extend(before.total(words.kind, field, record)),
                 _ => {}
@@ -204,6 +205,10 @@ impl<'f> Earlier<'f> {
         number_in(self.field(field)?)
     }
 
+    fn stands_before(&self) -> String {
+        format!("the record before it is record {}, {}", self.ordinal, self.kind)
+    }
+
     /// `field 8, Cash Letter Record Type Indicator, of record 2 is "N"`
     fn says(&self, number: u64) -> Option<String> {
         let name = self.kind.field(number)?.name;
@@ -308,7 +313,7 @@ impl<'f> Before<'f> {
             (Some(item), Some(kind), _) if matches!(kind.number, 25 | 31) && item.kind != kind => {
                 format!("the items of a bundle are of one type, and record {} is a {}", item.ordinal, item.kind)
             }
-            (_, _, Some(last)) => format!("the record before it is record {}, {}", last.ordinal, last.kind),
+            (_, _, Some(last)) => last.stands_before(),
             _ if record == 1 => "a file begins with a File Header Record (type 01)".to_string(),
             _ => "the record before it could not be found".to_string(),
         }

@@ -143,7 +143,11 @@ fn plain_words_of_the_damaged_samples() {
         ),
         (
             "damaged-08-open.x9",
-            &["OPEN: the file ends without a File Control Record (type 99)", "record 4, at offset 257"],
+            &[
+                "OPEN: the file ends without a File Control Record (type 99)",
+                "record 4, at offset 257",
+                "the record before it is record 3, Cash Letter Control Record (type 90)",
+            ],
         ),
         (
             "damaged-09-after.x9",
