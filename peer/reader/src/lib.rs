@@ -8,6 +8,7 @@ pub mod layout;
 pub mod line;
 pub mod make;
 pub mod picture;
+pub mod pictures;
 pub mod plain;
 pub mod random;
 pub mod samples;

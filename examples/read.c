@@ -1,0 +1,105 @@
+/* Reads an X9.100-180 file named on the command line and prints the answer, then the place of each picture.
+ *
+ *     cc -std=c99 -Iinclude examples/read.c target/staticlib/libabi.a -o target/read
+ *     target/read samples/two-letters-with-pictures.x9
+ *
+ * Exit code: 0 accepted, 1 refused, 2 the file could not be read. */
+
+#include "x9180.h"
+
+#include <stdio.h>
+#include <stdlib.h>
+
+enum { LIMIT = 268435456, ROW = 7, ACCEPTED = 0, ROOM = 2 };
+
+/* The bytes of a file, one more than the limit at most; a null pointer where it cannot be read. */
+static uint8_t *bytes_of(const char *name, size_t *length) {
+    FILE *file = fopen(name, "rb");
+    size_t room = 1 << 16;
+    uint8_t *bytes = malloc(room);
+    int failed;
+
+    *length = 0;
+    if (file == NULL || bytes == NULL) {
+        free(bytes);
+        if (file != NULL) {
+            fclose(file);
+        }
+        return NULL;
+    }
+    for (;;) {
+        size_t read = fread(bytes + *length, 1, room - *length, file);
+        uint8_t *larger;
+        *length += read;
+        if (*length < room || *length > LIMIT) {
+            break;
+        }
+        room = room < LIMIT ? 2 * room : (size_t)LIMIT + 1;
+        larger = realloc(bytes, room);
+        if (larger == NULL) {
+            free(bytes);
+            fclose(file);
+            return NULL;
+        }
+        bytes = larger;
+    }
+    failed = ferror(file);
+    fclose(file);
+    if (failed) {
+        free(bytes);
+        return NULL;
+    }
+    return bytes;
+}
+
+int main(int count, char **words) {
+    uint64_t answer[10];
+    uint64_t none;
+    uint64_t *table = NULL;
+    uint64_t number;
+    uint64_t row;
+    size_t length;
+    uint8_t *file;
+
+    if (count != 2) {
+        fprintf(stderr, "use: read FILE\n");
+        return 2;
+    }
+    file = bytes_of(words[1], &length);
+    if (file == NULL) {
+        fprintf(stderr, "read: %s could not be read\n", words[1]);
+        return 2;
+    }
+
+    /* A call with an empty table tells how many rows are needed; a second call fills them. */
+    number = x9_read(file, length, &none, 0, answer);
+    if (number == ROOM) {
+        size_t numbers = (size_t)answer[1] * ROW;
+        table = malloc(numbers * sizeof *table);
+        if (table != NULL) {
+            number = x9_read(file, length, table, numbers, answer);
+        }
+    }
+
+    if (number != ACCEPTED) {
+        printf("refused %llu record %llu field %llu offset %llu\n", (unsigned long long)number,
+               (unsigned long long)answer[1], (unsigned long long)answer[2], (unsigned long long)answer[3]);
+    } else {
+        printf("accepted records %llu letters %llu bundles %llu items %llu views %llu debit %llu\n",
+               (unsigned long long)answer[4], (unsigned long long)answer[5], (unsigned long long)answer[6],
+               (unsigned long long)answer[7], (unsigned long long)answer[8], (unsigned long long)answer[9]);
+        for (row = 0; row < answer[4]; row++) {
+            const uint64_t *r = table + ROW * row;
+            uint64_t place[4];
+            if (r[0] == 52 && x9_picture(file, length, r[1], place) == ACCEPTED) {
+                /* The picture is the place[3] bytes from file + place[2] on. */
+                printf("letter %llu bundle %llu item %llu: picture of %llu bytes at %llu\n", (unsigned long long)r[3],
+                       (unsigned long long)r[4], (unsigned long long)r[5], (unsigned long long)place[3],
+                       (unsigned long long)place[2]);
+            }
+        }
+    }
+    free(table);
+    free(file);
+    return number == ACCEPTED ? 0 : 1;
+}

@@ -1,0 +1,67 @@
+//! The words of a command line, parted into names, flags and options.
+
+use std::ffi::{OsStr, OsString};
+
+use crate::{words, Stop};
+
+pub struct Args {
+    names: Vec<OsString>,
+    flags: Vec<&'static str>,
+    options: Vec<(&'static str, OsString)>,
+}
+
+impl Args {
+    /// Parts the words by the flags and the options with a value that the command knows. After `--` all are names.
+    pub fn of(words: Vec<OsString>, flags: &[&'static str], options: &[&'static str]) -> Result<Args, Stop> {
+        let mut args = Args { names: Vec::new(), flags: Vec::new(), options: Vec::new() };
+        let mut words = words.into_iter();
+        while let Some(word) = words.next() {
+            if word == "--" {
+                args.names.extend(words.by_ref());
+            } else if let Some(flag) = flags.iter().find(|flag| word == **flag) {
+                args.flags.push(flag);
+            } else if let Some(option) = options.iter().find(|option| word == **option) {
+                let value = words.next().ok_or_else(|| Stop::Usage(format!("{option} needs a value")))?;
+                if args.option(option).is_some() {
+                    return Err(Stop::Usage(format!("{option} was given twice")));
+                }
+                args.options.push((option, value));
+            } else if word != "-" && word.as_encoded_bytes().starts_with(b"-") {
+                return Err(Stop::Usage(format!("{} is not known here", words::name(&word))));
+            } else {
+                args.names.push(word);
+            }
+        }
+        if args.names.iter().filter(|name| *name == "-").count() > 1 {
+            return Err(Stop::Usage("standard input (-) can be read once only".to_string()));
+        }
+        Ok(args)
+    }
+
+    pub fn has(&self, flag: &str) -> bool {
+        self.flags.contains(&flag)
+    }
+
+    pub fn option(&self, name: &str) -> Option<&OsStr> {
+        self.options.iter().find(|option| option.0 == name).map(|option| option.1.as_os_str())
+    }
+
+    /// One name or more.
+    pub fn several(&self) -> Result<&[OsString], Stop> {
+        match self.names.is_empty() {
+            true => Err(Stop::Usage("no file was named".to_string())),
+            false => Ok(&self.names),
+        }
+    }
+
+    /// As many names as there are things to be named.
+    pub fn exactly<const COUNT: usize>(&self, what: [&str; COUNT]) -> Result<&[OsString; COUNT], Stop> {
+        self.names.as_slice().try_into().map_err(|_| match what.get(self.names.len()) {
+            Some(missing) => Stop::Usage(format!("{missing} is missing")),
+            None => Stop::Usage(format!(
+                "{} is too much",
+                self.names.get(COUNT).map_or_else(String::new, |n| words::name(n))
+            )),
+        })
+    }
+}

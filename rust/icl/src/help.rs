@@ -1,0 +1,104 @@
+//! What `--help` and `--version` print.
+
+use std::ffi::{OsStr, OsString};
+
+const GENERAL: &str = "\
+icl: checks X9.100-180 image cash letters, lists what they hold and takes out their pictures
+
+use:
+  icl check [--explain] FILE...
+  icl rows [--csv | --json] FILE
+  icl tree FILE
+  icl picture [--force] FILE OFFSET -o OUT
+  icl pictures [--force] FILE DIR
+  icl COMMAND --help
+  icl --version
+
+FILE is the name of a file, or - for standard input; it has at most 268435456 bytes (256 MiB).
+After -- every word is a name, even one that begins with a dash.
+Exit status: 0 all accepted and done; 1 a file or picture was refused; 2 something could not be
+read or written, or the command was not understood. With NO_COLOR set there are no colours.
+";
+
+const CHECK: &str = "\
+icl check [--explain] FILE...
+
+Prints a line for each file:
+  accepted records R letters L bundles B items I views V debit D     (D in cents)
+  refused N record R field F offset O                                (the first fault found)
+With several files each line is preceded by the file's name. A file of more than 268435456 bytes
+is refused with number 1, and told on standard error besides.
+  --explain   adds the fault in plain words: the number's name, the record and field with their
+              names in the standard, the bytes found there, and what they disagree with
+
+N is 1 SIZE, 2 ROOM, 3 CUT, 4 LENGTH, 5 TYPE, 6 PLACE, 7 FIELD, 8 LINK, 9 TOTAL, 10 OPEN or 11 AFTER.
+Exit status: 0 all accepted, 1 some refused, 2 something could not be read.
+";
+
+const ROWS: &str = "\
+icl rows [--csv | --json] FILE
+
+Prints a row for each record of an accepted file: the record's ordinal, its type, the offset of its
+length field, its length, the ordinals of its cash letter, bundle and item (0 outside any), the amount
+in cents (of an item, or what the part that a control record closes adds up to), the name of its kind.
+  --csv       comma separated, with a first line of column names
+  --json      an array of objects, one on a line
+Exit status: 0 accepted, 1 refused (told on standard error), 2 it could not be read.
+";
+
+const TREE: &str = "\
+icl tree FILE
+
+Prints the cash letters, bundles, items, addenda and views of an accepted file, each level with its own
+sums, and the routing numbers, dates and sequence numbers as they stand in the file. The offset beside a
+picture is the one that icl picture takes.
+Exit status: 0 accepted, 1 refused (told on standard error), 2 it could not be read.
+";
+
+const PICTURE: &str = "\
+icl picture [--force] FILE OFFSET -o OUT
+
+Writes the picture of the Image View Data Record (type 52) whose four-byte length stands at OFFSET, a decimal
+number as icl rows and icl tree print it. The record is judged alone, whatever else is wrong with the file.
+  -o OUT      the file to write, or - for standard output; written to a temporary name and then renamed
+  --force     overwrite OUT where it is there already
+Exit status: 0 written, 1 refused (told on standard error), 2 something could not be read or written.
+";
+
+const PICTURES: &str = "\
+icl pictures [--force] FILE DIR
+
+Writes the picture of every view of an accepted file into the folder DIR, made where it is missing, under
+the ordinals of its cash letter, bundle, item and view: letter-001_bundle-001_item-0001_view-01.tif. The
+ending is the one that the standard gives for the view's format (field 5 of its type 50 record), or img.
+A view without image bytes gives an empty file. All pictures are written under temporary names first and
+then renamed, so that on any fault none is left behind.
+  --force     overwrite pictures that are there already; otherwise none is written if one is there
+Exit status: 0 written, 1 refused (told on standard error), 2 something could not be read or written.
+";
+
+/// The help for a command, or the general one for a word that asks for help or version.
+pub fn of(command: &str) -> Option<&'static str> {
+    match command {
+        "check" => Some(CHECK),
+        "rows" => Some(ROWS),
+        "tree" => Some(TREE),
+        "picture" => Some(PICTURE),
+        "pictures" => Some(PICTURES),
+        "--help" | "-h" | "help" | "--version" | "-V" => Some(GENERAL),
+        _ => None,
+    }
+}
+
+/// The text to print where the words ask for help or version.
+pub fn asked(command: &OsStr, words: &[OsString], help: &str) -> Option<String> {
+    let words = std::iter::once(command).chain(words.iter().map(|word| word.as_os_str()));
+    for word in words.take_while(|word| *word != "--") {
+        match word.to_str() {
+            Some("--help" | "-h") => return Some(help.to_string()),
+            Some("--version" | "-V") => return Some(concat!("icl ", env!("CARGO_PKG_VERSION"), "\n").to_string()),
+            _ => {}
+        }
+    }
+    (command == "help").then(|| help.to_string())
+}

@@ -1,0 +1,145 @@
+//! Files written whole or not at all: first into a hidden folder beside their place, then linked or renamed into it.
+
+use std::fs;
+use std::io::{Error, ErrorKind, Result, Write};
+use std::path::{Path, PathBuf};
+use std::sync::atomic::{AtomicBool, Ordering};
+
+/// A folder of its own within the folder that the files are to be in. Dropped, it is gone with all that is still in it.
+pub struct Staging {
+    folder: PathBuf,
+    destination: PathBuf,
+    /// The destination was made here, and goes again if nothing comes to be in it.
+    made: bool,
+    force: bool,
+    placed: Vec<PathBuf>,
+    kept: bool,
+}
+
+impl Staging {
+    /// Makes the staging folder, and the destination where it is missing.
+    pub fn within(destination: &Path, force: bool) -> Result<Staging> {
+        interrupt::watch();
+        let made = !destination.exists();
+        if made {
+            fs::create_dir(destination)?;
+        }
+        let mut staging = Staging {
+            folder: PathBuf::new(),
+            destination: destination.into(),
+            made,
+            force,
+            placed: Vec::new(),
+            kept: false,
+        };
+        for turn in 0u32.. {
+            let folder = destination.join(format!(".icl-{}-{turn}", std::process::id()));
+            match fs::create_dir(&folder) {
+                Err(error) if error.kind() == ErrorKind::AlreadyExists && turn < 1000 => continue,
+                Err(error) => return Err(error),
+                Ok(()) => {
+                    staging.folder = folder;
+                    break;
+                }
+            }
+        }
+        Ok(staging)
+    }
+
+    /// Writes a file under its name, still out of sight.
+    pub fn write(&self, name: &Path, bytes: &[u8]) -> Result<()> {
+        let mut file = fs::File::create_new(self.folder.join(name))?;
+        for piece in bytes.chunks(1 << 20) {
+            interrupt::heed()?;
+            file.write_all(piece)?;
+        }
+        interrupt::heed()
+    }
+
+    /// Puts a written file in its place.
+    pub fn place(&mut self, name: &Path) -> Result<()> {
+        let (from, to) = (self.folder.join(name), self.destination.join(name));
+        free(&to, self.force)?;
+        if self.force {
+            return fs::rename(from, to);
+        }
+        // A link is never made over a file that has come in the meantime; a rename would be.
+        match fs::hard_link(&from, &to) {
+            Err(error) if error.kind() == ErrorKind::AlreadyExists => return Err(error),
+            // A file system without links.
+            Err(_) => fs::rename(from, &to)?,
+            Ok(()) => {}
+        }
+        self.placed.push(to);
+        Ok(())
+    }
+
+    /// All is in its place and stays.
+    pub fn keep(mut self) {
+        self.kept = true;
+    }
+}
+
+impl Drop for Staging {
+    fn drop(&mut self) {
+        if !self.folder.as_os_str().is_empty() {
+            let _ = fs::remove_dir_all(&self.folder);
+        }
+        if !self.kept {
+            self.placed.iter().for_each(|path| drop(fs::remove_file(path)));
+            if self.made {
+                let _ = fs::remove_dir(&self.destination);
+            }
+        }
+    }
+}
+
+/// Whether a file may be put here: nothing is there, or a plain file that may be overwritten.
+pub fn free(path: &Path, force: bool) -> Result<()> {
+    match fs::symlink_metadata(path) {
+        Err(error) if error.kind() == ErrorKind::NotFound => Ok(()),
+        Err(error) => Err(error),
+        Ok(_) if !force => Err(Error::new(ErrorKind::AlreadyExists, "it is there already (--force overwrites it)")),
+        Ok(about) if !about.is_file() => Err(Error::other("it is there already and is no plain file")),
+        Ok(_) => Ok(()),
+    }
+}
+
+/// Being told to stop. Without this the staging folder would stay behind.
+mod interrupt {
+    use super::{AtomicBool, Error, Ordering, Result};
+
+    static STOPPED: AtomicBool = AtomicBool::new(false);
+
+    /// From now on signals to stop are noted instead of ending the process at once.
+    #[cfg(unix)]
+    pub fn watch() {
+        extern "C" {
+            fn signal(number: i32, handler: usize) -> usize;
+        }
+        extern "C" fn note(_: i32) {
+            STOPPED.store(true, Ordering::Relaxed);
+        }
+        const IGNORED: usize = 1;
+        // Hang-up, interrupt, terminate, and a file that outgrows the limit set for it (Linux), where the write then fails.
+        for number in [1, 2, 15, 25] {
+            // SAFETY: `signal` of the C library, which the standard library links; the handler only stores to an atomic. A signal that
+            // was ignored, as under nohup, stays so.
+            unsafe {
+                if signal(number, note as *const () as usize) == IGNORED {
+                    signal(number, IGNORED);
+                }
+            }
+        }
+    }
+
+    #[cfg(not(unix))]
+    pub fn watch() {}
+
+    pub fn heed() -> Result<()> {
+        match STOPPED.load(Ordering::Relaxed) {
+            true => Err(Error::other("stopped before the end; nothing was left behind")),
+            false => Ok(()),
+        }
+    }
+}

@@ -1,0 +1,76 @@
+//! How things are said: names of files, errors of the system, amounts and counts.
+
+use std::ffi::OsStr;
+use std::io::{Error, ErrorKind};
+
+/// A name as it is printed: control characters escaped, so that a name stays on its line.
+pub fn name(name: &OsStr) -> String {
+    let printed = |letter: char| match letter.is_control() {
+        true => letter.escape_default().to_string(),
+        false => letter.to_string(),
+    };
+    name.to_string_lossy().chars().map(printed).collect()
+}
+
+/// A name in a message, where `-` is standard input.
+pub fn spoken(file: &OsStr) -> String {
+    match file.to_str() {
+        Some("-") => "standard input".to_string(),
+        _ => name(file),
+    }
+}
+
+/// An error of the system in plain words.
+pub fn plain(error: &Error) -> String {
+    match error.kind() {
+        ErrorKind::NotFound => "there is no such file or folder".to_string(),
+        ErrorKind::PermissionDenied => "permission was denied".to_string(),
+        ErrorKind::IsADirectory => "it is a folder, not a file".to_string(),
+        ErrorKind::NotADirectory => "a part of the path is no folder".to_string(),
+        ErrorKind::StorageFull => "no space is left".to_string(),
+        ErrorKind::OutOfMemory => "there is not memory enough".to_string(),
+        _ => error.to_string(),
+    }
+}
+
+/// Cents as an amount: `1,234.56`.
+pub fn amount(cents: u64) -> String {
+    format!("{}.{:02}", grouped(cents / 100), cents % 100)
+}
+
+/// A number with a comma before each group of three digits.
+pub fn grouped(number: u64) -> String {
+    let digits = number.to_string();
+    let mut text = String::new();
+    for (place, digit) in digits.chars().enumerate() {
+        if place > 0 && (digits.len() - place) % 3 == 0 {
+            text.push(',');
+        }
+        text.push(digit);
+    }
+    text
+}
+
+/// A count with its noun: `1 item`, `2 items`.
+pub fn counted(count: u64, noun: &str) -> String {
+    format!("{} {noun}{}", grouped(count), if count == 1 { "" } else { "s" })
+}
+
+#[cfg(test)]
+mod tests {
+    use super::*;
+
+    #[test]
+    fn amounts() {
+        assert_eq!(amount(0), "0.00");
+        assert_eq!(amount(7), "0.07");
+        assert_eq!(amount(99_999), "999.99");
+        assert_eq!(amount(100_000), "1,000.00");
+        assert_eq!(amount(u64::MAX), "184,467,440,737,095,516.15");
+    }
+
+    #[test]
+    fn names_stay_on_their_line() {
+        assert_eq!(name(OsStr::new("a\nb\x1b[31m é")), "a\\nb\\u{1b}[31m é");
+    }
+}

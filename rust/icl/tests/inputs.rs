@@ -1,0 +1,283 @@
+//! Every command on every sort of input: exit status and exact output.
+
+mod common;
+
+use common::{icl, outcome, piped, read, run, Folder};
+
+const SOUND: &str = "peer/samples/sound-2-checks.x9";
+const DAMAGED: &str = "peer/samples/damaged-06-item-count.x9";
+
+/// The commands that read one file, with the words after its name.
+fn commands(folder: &Folder) -> [(&'static str, String); 6] {
+    [
+        ("rows", String::new()),
+        ("rows --csv", String::new()),
+        ("rows --json", String::new()),
+        ("tree", String::new()),
+        ("picture", format!(" 0 -o {}", folder.path("out"))),
+        ("pictures", format!(" {}", folder.path("out"))),
+    ]
+}
+
+/// Runs each command on a file, and expects this status and this line on standard error, nothing else, and nothing written.
+fn each(folder: &Folder, file: &str, status: i32, complaint: &str) {
+    for (command, rest) in commands(folder) {
+        let outcome = run(&format!("{command} {file}{rest}"));
+        assert_eq!(outcome, (status, String::new(), format!("icl: {complaint}\n")), "{command} {file}");
+    }
+    assert!(!folder.0.join("out").exists());
+}
+
+#[test]
+fn check_prints_the_expected_line_of_every_sample() {
+    let expected = String::from_utf8(read("peer/samples/expected.txt")).unwrap();
+    let mut all = vec!["check".to_string()];
+    let mut lines = String::new();
+    for line in expected.lines() {
+        let (name, line) = line.split_once('\t').unwrap();
+        let file = format!("peer/samples/{name}");
+        let status = if line.starts_with("accepted") { 0 } else { 1 };
+        assert_eq!(run(&format!("check {file}")), (status, format!("{line}\n"), String::new()), "{name}");
+        lines.push_str(&format!("{file}: {line}\n"));
+        all.push(file);
+    }
+    assert_eq!(outcome(&mut icl(all)), (1, lines, String::new()));
+    let line = peer_reader::pictures::LINE;
+    let pictured = "samples/two-letters-with-pictures.x9";
+    assert_eq!(run(&format!("check {pictured}")), (0, format!("{line}\n"), String::new()));
+    assert_eq!(peer_reader::pictures::pictured(), read(pictured), "the sample is the one that the generator writes");
+}
+
+#[test]
+fn check_explains() {
+    assert_eq!(
+        run(&format!("check --explain {SOUND} {DAMAGED}")),
+        (
+            1,
+            format!(
+                "{SOUND}: accepted records 12 letters 1 bundles 1 items 2 views 0 debit 350\n\
+                 \x20 ACCEPTED: all rules hold\n\
+                 \x20 12 records, 1 cash letter, 1 bundle, 2 items, 0 views, debits of 3.50\n\
+                 {DAMAGED}: refused 9 record 10 field 2 offset 818\n\
+                 \x20 TOTAL: a control field is not what its part of the file adds up to\n\
+                 \x20 record 10, Bundle Control Record (type 70), at offset 818\n\
+                 \x20 field 2, Bundle Debit Item Count, at offset 824\n\
+                 \x20 found \"0003\"\n\
+                 \x20 items in the bundle: 2\n"
+            ),
+            String::new()
+        )
+    );
+}
+
+#[test]
+fn check_agrees_with_the_independent_reader() {
+    let folder = Folder::new("generated");
+    let (mut words, mut lines) = (vec!["check".to_string()], String::new());
+    for index in 0..400 {
+        let made = peer_reader::stream::file(180, index).bytes;
+        let line = peer_reader::line::line(&made);
+        if made.len() <= 65_536 {
+            let name = folder.with(&format!("{index}.x9"), &made);
+            lines.push_str(&format!("{name}: {line}\n"));
+            words.push(name);
+        }
+    }
+    assert!(words.len() > 300 && lines.contains("accepted") && lines.contains("refused"));
+    assert_eq!(outcome(&mut icl(words)), (1, lines, String::new()));
+}
+
+#[test]
+fn damaged() {
+    let folder = Folder::new("damaged");
+    for (command, rest) in commands(&folder).iter().filter(|(command, _)| *command != "picture") {
+        let (status, output, complaint) = run(&format!("{command} {DAMAGED}{rest}"));
+        assert_eq!((status, output.as_str()), (1, ""), "{command}");
+        assert_eq!(
+            complaint,
+            format!(
+                "icl: {DAMAGED}: refused 9 record 10 field 2 offset 818: TOTAL: a control field is not what its part of the file \
+                 adds up to; record 10, Bundle Control Record (type 70), at offset 818; field 2, Bundle Debit Item Count, at offset \
+                 824; found \"0003\"; items in the bundle: 2\n"
+            )
+        );
+    }
+    assert!(!folder.0.join("out").exists());
+}
+
+#[test]
+fn empty() {
+    let folder = Folder::new("empty");
+    let file = folder.with("empty", b"");
+    let line = "refused 1 record 0 field 0 offset 0";
+    let words = "SIZE: the file has no byte, or more than 268435456; found 0 bytes";
+    assert_eq!(run(&format!("check {file}")), (1, format!("{line}\n"), String::new()));
+    each(&folder, &file, 1, &format!("{file}: {line}: {words}"));
+    assert_eq!(piped("check -", b""), (1, format!("{line}\n"), String::new()));
+}
+
+#[test]
+fn missing() {
+    let folder = Folder::new("missing");
+    let file = folder.path("missing");
+    let complaint = format!("{file}: there is no such file or folder");
+    assert_eq!(run(&format!("check {file}")), (2, String::new(), format!("icl: {complaint}\n")));
+    each(&folder, &file, 2, &complaint);
+}
+
+#[test]
+fn a_folder() {
+    let folder = Folder::new("folder");
+    let file = folder.path("");
+    let complaint = format!("{file}: it is a folder, not a file");
+    assert_eq!(run(&format!("check {file}")), (2, String::new(), format!("icl: {complaint}\n")));
+    each(&folder, &file, 2, &complaint);
+}
+
+#[cfg(unix)]
+#[test]
+fn unreadable() {
+    use std::os::unix::fs::PermissionsExt;
+    let folder = Folder::new("unreadable");
+    let file = folder.with("locked", &read(SOUND));
+    std::fs::set_permissions(&file, std::fs::Permissions::from_mode(0o000)).unwrap();
+    if std::fs::read(&file).is_ok() {
+        return; // root may read all
+    }
+    let complaint = format!("{file}: permission was denied");
+    assert_eq!(run(&format!("check {file}")), (2, String::new(), format!("icl: {complaint}\n")));
+    each(&folder, &file, 2, &complaint);
+}
+
+#[test]
+fn three_hundred_mebibytes() {
+    let folder = Folder::new("large");
+    let file = folder.sparse("large", 300 << 20);
+    let complaint = format!("{file}: too large: at most 268435456 bytes are read, and it has 314572800");
+    let line = "refused 1 record 0 field 0 offset 0\n";
+    assert_eq!(run(&format!("check {file}")), (1, line.to_string(), format!("icl: {complaint}\n")));
+    each(&folder, &file, 1, &complaint);
+
+    let one_more = folder.sparse("one-more", 268_435_457);
+    let (status, output, complaint) = run(&format!("check --explain {one_more}"));
+    assert_eq!((status, complaint.ends_with("and it has 268435457\n")), (1, true), "{complaint}");
+    assert_eq!(
+        output,
+        format!("{line}  SIZE: the file has no byte, or more than 268435456\n  found 268435457 bytes\n")
+    );
+}
+
+#[test]
+fn a_pipe() {
+    let folder = Folder::new("pipe");
+    let sound = read(SOUND);
+    for command in ["check", "rows", "rows --csv", "rows --json", "tree"] {
+        let from_file = run(&format!("{command} {SOUND}"));
+        assert_eq!(from_file.0, 0);
+        assert_eq!(piped(&format!("{command} -"), &sound), from_file, "{command}");
+    }
+    let (status, output, complaint) = piped(&format!("check {DAMAGED} -"), &sound);
+    assert_eq!((status, complaint.as_str()), (1, ""));
+    let line = "accepted records 12 letters 1 bundles 1 items 2 views 0 debit 350";
+    assert_eq!(output, format!("{DAMAGED}: refused 9 record 10 field 2 offset 818\n-: {line}\n"));
+
+    let views = read("peer/samples/sound-5-returns-with-views.x9");
+    let out = folder.path("out");
+    let said = format!("3 pictures (3 bytes) written to {out}\n");
+    assert_eq!(piped(&format!("pictures - {out}"), &views), (0, said, String::new()));
+    assert_eq!(folder.names("out").len(), 3);
+}
+
+#[test]
+fn a_pipe_that_never_ends() {
+    let zeros = std::fs::File::open("/dev/zero").unwrap();
+    let complaint = "icl: standard input: too large: at most 268435456 bytes are read, and it has more\n";
+    assert_eq!(
+        outcome(icl(["check", "-"]).stdin(zeros)),
+        (1, "refused 1 record 0 field 0 offset 0\n".to_string(), complaint.to_string())
+    );
+    let (status, output, said) = run("tree /dev/zero");
+    assert_eq!((status, output), (1, String::new()));
+    assert_eq!(said, complaint.replace("standard input", "/dev/zero"));
+}
+
+#[test]
+fn the_largest_file() {
+    let folder = Folder::new("largest");
+    let file = common::write_largest(&folder, "largest");
+    let line = "accepted records 61 letters 1 bundles 1 items 1 views 27 debit 1\n";
+    assert_eq!(run(&format!("check {file}")), (0, line.to_string(), String::new()));
+    // The last picture begins after the 143 bytes of its 52: 268,435,456 - 84 - 89 - 84 - 8,428,760 - 143 is the 52's offset.
+    let out = folder.path("out");
+    assert_eq!(run(&format!("picture {file} 260006296 -o {out}")).0, 0);
+    assert_eq!(std::fs::metadata(&out).unwrap().len(), 8_428_760);
+}
+
+#[test]
+fn several_files_of_which_some_cannot_be_read() {
+    let (status, output, complaint) = run(&format!("check missing-1 {SOUND} missing-2 {DAMAGED}"));
+    assert_eq!(status, 2);
+    assert_eq!(
+        output,
+        format!(
+            "{SOUND}: accepted records 12 letters 1 bundles 1 items 2 views 0 debit 350\n\
+             {DAMAGED}: refused 9 record 10 field 2 offset 818\n"
+        )
+    );
+    assert_eq!(
+        complaint,
+        "icl: missing-1: there is no such file or folder\nicl: missing-2: there is no such file or folder\n"
+    );
+    assert_eq!(run(&format!("check {DAMAGED} missing")).0, 2);
+}
+
+#[test]
+fn names_that_begin_with_a_dash_or_hold_a_line_end() {
+    let folder = Folder::new("names");
+    let sound = read(SOUND);
+    folder.with("-x", &sound);
+    folder.with("a\nb", &sound);
+    let line = "accepted records 12 letters 1 bundles 1 items 2 views 0 debit 350";
+    let output = outcome(icl(["check", "--", "-x", "a\nb"]).current_dir(&folder.0));
+    assert_eq!(output, (0, format!("-x: {line}\na\\nb: {line}\n"), String::new()));
+}
+
+#[test]
+fn commands_not_understood() {
+    for (words, complaint) in [
+        ("chekc x", "chekc is no command"),
+        ("check", "no file was named"),
+        ("check --what x", "--what is not known here"),
+        ("check - -", "standard input (-) can be read once only"),
+        ("rows", "FILE is missing"),
+        ("rows a b", "b is too much"),
+        ("rows --csv --json a", "--csv and --json exclude each other"),
+        ("picture a", "OFFSET is missing"),
+        ("picture a 5", "-o OUT is missing"),
+        ("picture a 5 -o", "-o needs a value"),
+        ("picture a 5x -o b", "5x is no offset: a decimal number is needed"),
+        ("picture a 18446744073709551616 -o b", "18446744073709551616 is no offset: a decimal number is needed"),
+        ("pictures a", "DIR is missing"),
+    ] {
+        assert_eq!(run(words), (2, String::new(), format!("icl: {complaint} (icl --help tells more)\n")), "{words}");
+    }
+    let nothing: [&str; 0] = [];
+    let complaint = "icl: no command was given (icl --help tells more)\n";
+    assert_eq!(outcome(&mut icl(nothing)), (2, String::new(), complaint.to_string()));
+}
+
+#[test]
+fn help_and_version_everywhere() {
+    for command in ["check", "rows", "tree", "picture", "pictures"] {
+        for words in [format!("{command} --help"), format!("{command} x --help y")] {
+            let (status, output, complaint) = run(&words);
+            assert_eq!((status, complaint.as_str()), (0, ""));
+            assert!(output.starts_with(&format!("icl {command} ")) && output.contains("Exit status"), "{output}");
+        }
+        assert_eq!(run(&format!("{command} --version")), (0, "icl 0.1.0\n".to_string(), String::new()));
+    }
+    let (status, output, _) = run("--help");
+    assert!(status == 0 && ["check", "rows", "tree", "picture", "pictures"].iter().all(|word| output.contains(word)));
+    assert_eq!(run("--version"), (0, "icl 0.1.0\n".to_string(), String::new()));
+    assert_eq!(run("-h"), run("--help"));
+}

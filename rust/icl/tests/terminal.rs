@@ -1,0 +1,108 @@
+//! Colours and progress: on a terminal, and nowhere else.
+#![cfg(target_os = "linux")]
+
+mod common;
+
+use std::ffi::{c_char, CStr};
+use std::fs::File;
+use std::io::{Read, Write};
+use std::os::fd::FromRawFd;
+use std::process::{Command, Stdio};
+use std::time::Duration;
+
+use common::{icl, read};
+
+extern "C" {
+    fn posix_openpt(flags: i32) -> i32;
+    fn grantpt(terminal: i32) -> i32;
+    fn unlockpt(terminal: i32) -> i32;
+    fn ptsname(terminal: i32) -> *const c_char;
+}
+
+/// A terminal: the side that a program writes to, and the side that shows what was written.
+fn terminal() -> (File, File) {
+    const READ_WRITE_NO_CONTROL: i32 = 0o2 | 0o400;
+    // `ptsname` keeps its answer in one place, so only one test at a time may ask.
+    static ONE: std::sync::Mutex<()> = std::sync::Mutex::new(());
+    let _one = ONE.lock().unwrap();
+    // SAFETY: calls of the C library as their manual says; the descriptor is new and belongs to the file made of it.
+    let (shown, name) = unsafe {
+        let number = posix_openpt(READ_WRITE_NO_CONTROL);
+        assert!(number >= 0 && grantpt(number) == 0 && unlockpt(number) == 0);
+        (File::from_raw_fd(number), CStr::from_ptr(ptsname(number)).to_str().unwrap().to_string())
+    };
+    (File::options().read(true).write(true).open(name).unwrap(), shown)
+}
+
+/// What a terminal shows until the last program has let go of it.
+fn text(mut shown: File) -> String {
+    let mut bytes = Vec::new();
+    let _ = shown.read_to_end(&mut bytes); // ends with an error when the other side is closed
+    String::from_utf8(bytes).unwrap()
+}
+
+/// Standard output of a command on a terminal.
+fn on_terminal(mut command: Command) -> String {
+    let (written, shown) = terminal();
+    let mut child = command.stdout(written).stderr(Stdio::null()).spawn().unwrap();
+    drop(command); // it holds the terminal
+    let text = text(shown);
+    child.wait().unwrap();
+    text
+}
+
+const ACCEPTED: &str = "accepted records 12 letters 1 bundles 1 items 2 views 0 debit 350";
+const REFUSED: &str = "refused 9 record 10 field 2 offset 818";
+
+#[test]
+fn colours() {
+    let check = || icl(["check", "peer/samples/sound-2-checks.x9", "peer/samples/damaged-06-item-count.x9"]);
+    let lines = |green: &str, red: &str, end: &str| {
+        let (sound, damaged) = ("peer/samples/sound-2-checks.x9", "peer/samples/damaged-06-item-count.x9");
+        format!("{sound}: {green}{ACCEPTED}{end}\r\n{damaged}: {red}{REFUSED}{end}\r\n")
+    };
+    assert_eq!(on_terminal(check()), lines("\x1b[32m", "\x1b[31m", "\x1b[0m"));
+    let mut without = check();
+    without.env("NO_COLOR", "1");
+    assert_eq!(on_terminal(without), lines("", "", ""));
+    // The convention: an empty NO_COLOR is none.
+    let mut empty = check();
+    empty.env("NO_COLOR", "");
+    assert_eq!(on_terminal(empty), lines("\x1b[32m", "\x1b[31m", "\x1b[0m"));
+    assert_eq!(String::from_utf8(check().output().unwrap().stdout).unwrap(), lines("", "", "").replace('\r', ""));
+}
+
+/// Two pieces of four MiB with a pause between them: long work, which is shown on a terminal and wiped at its end.
+#[test]
+fn progress() {
+    let slowly = |mut input: std::process::ChildStdin| {
+        input.write_all(&vec![0; 4 << 20]).unwrap();
+        std::thread::sleep(Duration::from_millis(700));
+        input.write_all(&vec![0; 4 << 20]).unwrap();
+    };
+    let (written, shown) = terminal();
+    let mut command = icl(["check", "-"]);
+    let mut child = command.stdin(Stdio::piped()).stdout(Stdio::piped()).stderr(written).spawn().unwrap();
+    drop(command);
+    slowly(child.stdin.take().unwrap());
+    let output = child.wait_with_output().unwrap();
+    assert_eq!(text(shown), "\r\x1b[Kreading standard input: 8 MiB\r\x1b[K");
+    assert_eq!(output.stdout, b"refused 4 record 1 field 0 offset 0\n");
+
+    let mut child =
+        icl(["check", "-"]).stdin(Stdio::piped()).stderr(Stdio::piped()).stdout(Stdio::null()).spawn().unwrap();
+    slowly(child.stdin.take().unwrap());
+    assert_eq!(child.wait_with_output().unwrap().stderr, b"");
+}
+
+/// Short work shows nothing, not even on a terminal.
+#[test]
+fn no_progress_for_short_work() {
+    let (written, shown) = terminal();
+    let mut command = icl(["tree", "-"]);
+    let mut child = command.stdin(Stdio::piped()).stdout(Stdio::null()).stderr(written).spawn().unwrap();
+    drop(command);
+    child.stdin.take().unwrap().write_all(&read("peer/samples/sound-2-checks.x9")).unwrap();
+    assert!(child.wait().unwrap().success());
+    assert_eq!(text(shown), "");
+}

@@ -1,0 +1,116 @@
+//! The proved reader of X9.100-180 image cash letters (ANS X9.100-180-2006), called safely from Rust.
+//!
+//! What is right or wrong in a file is decided by the proved static library `libabi.a` alone (`rt staticlib abi` at the root of the
+//! repository builds it). This crate lends it the bytes, keeps the rows that come back, and says refusals in plain words.
+//!
+//! ```
+//! # fn main() -> Result<(), Box<dyn std::error::Error>> {
+//! let file = std::fs::read("../../peer/samples/sound-2-checks.x9")?;
+//! match x9180::read(&file) {
+//!     Ok(reading) => assert_eq!(reading.totals().debit, 350),
+//!     Err(refusal) => println!("{refusal}"),
+//! }
+//! # Ok(())
+//! # }
+//! ```
+//!
+//! No call panics, whatever the bytes. The words of a refusal are not proved: they tell what stands in the file at the place that the
+//! proved library names.
+#![warn(missing_docs)]
+
+mod explain;
+mod ffi;
+mod kinds;
+mod reading;
+mod refusal;
+
+pub use kinds::{DataType, Field, Form, Kind, Place, Usage, KINDS};
+pub use reading::{Bundle, Item, Letter, Reading, Row, Totals, View};
+pub use refusal::{Number, Refusal};
+
+/// The most bytes that a file may have.
+pub const LIMIT: usize = 268_435_456;
+
+/// Reads a whole file.
+///
+/// ```
+/// # fn main() -> Result<(), Box<dyn std::error::Error>> {
+/// let file = std::fs::read("../../peer/samples/sound-6-two-letters.x9")?;
+/// let reading = x9180::read(&file)?;
+/// assert_eq!((reading.totals().letters, reading.totals().items), (2, 3));
+/// assert_eq!(reading.rows().len(), 21);
+/// assert!(x9180::read(&file[1..]).is_err());
+/// # Ok(())
+/// # }
+/// ```
+pub fn read(file: &[u8]) -> Result<Reading, Refusal> {
+    let mut rows = Vec::new();
+    loop {
+        let [number, record, field, offset, records, letters, bundles, items, views, debit] =
+            ffi::read(file, &mut rows);
+        match Number(number) {
+            Number::ACCEPTED => {
+                return Ok(Reading { rows, totals: Totals { records, letters, bundles, items, views, debit } });
+            }
+            // The first call, with no rows, tells how many are needed; the second has them.
+            Number::ROOM if rows.is_empty() && room(&mut rows, record) => {}
+            refused => return Err(explain::reading(file, refused, record, field, offset)),
+        }
+    }
+}
+
+/// Makes room for rows; false where the memory cannot be had.
+fn room(rows: &mut Vec<Row>, needed: u64) -> bool {
+    let Ok(needed) = usize::try_from(needed) else { return false };
+    let had = rows.try_reserve_exact(needed).is_ok();
+    if had {
+        rows.resize(needed, Row::default());
+    }
+    had
+}
+
+/// The picture in the Image View Data Record (type 52) whose four-byte length stands at an offset: the caller's own bytes. The record is
+/// judged alone; an Image Data part of length 0 is an empty picture.
+///
+/// ```
+/// # fn main() -> Result<(), Box<dyn std::error::Error>> {
+/// let file = std::fs::read("../../peer/samples/sound-5-returns-with-views.x9")?;
+/// for row in x9180::read(&file)?.rows().iter().filter(|row| row.record_type == 52) {
+///     let picture = x9180::picture(&file, row.offset)?;
+///     assert_eq!(picture, b"R");
+///     assert!(file.as_ptr_range().contains(&picture.as_ptr())); // no copy
+/// }
+/// assert_eq!(x9180::picture(&file, 0).unwrap_err().number(), x9180::Number::TYPE);
+/// # Ok(())
+/// # }
+/// ```
+pub fn picture(file: &[u8], offset: u64) -> Result<&[u8], Refusal> {
+    let [number, field, start, length] = ffi::picture(file, offset);
+    let part = || file.get(usize::try_from(start).ok()?..usize::try_from(start.checked_add(length)?).ok()?);
+    match Number(number) {
+        // The library's contract puts the part inside the file; were it not, nothing would be handed out.
+        Number::ACCEPTED => part().ok_or_else(|| explain::picture(file, Number::CUT, 0, offset)),
+        refused => Err(explain::picture(file, refused, field, offset)),
+    }
+}
+
+/// The refusal of a file by its length alone, for those who would rather not load a file that is too long.
+///
+/// ```
+/// assert_eq!(x9180::refused_by_size(300 << 20).map(|refusal| refusal.number()), Some(x9180::Number::SIZE));
+/// assert_eq!(x9180::refused_by_size(x9180::LIMIT as u64), None);
+/// ```
+pub fn refused_by_size(length: u64) -> Option<Refusal> {
+    (!explain::fits(length)).then(|| explain::size(length))
+}
+
+/// The number in a run of digits; `None` for anything else, and for more than 19 digits.
+pub(crate) fn number_in(digits: &[u8]) -> Option<u64> {
+    if digits.is_empty() || digits.len() > 19 {
+        return None;
+    }
+    digits.iter().try_fold(0u64, |number, digit| match digit {
+        b'0'..=b'9' => number.checked_mul(10)?.checked_add(u64::from(digit - b'0')),
+        _ => None,
+    })
+}

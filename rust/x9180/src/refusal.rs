@@ -1,0 +1,146 @@
+//! Why a file or a picture was refused, in numbers and in plain words.
+
+use crate::explain::Words;
+use crate::kinds::{Field, Kind};
+
+/// The number of an answer. [`Number::name`] and [`Number::meaning`] say it in words.
+#[derive(Clone, Copy, Debug, PartialEq, Eq, PartialOrd, Ord, Hash)]
+pub struct Number(pub u64);
+
+#[allow(missing_docs)]
+impl Number {
+    pub const ACCEPTED: Number = Number(0);
+    pub const SIZE: Number = Number(1);
+    pub const ROOM: Number = Number(2);
+    pub const CUT: Number = Number(3);
+    pub const LENGTH: Number = Number(4);
+    pub const TYPE: Number = Number(5);
+    pub const PLACE: Number = Number(6);
+    pub const FIELD: Number = Number(7);
+    pub const LINK: Number = Number(8);
+    pub const TOTAL: Number = Number(9);
+    pub const OPEN: Number = Number(10);
+    pub const AFTER: Number = Number(11);
+}
+
+/// Name and meaning of each number, by the number.
+const NUMBERS: [(&str, &str); 12] = [
+    ("ACCEPTED", "all rules hold"),
+    ("SIZE", "the file has no byte, or more than 268435456"),
+    ("ROOM", "all rules hold, but there is not memory enough for a row for each record"),
+    ("CUT", "the file ends before the record does"),
+    ("LENGTH", "the length is wrong for the record"),
+    ("TYPE", "the record's first two characters name no type that is read here"),
+    ("PLACE", "a record of this type may not stand here"),
+    ("FIELD", "a field breaks its data type or its defined values"),
+    ("LINK", "a field or record disagrees with an earlier one"),
+    ("TOTAL", "a control field is not what its part of the file adds up to"),
+    ("OPEN", "the file ends without a File Control Record (type 99)"),
+    ("AFTER", "bytes follow the File Control Record (type 99)"),
+];
+
+impl Number {
+    /// The number's name, as `FIELD`.
+    pub fn name(self) -> &'static str {
+        self.entry().0
+    }
+
+    /// What the number says of a file.
+    pub fn meaning(self) -> &'static str {
+        self.entry().1
+    }
+
+    fn entry(self) -> (&'static str, &'static str) {
+        let entry = usize::try_from(self.0).ok().and_then(|number| NUMBERS.get(number));
+        entry.copied().unwrap_or(("UNKNOWN", "a number that this version does not know"))
+    }
+}
+
+/// A refusal: the numbers of the answer, and what can be said of it in plain words.
+///
+/// `{}` puts the words on one line, `{:#}` on a line each.
+///
+/// ```
+/// # fn main() -> Result<(), std::io::Error> {
+/// let file = std::fs::read("../../peer/samples/damaged-02-check-digit.x9")?;
+/// let Err(refusal) = x9180::read(&file) else { panic!("the check digit is wrong") };
+/// assert_eq!((refusal.number(), refusal.record(), refusal.field(), refusal.offset()), (x9180::Number::FIELD, 1, 5, 0));
+/// assert_eq!(
+///     format!("{refusal:#}"),
+///     "FIELD: a field breaks its data type or its defined values\n\
+///      record 1, File Header Record (type 01), at offset 0\n\
+///      field 5, Immediate Origin Routing Number, at offset 18\n\
+///      found \"123456781\"\n\
+///      asked: a routing number: nine digits, the ninth the check digit of the ABA rule"
+/// );
+/// # Ok(())
+/// # }
+/// ```
+#[derive(Clone, Debug, PartialEq, Eq)]
+pub struct Refusal {
+    pub(crate) number: Number,
+    pub(crate) record: u64,
+    pub(crate) field: u64,
+    pub(crate) offset: u64,
+    /// What stands in the file at the fault. Boxed, so that a `Result` with a refusal in it stays small.
+    pub(crate) words: Box<Words>,
+}
+
+impl Refusal {
+    /// The number of the answer.
+    pub fn number(&self) -> Number {
+        self.number
+    }
+
+    /// The record at fault, from 1. For `ROOM` the rows needed. 0 for `SIZE`, and from [`picture`](crate::picture), which counts no
+    /// records.
+    pub fn record(&self) -> u64 {
+        self.record
+    }
+
+    /// The field at fault, from 1; 0 for the whole record.
+    pub fn field(&self) -> u64 {
+        self.field
+    }
+
+    /// The offset of the record's length field.
+    pub fn offset(&self) -> u64 {
+        self.offset
+    }
+
+    /// The kind of the record at fault, where its first two characters name one.
+    pub fn kind(&self) -> Option<&'static Kind> {
+        self.words.kind
+    }
+
+    /// The field at fault, with its name in the standard.
+    pub fn named_field(&self) -> Option<&'static Field> {
+        self.kind()?.field(self.field)
+    }
+
+    /// The bytes found at the fault, the first 64 of them where there are more: the field's, or those that should be a length or a
+    /// type. Never a picture's.
+    pub fn found(&self) -> &[u8] {
+        &self.words.found
+    }
+
+    /// The line of the scope document for a refused file.
+    ///
+    /// ```
+    /// let refusal = x9180::read(&[0, 0, 0, 0x50]).unwrap_err();
+    /// assert_eq!(refusal.line(), "refused 3 record 1 field 0 offset 0");
+    /// ```
+    pub fn line(&self) -> String {
+        format!("refused {} record {} field {} offset {}", self.number.0, self.record, self.field, self.offset)
+    }
+}
+
+impl std::fmt::Display for Refusal {
+    fn fmt(&self, f: &mut std::fmt::Formatter<'_>) -> std::fmt::Result {
+        write!(f, "{}: {}", self.number.name(), self.number.meaning())?;
+        let between = if f.alternate() { "\n" } else { "; " };
+        self.words.lines.iter().try_for_each(|line| write!(f, "{between}{line}"))
+    }
+}
+
+impl std::error::Error for Refusal {}

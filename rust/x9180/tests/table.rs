@@ -1,0 +1,54 @@
+//! The table of kinds beside the fields' list of the record tests, which was made from the standard on its own.
+
+use x9180::{Form, Kind, Place, Usage, KINDS};
+
+#[test]
+fn every_field_of_the_list_stands_in_the_table() {
+    let list = std::fs::read_to_string(concat!(env!("CARGO_MANIFEST_DIR"), "/../../tests/fields.tsv")).unwrap();
+    let mut counts = std::collections::BTreeMap::new();
+    for line in list.lines().skip(1) {
+        let [record_type, number, name, usage, start, size, data_type, format, values, _clause] =
+            line.split('\t').collect::<Vec<_>>()[..]
+        else {
+            panic!("{line}");
+        };
+        let kind = Kind::of(record_type.parse().unwrap()).unwrap();
+        let field = kind.field(number.parse().unwrap()).unwrap();
+        assert_eq!(field.name, name, "{line}");
+        assert_eq!(field.usage == Usage::Mandatory, usage == "M", "{line}");
+        assert_eq!(format!("{:?}", field.data_type), data_type, "{line}");
+        match field.place {
+            Place::Positions(first, last) => {
+                assert_eq!((first.to_string(), (last + 1 - first).to_string()), (start.into(), size.into()), "{line}");
+            }
+            Place::SizedBy(sizing) => assert_eq!(format!("var:{sizing}"), size, "{line}"),
+        }
+        match field.form {
+            Form::Date => assert_eq!(format, "date", "{line}"),
+            Form::HourMinute => assert_eq!(format, "hhmm", "{line}"),
+            Form::HourMinuteSecond => assert_eq!(format, "hhmmss", "{line}"),
+            Form::Routing => assert!(format.starts_with("routing:TTTTAAAAC"), "{line}"),
+            // House: 70.4 is all blank or all digits.
+            Form::Digits => assert_eq!((record_type, number, data_type), ("70", "4", "NB"), "{line}"),
+            Form::OneOrTwoDigits => assert!(values.starts_with("0|1|2|3") && values.ends_with("-99(r)"), "{line}"),
+            Form::Values(listed) => assert_eq!(listed.replace(", ", "|"), values.replace("(r)", ""), "{line}"),
+            Form::TypeAlone => {
+                assert_eq!(format, "none", "{line}");
+                assert!(matches!(values, "none" | "annexG") || values.starts_with("if F12"), "{line}");
+            }
+        }
+        *counts.entry(kind.number).or_insert(0) += 1;
+    }
+    assert!(counts.len() >= 18 && counts.values().sum::<usize>() >= 291);
+    for (number, count) in counts {
+        assert_eq!(Kind::of(number).unwrap().fields.len(), count, "type {number}");
+    }
+}
+
+#[test]
+fn kinds_and_fields_rise() {
+    assert!(KINDS.windows(2).all(|pair| pair[0].number < pair[1].number));
+    for kind in KINDS {
+        assert!(kind.fields.iter().map(|field| field.number).eq(1..=kind.fields.len() as u64), "{kind}");
+    }
+}
