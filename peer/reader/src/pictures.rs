@@ -14,7 +14,7 @@ pub const LINE: &str = "accepted records 38 letters 2 bundles 3 items 4 views 8 
 
 /// The bytes of the file.
 pub fn pictured() -> Vec<u8> {
-    let mut records = vec![file_header()];
+    let mut records = vec![with(file_header(), &[(24, "20240116")])];
 
     records.push(with(letter_header('I'), &[(23, "20240115"), (31, "20240115"), (45, "LETTER01")]));
     records.push(with(bundle_header(), &[(23, "20240115"), (49, "0001")]));

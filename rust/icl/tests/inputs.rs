@@ -134,19 +134,34 @@ fn a_folder() {
     each(&folder, &file, 2, &complaint);
 }
 
+/// Root may read all, so that root tries it as nobody, with a copy of the tool that nobody can reach.
 #[cfg(unix)]
 #[test]
 fn unreadable() {
     use std::os::unix::fs::PermissionsExt;
+    use std::os::unix::process::CommandExt;
     let folder = Folder::new("unreadable");
     let file = folder.with("locked", &read(SOUND));
-    std::fs::set_permissions(&file, std::fs::Permissions::from_mode(0o000)).unwrap();
-    if std::fs::read(&file).is_ok() {
-        return; // root may read all
-    }
+    let allow = |path: &str, mode| std::fs::set_permissions(path, std::fs::Permissions::from_mode(mode)).unwrap();
+    allow(&file, 0o000);
     let complaint = format!("{file}: permission was denied");
-    assert_eq!(run(&format!("check {file}")), (2, String::new(), format!("icl: {complaint}\n")));
-    each(&folder, &file, 2, &complaint);
+    if std::fs::read(&file).is_err() {
+        assert_eq!(run(&format!("check {file}")), (2, String::new(), format!("icl: {complaint}\n")));
+        return each(&folder, &file, 2, &complaint);
+    }
+    let copy = folder.path("icl");
+    std::fs::copy(env!("CARGO_BIN_EXE_icl"), &copy).unwrap();
+    allow(&folder.path(""), 0o755);
+    allow(&copy, 0o755);
+    let mut nobody = std::process::Command::new(&copy);
+    nobody.args(["check", &file]).uid(65534).gid(65534);
+    match nobody.output() {
+        Ok(output) => {
+            let said = String::from_utf8_lossy(&output.stderr).into_owned();
+            assert_eq!((output.status.code(), said), (Some(2), format!("icl: {complaint}\n")));
+        }
+        Err(error) => eprintln!("not tried: nobody cannot be started here ({error})"),
+    }
 }
 
 #[test]
@@ -186,6 +201,35 @@ fn a_pipe() {
     let said = format!("3 pictures (3 bytes) written to {out}\n");
     assert_eq!(piped(&format!("pictures - {out}"), &views), (0, said, String::new()));
     assert_eq!(folder.names("out").len(), 3);
+}
+
+/// A picture's record is judged alone: a fault elsewhere in the file does not keep it back, a fault of its own does.
+#[test]
+fn one_picture_of_a_damaged_file_and_from_a_pipe() {
+    let folder = Folder::new("one-picture");
+    let out = folder.path("out");
+    let (status, output, complaint) = run(&format!("picture {DAMAGED} 818 -o {out}"));
+    assert_eq!((status, output.as_str()), (1, ""));
+    assert!(
+        complaint.starts_with(&format!("icl: {DAMAGED}: refused 5 record 0 field 0 offset 818: TYPE: ")),
+        "{complaint}"
+    );
+    assert!(!folder.0.join("out").exists());
+
+    // The first 52 of this sample stands at 922; its field 9, at position 85 of the record, takes 0 to 4.
+    let mut views = read("peer/samples/sound-5-returns-with-views.x9");
+    views[922 + 4 + 84] = b'5';
+    let damaged = folder.with("damaged", &views);
+    let (status, output, complaint) = run(&format!("picture {damaged} 922 -o {out}"));
+    assert_eq!((status, output.as_str()), (1, ""));
+    assert!(
+        complaint.starts_with(&format!("icl: {damaged}: refused 7 record 0 field 9 offset 922: FIELD: ")),
+        "{complaint}"
+    );
+    assert!(!folder.0.join("out").exists());
+    // The second stands at 1150 and is sound.
+    assert_eq!(piped(&format!("picture - 1150 -o {out}"), &views).0, 0);
+    assert_eq!(std::fs::read(&out).unwrap(), b"R");
 }
 
 #[test]
