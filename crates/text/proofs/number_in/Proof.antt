@@ -3,7 +3,7 @@ use denote.Ref.{now}
 use borrow.Author.Tests.{not-true, not-false}
 use Rattle.text.specs.DataTypes.{ofType}
 use Rattle.text.specs.Number.{number, valueAfter}
-use Rattle.text.proofs.Laws.{binary-passes, together, apart, number-short}
+use Rattle.text.proofs.Laws.{number-short}
 use borrow.Author.Needs.{needs}
 use Rattle.text.proofs.number_in.Statement.{statement}
 use Rattle.text.proofs.number_in.Tie as tie
