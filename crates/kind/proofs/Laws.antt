@@ -9,8 +9,13 @@ use borrow.Author.Tests.{ne-eqb, eqb-true}
 use lib.Dec.{leb, ltb, eqb, leb·zero, leb·suc-zero, leb·suc-suc, eqb·suc-zero, eqb·suc-suc}
 use lib.ListN.{length, getD, take, drop, drop-of-length-le}
 use lib.Seq.{drop-drop, drop-nil}
-use Rattle.text.specs.DataTypes.{ofType}
+use Rattle.text.specs.declared.DataType.{DataType}
+use Rattle.text.specs.DataTypes.{ofType, some, isMark}
 use Rattle.text.proofs.Laws.{rest}
+use Rattle.field.specs.declared.Usage.{Usage}
+use Rattle.field.specs.declared.Usage.the-variants.{Mandatory, Conditional}
+use Rattle.field.specs.declared.Rule.{Rule}
+use Rattle.field.specs.Rules.{follows, meets, leftBlank, holds}
 use Rattle.kind.specs.Alone.{lineHolds, firstWrong, Sized, statedSize, statedSizes, firstWrongPart, isVariable, unless, judged, alone, sizedParts}
 use Rattle.kind.specs.Kinds.{imageViewData}
 use Rattle.kind.specs.Image.{imageStart, imageSize}
@@ -18,6 +23,30 @@ use Rattle.kind.specs.Layout.{Line}
 use Rattle.kind.specs.declared.Judged.{Judged}
 use Rattle.kind.specs.declared.Judged.the-variants.{Sound, WrongLength, WrongField}
 use Rattle.kind.specs.Packing.{lineOf, linesFrom, sizedOf, sizedFrom}
+
+-- the checks of a field, as far as they go
+module _ (usage : Usage) (t : DataType) (rule : Rule) (part body : List ℕ) where
+  pub blank-holds : leftBlank usage part ≡ true → holds usage t rule part body ≡ true
+  unfolding holds
+  blank-holds = passed usage
+    where
+      passed : (u : Usage) → leftBlank u part ≡ true → holds u t rule part body ≡ true
+      passed Mandatory b = cc
+      passed Conditional b = rw b
+
+  filled : leftBlank usage part ≡ false → holds usage t rule part body ≡ ofType t part && (follows rule part body || some (isMark t) part)
+  unfolding holds meets
+  filled = judged-by usage
+    where
+      judged-by : (u : Usage) → leftBlank u part ≡ false → holds u t rule part body ≡ ofType t part && (follows rule part body || some (isMark t) part)
+      judged-by Mandatory b = refl
+      judged-by Conditional b = rw b
+
+  pub other-type-fails : leftBlank usage part ≡ false → ofType t part ≡ false → holds usage t rule part body ≡ false
+  other-type-fails b o = filled b ∙ rw o
+
+  pub rule-decides : leftBlank usage part ≡ false → ofType t part ≡ true → holds usage t rule part body ≡ follows rule part body || some (isMark t) part
+  rule-decides b o = filled b ∙ rw o
 
 module _ (lines : List ℕ) (body : List ℕ) (n i : ℕ) where
   pub wrong-here : i < length lines → lineHolds (lineOf n (getD lines i 0)) body ≡ false → firstWrong (linesFrom n (drop i lines)) body ≡ n

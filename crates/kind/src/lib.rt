@@ -73,20 +73,27 @@ impl Judged {
     }
 }
 
+// The rule is unpacked last: a field left blank needs none, and the compiler then makes one jump of unpacking and judging it.
 fn line_holds(packed: u64, body: &[u8]) -> bool
     ensures { λ r. ⌜ ((n : ℕ) → r ≡ lineHolds (lineOf n packed) (now (body .entry))) ⌝ }
 {
     let start = packing::place_of(packed / 0x1_0000_0000_0000);
     let size = (packed / 0x100_0000_0000 % 0x100) as usize;
+    let part = frame::part_of(body, start, size);
     let usage = packing::usage_of(packed / 0x1_0000_0000 % 0x100);
+    if field::is_left_blank(usage, part) {
+        return true;
+    }
     let data_type = packing::data_type_of(packed / 0x100_0000 % 0x100);
+    if !text::of_type(data_type, part) {
+        return false;
+    }
     let rule = packing::rule_of(
         packed / 0x1_0000 % 0x100,
         packed / 0x100 % 0x100,
         packed % 0x100,
     );
-    let part = frame::part_of(body, start, size);
-    field::field_holds(usage, data_type, rule, part, body)
+    field::rule_holds(data_type, rule, part, body)
 }
 
 // The number of the first field of the fixed part that does not hold, or 0.

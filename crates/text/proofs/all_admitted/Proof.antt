@@ -31,12 +31,13 @@ loop-less : tie.Need-loop-less Inv-loop μ-loop
 loop-less c = search needs
 
 loop-again : tie.Need-loop-again Inv-loop μ-loop
-loop-again c =
-    (search needs,
-    rw (c .admits-character .ensures)
-    (every-carried (admits (c .before .before .before .before .before .args .t)) (now (c .before .before .before .before .before .args .s))
-    (c .before .before .before .loop .i) (c .before .before .before .loop .all) (search needs)
-    ∙ c .before .before .before .loop .inv .1))
+loop-again c = (
+  search needs,
+  rw (c .admits-character .ensures)
+      (every-carried (admits (c .before .before .before .before .before .args .t)) (now (c .before .before .before .before .before .args .s))
+      (c .before .before .before .loop .i) (c .before .before .before .loop .all) (search needs)
+      ∙ c .before .before .before .loop .inv .1),
+)
 
 returns : tie.Need-returns Inv-loop μ-loop
 returns c = every-told (admits (c .before .before .before .args .t)) (now (c .before .before .before .args .s)) (c .before .loop .i) (c .before .loop .all) (search needs)
