@@ -186,7 +186,7 @@ pub fn has_mark(t: DataType, s: &[u8]) -> bool
 }
 
 // A blank stands between two digits. `gap` says that a blank stands after some digit.
-pub fn blank_embedded(s: &[u8]) -> bool
+fn blank_between_digits(s: &[u8]) -> bool
     ensures { λ r. ⌜ r ≡ blankEmbedded (now (s .entry)) ⌝ }
 {
     let mut before = false;
@@ -204,15 +204,14 @@ pub fn blank_embedded(s: &[u8]) -> bool
     false
 }
 
-// Clauses 5.3.8 to 5.3.10 ask that no blank stands within the digits. Most such fields are digits alone.
-fn of_digits_together(t: DataType, s: &[u8]) -> bool
-    requires { ⌜ keepsDigitsTogether t ≡ true ⌝ }
-    ensures { λ r. ⌜ r ≡ ofType t (now (s .entry)) ⌝ }
+// Most fields that are asked for it are digits alone.
+pub fn blank_embedded(s: &[u8]) -> bool
+    ensures { λ r. ⌜ r ≡ blankEmbedded (now (s .entry)) ⌝ }
 {
     if all_numeric(s) {
-        return true;
+        return false;
     }
-    all_admitted(t, s) & !blank_embedded(s)
+    blank_between_digits(s)
 }
 
 // Whether a field is of its data type. Binary data is passed unread. Each type is named at its call, so that the compiler makes a loop
@@ -227,9 +226,9 @@ pub fn of_type(t: DataType, s: &[u8]) -> bool
         DataType::ANS => all_admitted(DataType::ANS, s),
         DataType::Binary => true,
         DataType::N => all_admitted(DataType::N, s),
-        DataType::NB => of_digits_together(DataType::NB, s),
-        DataType::NBD => of_digits_together(DataType::NBD, s),
-        DataType::NBQ => of_digits_together(DataType::NBQ, s),
+        DataType::NB => all_admitted(DataType::NB, s) & !blank_embedded(s),
+        DataType::NBD => all_admitted(DataType::NBD, s) & !blank_embedded(s),
+        DataType::NBQ => all_admitted(DataType::NBQ, s) & !blank_embedded(s),
         DataType::NBMc => all_admitted(DataType::NBMc, s),
         DataType::NBMcd => all_admitted(DataType::NBMcd, s),
         DataType::NBMcdo => all_admitted(DataType::NBMcdo, s),
