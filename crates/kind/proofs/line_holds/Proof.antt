@@ -1,7 +1,10 @@
 use mathlib.Core.Path.{sym, _∙_}
+use native.Mathlib.Omega.{arith}
+use lib.ListN.{length}
+use denote.Ref.{now}
 use borrow.Author.Tests.{not-true, not-false}
 use Rattle.kind.specs.Alone.{lineHolds}
-use Rattle.kind.proofs.Laws.{blank-holds, other-type-fails, rule-decides}
+use Rattle.kind.proofs.Laws.{lies, blank-holds, other-type-fails, rule-decides}
 use borrow.Author.Needs.{needs}
 use Rattle.kind.proofs.line_holds.Statement.{statement}
 use Rattle.kind.proofs.line_holds.Tie as tie
@@ -9,8 +12,8 @@ use Rattle.kind.proofs.line_holds.Tie as tie
 place-of-requires : tie.Need-place-of-requires
 place-of-requires c κs = search needs
 
-part-of-requires : tie.Need-part-of-requires
-part-of-requires c κs = search needs
+part-within-requires : tie.Need-part-within-requires
+part-within-requires c κs = omega (arith, c .place-of .ensures, lies (length (now (c .before .before .args .body))) (c .before .before .args .packed) (c .before .before .pre))
 
 usage-of-requires : tie.Need-usage-of-requires
 usage-of-requires c κs = search needs
@@ -21,7 +24,7 @@ is-left-blank-requires c κs = search needs
 returns : tie.Need-returns
 unfolding lineHolds
 returns c =
-    λ n. rw (sym (c .before .before .usage-of .ensures), sym (c .before .before .before .before .place-of .ensures), sym (c .before .before .before .part-of .ensures))
+    λ n. rw (sym (c .before .before .usage-of .ensures), sym (c .before .before .before .before .place-of .ensures), sym (c .before .before .before .part-within .ensures))
     (sym (blank-holds _ _ _ _ _ (sym (c .before .is-left-blank .ensures) ∙ c .if1 .taken)))
 
 data-type-of-requires : tie.Need-data-type-of-requires
@@ -33,7 +36,7 @@ of-type-requires c κs = search needs
 returns-2 : tie.Need-returns-2
 unfolding lineHolds
 returns-2 c =
-    λ n. rw (sym (c .before .before .before .before .before .usage-of .ensures), sym (c .before .before .data-type-of .ensures), sym (c .before .before .before .before .before .before .before .place-of .ensures), sym (c .before .before .before .before .before .before .part-of .ensures))
+    λ n. rw (sym (c .before .before .before .before .before .usage-of .ensures), sym (c .before .before .data-type-of .ensures), sym (c .before .before .before .before .before .before .before .place-of .ensures), sym (c .before .before .before .before .before .before .part-within .ensures))
     (sym (other-type-fails _ _ _ _ _ (sym (c .before .before .before .before .is-left-blank .ensures) ∙ c .before .before .before .if1 .left)
     (sym (c .before .of-type .ensures) ∙ not-true _ (c .if2 .taken))))
 
@@ -51,7 +54,7 @@ returns-3 c =
       sym (c .before .before .before .before .data-type-of .ensures),
       sym (c .before .rule-of .ensures),
       sym (c .before .before .before .before .before .before .before .before .before .place-of .ensures),
-      sym (c .before .before .before .before .before .before .before .before .part-of .ensures),
+      sym (c .before .before .before .before .before .before .before .before .part-within .ensures),
     )
     (c .rule-holds .ensures
     ∙ sym (rule-decides _ _ _ _ _ (sym (c .before .before .before .before .before .before .is-left-blank .ensures) ∙ c .before .before .before .before .before .if1 .left)
@@ -62,7 +65,7 @@ line-holds-spec =
     tie.close
     (tie.spec
     place-of-requires
-    part-of-requires
+    part-within-requires
     usage-of-requires
     is-left-blank-requires
     returns
