@@ -9,7 +9,7 @@ use native.Mathlib.Omega.{arith}
 use borrow.Author.Tests.{leb-true}
 use lib.Dec.{leb}
 use lib.ListN.{length, getD, take, drop, drop-of-length-le, length-take}
-use lib.Seq.{drop-cons, take-all}
+use lib.Seq.{drop-cons}
 use Rattle.text.specs.Characters.{isBlank, isNumeric, pickCharacter}
 use Rattle.text.specs.declared.DataType.{DataType}
 use Rattle.text.specs.declared.DataType.the-variants.{Binary}
@@ -117,10 +117,6 @@ module _ (t known : DataType) (xs : List ℕ) (e : t ≡ known) where
   pub apart : keepsDigitsTogether known ≡ false → every (admits known) xs ≡ ofType t xs
   unfolding ofType
   apart k = rw (e, k) (sym (and-true (every (admits known) xs)))
-
-pub number-short : (xs : List ℕ) → length xs ≤ 19 → number xs ≡ valueAfter 0 xs
-unfolding number
-number-short xs h = rw (take-all 19 xs h)
 
 -- a digit is at most 9, and a run of k digits has a number below the k-th power of ten
 digit-test : (a b : Bool) (x : ℕ) → (b ≡ true → x ≤ 0x39) → pickCharacter (a && b) (x - 0x30) 0 ≤ 9

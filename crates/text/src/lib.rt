@@ -1,7 +1,7 @@
 // Clause 5: characters, field data types, and the number in a run of digits.
 ghost use mathlib.Core.Path.{_≡_};
 ghost use Prim.Native.Nat.{_<_, _≤_, _^_};
-ghost use lib.ListN.{length};
+ghost use lib.ListN.{length, take};
 ghost use Rattle.text.specs.Characters.{isBlank, isAlphabetic, isNumeric, isQuestionable, isSpecial, isAmountSymbol, isCannotRead, isDash, isOnUsSymbol, isTransitSymbol, capital};
 ghost use Rattle.text.specs.DataTypes.{every, some, admits, keepsDigitsTogether, blankEmbedded, ofType, isMark};
 ghost use Rattle.text.specs.Number.{digit, valueAfter, number};
@@ -285,11 +285,18 @@ fn value_of(s: &[u8]) -> u64
     value
 }
 
+// The first characters, as many as 64 bits can hold the number of.
+fn leading(s: &[u8]) -> &[u8]
+    ensures { λ r. ⌜ now r ≡ take 19 (now (s .entry)) ⌝ }
+{
+    if 19 < s.len() {
+        return &s[0..19];
+    }
+    s
+}
+
 pub fn number_in(s: &[u8]) -> u64
     ensures { λ r. ⌜ r ≡ number (now (s .entry)) ⌝ }
 {
-    if 19 < s.len() {
-        return value_of(&s[0..19]);
-    }
-    value_of(s)
+    value_of(leading(s))
 }
