@@ -53,6 +53,11 @@ follows (ClippingCoordinate origin) part body = clippingCoordinate origin part b
 unfoldable pub meets : DataType → Rule → List ℕ → List ℕ → Bool
 meets t rule part body = ofType t part && (follows rule part body || some (isMark t) part)
 
+-- a field that needs to meet nothing
+abbrev pub leftBlank : Usage → List ℕ → Bool
+leftBlank Mandatory part = false
+leftBlank Conditional part = every isBlank part
+
 -- "A mandatory field meets its type and defined values"; "a conditional field is all blank, or meets its type and defined values"
 unfoldable pub holds : Usage → DataType → Rule → List ℕ → List ℕ → Bool
 holds Mandatory t rule part body = meets t rule part body

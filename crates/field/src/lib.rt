@@ -1,15 +1,15 @@
-// When one field is right: its usage, its data type, and its Format line or defined values.
+// When one field is right: its usage, and its Format line or defined values. Its data type is judged by `text`.
 use text::DataType;
 ghost use mathlib.Core.Path.{_≡_};
-ghost use mathlib.Core.Bool.{_&&_};
+ghost use mathlib.Core.Bool.{_&&_, _||_};
 ghost use Prim.Native.Nat.{_≤_};
 ghost use lib.ListN.{length, getD};
 ghost use Rattle.text.specs.Characters.{within, isNumeric};
-ghost use Rattle.text.specs.DataTypes.{every};
+ghost use Rattle.text.specs.DataTypes.{every, some, isMark};
 ghost use Rattle.text.specs.Number.{number};
 ghost use Rattle.field.specs.Values.{isCode, isStandardLevel, isCollectionType, isBundleCollectionType};
 ghost use Rattle.field.specs.Formats.{isDate, isHoursMinutes, isHoursMinutesSeconds, weightedSum, isRoutingNumber};
-ghost use Rattle.field.specs.Rules.{digitsWith, oneOrTwoDigits, code, clippingCoordinate, follows, meets, holds};
+ghost use Rattle.field.specs.Rules.{digitsWith, oneOrTwoDigits, code, clippingCoordinate, follows, leftBlank};
 
 // Clause 6.3.
 pub enum Usage {
@@ -200,35 +200,22 @@ pub fn follows_rule<'a>(rule: Rule, part: &'a [u8], body: &'a [u8]) -> bool
     }
 }
 
-fn meets_rule<'a>(t: DataType, rule: Rule, part: &'a [u8], body: &'a [u8]) -> bool
-    ensures { λ r. ⌜ r ≡ meets t rule (now (part .entry)) (now (body .entry)) ⌝ }
+// A conditional field may be left blank.
+pub fn is_left_blank(usage: Usage, part: &[u8]) -> bool
+    ensures { λ r. ⌜ r ≡ leftBlank usage (now (part .entry)) ⌝ }
 {
-    if !text::of_type(t, part) {
-        return false;
+    match usage {
+        Usage::Mandatory => false,
+        Usage::Conditional => text::all_blank(part),
     }
+}
+
+// What is asked of a field of its data type: its rule, or a mark that leaves the data type alone to judge.
+pub fn rule_holds<'a>(t: DataType, rule: Rule, part: &'a [u8], body: &'a [u8]) -> bool
+    ensures { λ r. ⌜ r ≡ follows rule (now (part .entry)) (now (body .entry)) || some (isMark t) (now (part .entry)) ⌝ }
+{
     if follows_rule(rule, part, body) {
         return true;
     }
     text::has_mark(t, part)
-}
-
-// Whether the field whose part of the record's body this is holds.
-pub fn field_holds<'a>(
-    usage: Usage,
-    t: DataType,
-    rule: Rule,
-    part: &'a [u8],
-    body: &'a [u8],
-) -> bool
-    ensures { λ r. ⌜ r ≡ holds usage t rule (now (part .entry)) (now (body .entry)) ⌝ }
-{
-    match usage {
-        Usage::Mandatory => meets_rule(t, rule, part, body),
-        Usage::Conditional => {
-            if text::all_blank(part) {
-                return true;
-            }
-            meets_rule(t, rule, part, body)
-        }
-    }
 }

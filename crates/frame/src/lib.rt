@@ -31,6 +31,15 @@ pub fn part_of(s: &[u8], start: usize, size: usize) -> &[u8]
     &s[start..end]
 }
 
+// The same where the slice is known to reach so far.
+pub fn part_within(s: &[u8], start: usize, size: usize) -> &[u8]
+    requires { ⌜ start + size ≤ length (now s) ⌝ }
+    ensures { λ r. ⌜ now r ≡ part start size (now (s .entry)) ⌝ }
+{
+    let end = start + size;
+    &s[start..end]
+}
+
 fn wide(x: u8) -> usize
     ensures { λ r. ⌜ (r ≡ x) × (r ≤ 255) ⌝ }
 {

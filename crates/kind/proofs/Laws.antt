@@ -2,22 +2,71 @@
 use mathlib.Core.Path.{_≡_, refl, ap, sym, _∙_}
 use mathlib.Core.Bool.{Bool, true, false, _&&_, _||_, not}
 use mathlib.Core.List.{List, [], _∷_}
-use Prim.Native.Nat.{ℕ, zero, suc, _+_, _-_, _≤_, _<_, min}
+use Prim.Native.Nat.{ℕ, zero, suc, _+_, _-_, _/_, _%_, _≤_, _<_, min}
 use native.Mathlib.Nat.{zero-add, suc-add, zero-min, suc-min-suc, not-suc-le-zero, le-of-suc-le-suc}
 use native.Mathlib.Omega.{arith}
-use borrow.Author.Tests.{ne-eqb, eqb-true}
+use borrow.Author.Tests.{ne-eqb, eqb-true, leb-true, le-leb}
 use lib.Dec.{leb, ltb, eqb, leb·zero, leb·suc-zero, leb·suc-suc, eqb·suc-zero, eqb·suc-suc}
 use lib.ListN.{length, getD, take, drop, drop-of-length-le}
 use lib.Seq.{drop-drop, drop-nil}
-use Rattle.text.specs.DataTypes.{ofType}
+use Rattle.text.specs.declared.DataType.{DataType}
+use Rattle.text.specs.DataTypes.{every, ofType, some, isMark}
 use Rattle.text.proofs.Laws.{rest}
+use Rattle.field.specs.declared.Usage.{Usage}
+use Rattle.field.specs.declared.Usage.the-variants.{Mandatory, Conditional}
+use Rattle.field.specs.declared.Rule.{Rule}
+use Rattle.field.specs.Rules.{follows, meets, leftBlank, holds}
 use Rattle.kind.specs.Alone.{lineHolds, firstWrong, Sized, statedSize, statedSizes, firstWrongPart, isVariable, unless, judged, alone, sizedParts}
 use Rattle.kind.specs.Kinds.{imageViewData}
 use Rattle.kind.specs.Image.{imageStart, imageSize}
 use Rattle.kind.specs.Layout.{Line}
 use Rattle.kind.specs.declared.Judged.{Judged}
 use Rattle.kind.specs.declared.Judged.the-variants.{Sound, WrongLength, WrongField}
-use Rattle.kind.specs.Packing.{lineOf, linesFrom, sizedOf, sizedFrom}
+use Rattle.kind.specs.Packing.{lineOf, linesFrom, liesWithin, sizedOf, sizedFrom}
+
+both-true : (a b : Bool) → a && b ≡ true → (a ≡ true) × (b ≡ true)
+both-true true b e = (refl, e)
+both-true false b e = (e, cc)
+
+pub lies : (n packed : ℕ) → liesWithin n packed ≡ true → packed / 0x1_0000_0000_0000 - 1 + packed / 0x100_0000_0000 % 0x100 ≤ n
+lies n packed e = leb-true (packed / 0x1_0000_0000_0000 - 1 + packed / 0x100_0000_0000 % 0x100) n e
+
+-- lines that lie within a fixed part lie within what is longer, each of them
+pub line-within : (lines : List ℕ) (n i : ℕ) → every (liesWithin n) lines ≡ true → i < length lines → liesWithin n (getD lines i 0) ≡ true
+line-within [] n i e h = absurd (not-suc-le-zero h)
+line-within (p ∷ ps) n zero e h = both-true (liesWithin n p) (every (liesWithin n) ps) e .0
+line-within (p ∷ ps) n (suc i) e h = line-within ps n i (both-true (liesWithin n p) (every (liesWithin n) ps) e .1) (le-of-suc-le-suc h)
+
+pub within-longer : (lines : List ℕ) (n m : ℕ) → n ≤ m → every (liesWithin n) lines ≡ true → every (liesWithin m) lines ≡ true
+within-longer [] n m h e = refl
+within-longer (p ∷ ps) n m h e =
+    let both = both-true (liesWithin n p) (every (liesWithin n) ps) e in
+    let at-most = lies n p (both .0) in
+    rw (le-leb (p / 0x1_0000_0000_0000 - 1 + p / 0x100_0000_0000 % 0x100) m (omega arith)) (within-longer ps n m h (both .1))
+
+-- the checks of a field, as far as they go
+module _ (usage : Usage) (t : DataType) (rule : Rule) (part body : List ℕ) where
+  pub blank-holds : leftBlank usage part ≡ true → holds usage t rule part body ≡ true
+  unfolding holds
+  blank-holds = passed usage
+    where
+      passed : (u : Usage) → leftBlank u part ≡ true → holds u t rule part body ≡ true
+      passed Mandatory b = cc
+      passed Conditional b = rw b
+
+  filled : leftBlank usage part ≡ false → holds usage t rule part body ≡ ofType t part && (follows rule part body || some (isMark t) part)
+  unfolding holds meets
+  filled = judged-by usage
+    where
+      judged-by : (u : Usage) → leftBlank u part ≡ false → holds u t rule part body ≡ ofType t part && (follows rule part body || some (isMark t) part)
+      judged-by Mandatory b = refl
+      judged-by Conditional b = rw b
+
+  pub other-type-fails : leftBlank usage part ≡ false → ofType t part ≡ false → holds usage t rule part body ≡ false
+  other-type-fails b o = filled b ∙ rw o
+
+  pub rule-decides : leftBlank usage part ≡ false → ofType t part ≡ true → holds usage t rule part body ≡ follows rule part body || some (isMark t) part
+  rule-decides b o = filled b ∙ rw o
 
 module _ (lines : List ℕ) (body : List ℕ) (n i : ℕ) where
   pub wrong-here : i < length lines → lineHolds (lineOf n (getD lines i 0)) body ≡ false → firstWrong (linesFrom n (drop i lines)) body ≡ n

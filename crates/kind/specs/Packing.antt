@@ -4,7 +4,7 @@
 use Prim.Native.Nat.{ℕ, _+_, _-_, _/_, _%_}
 use mathlib.Core.Bool.{Bool, true, false}
 use mathlib.Core.List.{List, [], _∷_}
-use lib.Dec.{eqb}
+use lib.Dec.{leb, eqb}
 use Rattle.text.specs.declared.DataType.{DataType}
 use Rattle.text.specs.declared.DataType.the-variants.{AB, A, AN, ANS, Binary, N, NB, NBD, NBQ, NBMc, NBMcd, NBMcdo, NBMU}
 use Rattle.field.specs.declared.Usage.{Usage}
@@ -84,6 +84,10 @@ lineOf n packed =
 abbrev pub linesFrom : ℕ → List ℕ → List Line
 linesFrom n [] = []
 linesFrom n (p ∷ ps) = lineOf n p ∷ linesFrom (n + 1) ps
+
+-- a line that lies within the first so many positions
+abbrev pub liesWithin : ℕ → ℕ → Bool
+liesWithin length packed = leb (packed / 0x1_0000_0000_0000 - 1 + packed / 0x100_0000_0000 % 0x100) length
 
 -- the same of a part: the position and size of the field that states its size, and its data type
 abbrev pub sizedOf : ℕ → ℕ → Sized

@@ -29,7 +29,9 @@ ghost use Rattle.kind.specs.Alone.{numberOf, fieldOf, lineHolds, firstWr
 ghost use Rattle.kind.specs.Image.{imageStart, imageSize};
 ghost use Rattle.kind.specs.Kinds.{imageViewData};
 ghost use Rattle.kind.specs.declared.Judged.the-variants.{Sound};
-ghost use Rattle.kind.specs.Packing.{lineOf, linesFrom, sizedOf, sizedFrom};
+ghost use Rattle.kind.specs.Packing.{lineOf, linesFrom, sizedOf, sizedFrom, liesWithin};
+ghost use Rattle.text.specs.DataTypes.{every};
+ghost use mathlib.Core.Bool.{true};
 
 // What is found of a record alone.
 pub enum Judged {
@@ -73,24 +75,33 @@ impl Judged {
     }
 }
 
+// The rule is unpacked last: a field left blank needs none, and the compiler then makes one jump of unpacking and judging it.
 fn line_holds(packed: u64, body: &[u8]) -> bool
+    requires { ⌜ liesWithin (length (now body)) packed ≡ true ⌝ }
     ensures { λ r. ⌜ ((n : ℕ) → r ≡ lineHolds (lineOf n packed) (now (body .entry))) ⌝ }
 {
     let start = packing::place_of(packed / 0x1_0000_0000_0000);
     let size = (packed / 0x100_0000_0000 % 0x100) as usize;
+    let part = frame::part_within(body, start, size);
     let usage = packing::usage_of(packed / 0x1_0000_0000 % 0x100);
+    if field::is_left_blank(usage, part) {
+        return true;
+    }
     let data_type = packing::data_type_of(packed / 0x100_0000 % 0x100);
+    if !text::of_type(data_type, part) {
+        return false;
+    }
     let rule = packing::rule_of(
         packed / 0x1_0000 % 0x100,
         packed / 0x100 % 0x100,
         packed % 0x100,
     );
-    let part = frame::part_of(body, start, size);
-    field::field_holds(usage, data_type, rule, part, body)
+    field::rule_holds(data_type, rule, part, body)
 }
 
 // The number of the first field of the fixed part that does not hold, or 0.
 fn first_wrong<'a>(lines: &'a [u64], body: &'a [u8]) -> usize
+    requires { ⌜ every (liesWithin (length (now body))) (now lines) ≡ true ⌝ }
     ensures { λ r. ⌜ r ≡ firstWrong (linesFrom 1 (now (lines .entry))) (now (body .entry)) ⌝ }
 {
     let mut i = 0;
@@ -180,7 +191,7 @@ fn sizes_before<'a>(count: usize, parts: &'a [u64], body: &'a [u8]) -> u64
 
 // The checks of one record alone, in document 01's order.
 fn judge_body<'a>(fixed: usize, lines: &'a [u64], parts: &'a [u64], body: &'a [u8]) -> Judged
-    requires { ⌜ length (now lines) + length (now parts) ≤ 900 ⌝ }
+    requires { ⌜ (length (now lines) + length (now parts) ≤ 900) × (every (liesWithin fixed) (now lines) ≡ true) ⌝ }
     ensures { λ r. ⌜ r ≡ judged fixed (linesFrom 1 (now (lines .entry))) (sizedFrom (length (now (lines .entry)) + 1) (now (parts .entry))) (now (body .entry)) ⌝ }
 {
     if body.len() < fixed {

@@ -9,7 +9,7 @@ use native.Mathlib.Omega.{arith}
 use borrow.Author.Tests.{leb-true}
 use lib.Dec.{leb}
 use lib.ListN.{length, getD, take, drop, drop-of-length-le, length-take}
-use lib.Seq.{drop-cons, take-all}
+use lib.Seq.{drop-cons}
 use Rattle.text.specs.Characters.{isBlank, isNumeric, pickCharacter}
 use Rattle.text.specs.declared.DataType.{DataType}
 use Rattle.text.specs.declared.DataType.the-variants.{Binary}
@@ -20,15 +20,28 @@ use Rattle.text.specs.Number.{digit, valueAfter, number}
 pub rest : (s : List ℕ) (i : ℕ) → i < length s → drop i s ≡ getD s i 0 ∷ drop (i + 1) s
 rest s i h = rw add-one (drop-cons s i 0 h)
 
-module _ (test : ℕ → Bool) (s : List ℕ) (i : ℕ) where
-  pub every-fails : i < length s → test (getD s i 0) ≡ false → every test (drop i s) ≡ false
-  every-fails h e = rw (rest s i h, e)
+pub and-true : (b : Bool) → b && true ≡ b
+and-true true = refl
+and-true false = refl
 
-  pub every-goes-on : i < length s → test (getD s i 0) ≡ true → every test (drop i s) ≡ every test (drop (i + 1) s)
-  every-goes-on h e = rw (rest s i h, e)
+and-assoc : (a b c : Bool) → (a && b) && c ≡ a && (b && c)
+and-assoc true b c = refl
+and-assoc false b c = refl
+
+module _ (test : ℕ → Bool) (s : List ℕ) (i : ℕ) where
+  pub every-turn : i < length s → every test (drop i s) ≡ test (getD s i 0) && every test (drop (i + 1) s)
+  every-turn h = rw (rest s i h)
 
   pub every-ends : length s ≤ i → every test (drop i s) ≡ true
   every-ends h = rw (drop-of-length-le s h)
+
+  -- a loop that carries whether all have passed so far
+  pub every-carried : (all : Bool) → i < length s
+      → (all && test (getD s i 0)) && every test (drop (i + 1) s) ≡ all && every test (drop i s)
+  every-carried all h = rw (every-turn h) (and-assoc all (test (getD s i 0)) (every test (drop (i + 1) s)))
+
+  pub every-told : (all : Bool) → length s ≤ i → all ≡ all && every test (drop i s)
+  every-told all h = rw (every-ends h) (sym (and-true all))
 
   pub some-found : i < length s → test (getD s i 0) ≡ true → some test (drop i s) ≡ true
   some-found h e = rw (rest s i h, e)
@@ -89,27 +102,21 @@ ten-more i = rw add-one (pow-suc 10 i)
 pub ten-top : (i : ℕ) → i ≤ 18 → 10 ^ i ≤ 10 ^ 18
 ten-top i h = pow-le-pow-right (omega arith) h
 
-and-true : (b : Bool) → b && true ≡ b
-and-true true = refl
-and-true false = refl
-
 -- binary data is of its type, whatever it is
-pub binary-passes : (xs : List ℕ) → ofType Binary xs ≡ true
+pub binary-passes : (xs : List ℕ) → true ≡ ofType Binary xs
 unfolding ofType
 binary-passes [] = refl
 binary-passes (x ∷ xs) = binary-passes xs
 
-pub together : (t : DataType) (xs : List ℕ) → keepsDigitsTogether t ≡ true → ofType t xs ≡ every (admits t) xs && not (blankEmbedded xs)
-unfolding ofType
-together t xs e = rw e
+-- the type of a field by what its loops find, at a type that is known
+module _ (t known : DataType) (xs : List ℕ) (e : t ≡ known) where
+  pub together : keepsDigitsTogether known ≡ true → every (admits known) xs && not (blankEmbedded xs) ≡ ofType t xs
+  unfolding ofType
+  together k = rw (e, k)
 
-pub apart : (t : DataType) (xs : List ℕ) → keepsDigitsTogether t ≡ false → ofType t xs ≡ every (admits t) xs
-unfolding ofType
-apart t xs e = rw e (and-true (every (admits t) xs))
-
-pub number-short : (xs : List ℕ) → length xs ≤ 19 → number xs ≡ valueAfter 0 xs
-unfolding number
-number-short xs h = rw (take-all 19 xs h)
+  pub apart : keepsDigitsTogether known ≡ false → every (admits known) xs ≡ ofType t xs
+  unfolding ofType
+  apart k = rw (e, k) (sym (and-true (every (admits known) xs)))
 
 -- a digit is at most 9, and a run of k digits has a number below the k-th power of ten
 digit-test : (a b : Bool) (x : ℕ) → (b ≡ true → x ≤ 0x39) → pickCharacter (a && b) (x - 0x30) 0 ≤ 9

@@ -1,10 +1,12 @@
 // Clause 5: characters, field data types, and the number in a run of digits.
 ghost use mathlib.Core.Path.{_≡_};
 ghost use Prim.Native.Nat.{_<_, _≤_, _^_};
-ghost use lib.ListN.{length};
+ghost use lib.ListN.{length, take};
 ghost use Rattle.text.specs.Characters.{isBlank, isAlphabetic, isNumeric, isQuestionable, isSpecial, isAmountSymbol, isCannotRead, isDash, isOnUsSymbol, isTransitSymbol, capital};
 ghost use Rattle.text.specs.DataTypes.{every, some, admits, keepsDigitsTogether, blankEmbedded, ofType, isMark};
 ghost use Rattle.text.specs.Number.{digit, valueAfter, number};
+ghost use Rattle.text.specs.declared.DataType.the-variants.{ANS};
+ghost use mathlib.Core.Bool.{true};
 
 // The field data types of clause 5.3, by the names that the standard gives them.
 pub enum DataType {
@@ -97,6 +99,13 @@ pub fn capital_of(x: u8) -> u8
     x
 }
 
+// The alphabetic, the numeric and the special characters, which stand together in Table 1.
+fn is_printable(x: u8) -> bool
+    ensures { λ r. ⌜ r ≡ admits ANS x ⌝ }
+{
+    (b' ' <= x) & (x <= b'~')
+}
+
 // Table 2: the characters of each data type.
 pub fn admits_character(t: DataType, x: u8) -> bool
     ensures { λ r. ⌜ r ≡ admits t x ⌝ }
@@ -104,7 +113,7 @@ pub fn admits_character(t: DataType, x: u8) -> bool
     let blank = is_blank(x);
     let alphabetic = is_alphabetic(x);
     let numeric = is_numeric(x);
-    let special = is_special(x);
+    let printable = is_printable(x);
     let cannot_read = is_cannot_read(x);
     let dash = is_dash(x);
     let on_us = is_on_us_symbol(x);
@@ -114,7 +123,7 @@ pub fn admits_character(t: DataType, x: u8) -> bool
         DataType::AB => blank,
         DataType::A => alphabetic,
         DataType::AN => alphabetic | numeric,
-        DataType::ANS => alphabetic | (numeric | special),
+        DataType::ANS => printable,
         DataType::Binary => true,
         DataType::N => numeric,
         DataType::NB => numeric | blank,
@@ -124,27 +133,6 @@ pub fn admits_character(t: DataType, x: u8) -> bool
         DataType::NBMcd => numeric | (blank | (cannot_read | dash)),
         DataType::NBMcdo => numeric | (blank | (cannot_read | (dash | on_us))),
         DataType::NBMU => numeric | (blank | (amount | (cannot_read | (dash | (on_us | transit))))),
-    }
-}
-
-// Clauses 5.3.8 to 5.3.10 ask that no blank stands within the digits.
-pub fn keeps_digits_together(t: DataType) -> bool
-    ensures { λ r. ⌜ r ≡ keepsDigitsTogether t ⌝ }
-{
-    match t {
-        DataType::AB => false,
-        DataType::A => false,
-        DataType::AN => false,
-        DataType::ANS => false,
-        DataType::Binary => false,
-        DataType::N => false,
-        DataType::NB => true,
-        DataType::NBD => true,
-        DataType::NBQ => true,
-        DataType::NBMc => false,
-        DataType::NBMcd => false,
-        DataType::NBMcdo => false,
-        DataType::NBMU => false,
     }
 }
 
@@ -171,17 +159,17 @@ pub fn is_mark(t: DataType, x: u8) -> bool
     }
 }
 
+// No early end: a branch on each character costs more than the rest of the characters.
 pub fn all_admitted(t: DataType, s: &[u8]) -> bool
     ensures { λ r. ⌜ r ≡ every (admits t) (now (s .entry)) ⌝ }
 {
+    let mut all = true;
     let mut i = 0;
     while i < s.len() {
-        if !admits_character(t, s[i]) {
-            return false;
-        }
+        all = all & admits_character(t, s[i]);
         i += 1;
     }
-    true
+    all
 }
 
 pub fn has_mark(t: DataType, s: &[u8]) -> bool
@@ -198,7 +186,7 @@ pub fn has_mark(t: DataType, s: &[u8]) -> bool
 }
 
 // A blank stands between two digits. `gap` says that a blank stands after some digit.
-pub fn blank_embedded(s: &[u8]) -> bool
+fn blank_between_digits(s: &[u8]) -> bool
     ensures { λ r. ⌜ r ≡ blankEmbedded (now (s .entry)) ⌝ }
 {
     let mut before = false;
@@ -216,17 +204,36 @@ pub fn blank_embedded(s: &[u8]) -> bool
     false
 }
 
-// Whether a field is of its data type. Binary data is passed unread.
+// Most fields that are asked for it are digits alone.
+pub fn blank_embedded(s: &[u8]) -> bool
+    ensures { λ r. ⌜ r ≡ blankEmbedded (now (s .entry)) ⌝ }
+{
+    if all_numeric(s) {
+        return false;
+    }
+    blank_between_digits(s)
+}
+
+// Whether a field is of its data type. Binary data is passed unread. Each type is named at its call, so that the compiler makes a loop
+// of its own for each.
 pub fn of_type(t: DataType, s: &[u8]) -> bool
     ensures { λ r. ⌜ r ≡ ofType t (now (s .entry)) ⌝ }
 {
-    if let DataType::Binary = t {
-        return true;
+    match t {
+        DataType::AB => all_admitted(DataType::AB, s),
+        DataType::A => all_admitted(DataType::A, s),
+        DataType::AN => all_admitted(DataType::AN, s),
+        DataType::ANS => all_admitted(DataType::ANS, s),
+        DataType::Binary => true,
+        DataType::N => all_admitted(DataType::N, s),
+        DataType::NB => all_admitted(DataType::NB, s) & !blank_embedded(s),
+        DataType::NBD => all_admitted(DataType::NBD, s) & !blank_embedded(s),
+        DataType::NBQ => all_admitted(DataType::NBQ, s) & !blank_embedded(s),
+        DataType::NBMc => all_admitted(DataType::NBMc, s),
+        DataType::NBMcd => all_admitted(DataType::NBMcd, s),
+        DataType::NBMcdo => all_admitted(DataType::NBMcdo, s),
+        DataType::NBMU => all_admitted(DataType::NBMU, s),
     }
-    if keeps_digits_together(t) {
-        return all_admitted(t, s) & !blank_embedded(s);
-    }
-    all_admitted(t, s)
 }
 
 pub fn all_blank(s: &[u8]) -> bool
@@ -278,11 +285,18 @@ fn value_of(s: &[u8]) -> u64
     value
 }
 
+// The first characters, as many as 64 bits can hold the number of.
+fn leading(s: &[u8]) -> &[u8]
+    ensures { λ r. ⌜ now r ≡ take 19 (now (s .entry)) ⌝ }
+{
+    if 19 < s.len() {
+        return &s[0..19];
+    }
+    s
+}
+
 pub fn number_in(s: &[u8]) -> u64
     ensures { λ r. ⌜ r ≡ number (now (s .entry)) ⌝ }
 {
-    if 19 < s.len() {
-        return value_of(&s[0..19]);
-    }
-    value_of(s)
+    value_of(leading(s))
 }

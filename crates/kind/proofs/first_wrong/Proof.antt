@@ -8,7 +8,7 @@ use borrow.Author.Tests.{eq-eqb, ne-eqb, not-true, not-false, lt-leb, le-leb}
 use Rattle.text.specs.DataTypes.{ofType}
 use Rattle.kind.specs.Alone.{lineHolds, firstWrong, statedSize, statedSizes, firstWrongPart, typeOf}
 use Rattle.kind.specs.Packing.{lineOf, linesFrom, sizedOf, sizedFrom}
-use Rattle.kind.proofs.Laws.{wrong-here, wrong-later, wrong-none, eqb-sub, sizes-more, sizes-none, part-wrong, part-right, part-none, past-part}
+use Rattle.kind.proofs.Laws.{line-within, wrong-here, wrong-later, wrong-none, eqb-sub, sizes-more, sizes-none, part-wrong, part-right, part-none, past-part}
 use borrow.Author.Needs.{needs}
 use Rattle.kind.proofs.first_wrong.Statement.{statement}
 use Rattle.kind.proofs.first_wrong.Tie as tie
@@ -29,7 +29,8 @@ shared-slice-read-line-holds : tie.Need-shared-slice-read-line-holds Inv-loop μ
 shared-slice-read-line-holds c = search needs
 
 line-holds-requires : tie.Need-line-holds-requires Inv-loop μ-loop
-line-holds-requires c κs = search needs
+line-holds-requires c κs =
+    line-within (now (c .before .before .before .before .before .args .lines)) (length (now (c .before .before .before .before .before .args .body))) (c .before .before .loop .i) (c .before .before .before .before .before .pre) (search needs)
 
 add-result : tie.Need-add-result Inv-loop μ-loop
 add-result c = search needs

@@ -11,7 +11,7 @@ use Rattle.kind.specs.Packing.{lineOf, linesFrom, sizedOf, sizedFrom}
 use Rattle.kind.proofs.Laws.{wrong-here, wrong-later, wrong-none, eqb-sub, sizes-more, sizes-none, part-wrong, part-right, part-none, past-part}
 use mathlib.Core.Bool.{not}
 use Rattle.kind.specs.Alone.{judged}
-use Rattle.kind.proofs.Laws.{length-allowed}
+use Rattle.kind.proofs.Laws.{within-longer, length-allowed}
 use borrow.Author.Needs.{needs}
 use Rattle.kind.proofs.judge_body.Statement.{statement}
 use Rattle.kind.proofs.judge_body.Tie as tie
@@ -28,7 +28,8 @@ unfolding judged
 returns-2 c = simp (le-leb (c .before .before .before .before .before .args .fixed) (length (now (c .before .before .before .before .before .args .body))) (c .before .if1 .left), length-allowed (now (c .before .before .before .before .before .args .parts)) (length (now (c .before .before .before .before .before .args .lines)) + 1) (length (now (c .before .before .before .before .before .args .body))) (c .before .before .before .before .before .args .fixed) ∙ ap not (c .if2 .taken))
 
 first-wrong-requires : tie.Need-first-wrong-requires
-first-wrong-requires c κs = search needs
+first-wrong-requires c κs =
+    within-longer (now (c .before .before .before .before .before .args .lines)) (c .before .before .before .before .before .args .fixed) (length (now (c .before .before .before .before .before .args .body))) (c .before .if1 .left) (c .before .before .before .before .before .pre .1)
 
 returns-3 : tie.Need-returns-3
 unfolding judged

@@ -11,8 +11,8 @@ is-alphabetic-requires c κs = search needs
 is-numeric-requires : tie.Need-is-numeric-requires
 is-numeric-requires c κs = search needs
 
-is-special-requires : tie.Need-is-special-requires
-is-special-requires c κs = search needs
+is-printable-requires : tie.Need-is-printable-requires
+is-printable-requires c κs = search needs
 
 is-cannot-read-requires : tie.Need-is-cannot-read-requires
 is-cannot-read-requires c κs = search needs
@@ -81,7 +81,7 @@ returns-3 : tie.Need-returns-3
 returns-3 c = rw (c .enum-told3 .given .1, c .before .before .before .before .before .before .before .before .before .is-alphabetic .ensures, c .before .before .before .before .before .before .before .before .is-numeric .ensures)
 
 returns-4 : tie.Need-returns-4
-returns-4 c = rw (c .enum-told4 .given .1, c .before .before .before .before .before .before .before .before .before .is-alphabetic .ensures, c .before .before .before .before .before .before .before .before .is-numeric .ensures, c .before .before .before .before .before .before .before .is-special .ensures)
+returns-4 c = rw (c .enum-told4 .given .1, c .before .before .before .before .before .before .before .is-printable .ensures)
 
 returns-5 : tie.Need-returns-5
 returns-5 c = rw (c .enum-told5 .given .1)
@@ -111,4 +111,4 @@ returns-13 : tie.Need-returns-13
 returns-13 c = rw (c .enum-told13 .given .1, c .before .before .before .before .before .before .before .before .is-numeric .ensures, c .before .before .before .before .before .before .before .before .before .before .is-blank .ensures, c .before .before .before .is-amount-symbol .ensures, c .before .before .before .before .before .before .is-cannot-read .ensures, c .before .before .before .before .before .is-dash .ensures, c .before .before .before .before .is-on-us-symbol .ensures, c .before .before .is-transit-symbol .ensures)
 
 pub admits-character-spec : {M : Type 1} → statement M
-admits-character-spec = tie.close (tie.spec is-blank-requires is-alphabetic-requires is-numeric-requires is-special-requires is-cannot-read-requires is-dash-requires is-on-us-symbol-requires is-amount-symbol-requires is-transit-symbol-requires enum-told enum-told-2 enum-told-3 enum-told-4 enum-told-5 enum-told-6 enum-told-7 enum-told-8 enum-told-9 is-questionable-requires enum-told-10 enum-told-11 enum-told-12 enum-told-13 returns returns-2 returns-3 returns-4 returns-5 returns-6 returns-7 returns-8 returns-9 returns-10 returns-11 returns-12 returns-13)
+admits-character-spec = tie.close (tie.spec is-blank-requires is-alphabetic-requires is-numeric-requires is-printable-requires is-cannot-read-requires is-dash-requires is-on-us-symbol-requires is-amount-symbol-requires is-transit-symbol-requires enum-told enum-told-2 enum-told-3 enum-told-4 enum-told-5 enum-told-6 enum-told-7 enum-told-8 enum-told-9 is-questionable-requires enum-told-10 enum-told-11 enum-told-12 enum-told-13 returns returns-2 returns-3 returns-4 returns-5 returns-6 returns-7 returns-8 returns-9 returns-10 returns-11 returns-12 returns-13)

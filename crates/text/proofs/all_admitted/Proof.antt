@@ -1,23 +1,19 @@
-use Prim.Native.Nat.{ℕ, _≤_, _-_, _+_, _*_, _^_, _<_}
-use mathlib.Core.Path.{_≡_, refl, sym, _∙_, ap}
-use mathlib.Core.Bool.{_&&_, _||_}
-use native.Mathlib.Omega.{arith}
-use borrow.Author.Tests.{not-true, not-false}
-use lib.ListN.{length, getD, drop}
+use Prim.Native.Nat.{_≤_, _-_}
+use mathlib.Core.Path.{_≡_, refl, _∙_}
+use mathlib.Core.Bool.{_&&_}
+use lib.ListN.{length, drop}
 use denote.Ref.{now}
-use Rattle.text.specs.Characters.{isBlank, isNumeric}
-use Rattle.text.specs.DataTypes.{every, some, admits, isMark, blankEmbedded}
-use Rattle.text.specs.Number.{valueAfter}
-use Rattle.text.proofs.Laws.{every-fails, every-goes-on, every-ends, some-found, some-goes-on, some-ends, embeddedFrom, embedded-found, embedded-goes-on, embedded-ends, value-goes-on, value-ends, ten-more, ten-top}
+use Rattle.text.specs.DataTypes.{every, admits}
+use Rattle.text.proofs.Laws.{every-carried, every-told}
 use borrow.Author.Needs.{needs}
 use Rattle.text.proofs.all_admitted.Statement.{statement}
 use Rattle.text.proofs.all_admitted.Tie as tie
 
 abbrev Inv-loop : tie.InvT-loop
-Inv-loop t s i₀ i = (i ≤ length s) × (every (admits t) (drop i s) ≡ every (admits t) s)
+Inv-loop t s all₀ i₀ all i = (i ≤ length s) × (all && every (admits t) (drop i s) ≡ every (admits t) s)
 
 abbrev μ-loop : tie.MeasureT-loop
-μ-loop t s i₀ i = length s - i
+μ-loop t s all₀ i₀ all i = length s - i
 
 loop-holds : tie.Need-loop-holds Inv-loop μ-loop
 loop-holds c = (search needs, refl)
@@ -28,9 +24,6 @@ shared-slice-read-admits-character c = search needs
 admits-character-requires : tie.Need-admits-character-requires Inv-loop μ-loop
 admits-character-requires c κs = search needs
 
-returns : tie.Need-returns Inv-loop μ-loop
-returns c = sym (every-fails (admits (c .before .before .before .before .before .before .args .t)) (now (c .before .before .before .before .before .before .args .s)) (c .before .before .before .before .loop .i) (search needs) (sym (c .before .admits-character .ensures) ∙ not-true _ (c .if1 .taken))) ∙ c .before .before .before .before .loop .inv .1
-
 add-i : tie.Need-add-i Inv-loop μ-loop
 add-i c = search needs
 
@@ -38,10 +31,17 @@ loop-less : tie.Need-loop-less Inv-loop μ-loop
 loop-less c = search needs
 
 loop-again : tie.Need-loop-again Inv-loop μ-loop
-loop-again c = (search needs, sym (every-goes-on (admits (c .before .before .before .before .before .before .args .t)) (now (c .before .before .before .before .before .before .args .s)) (c .before .before .before .before .loop .i) (search needs) (sym (c .before .admits-character .ensures) ∙ not-false _ (c .if1 .left))) ∙ c .before .before .before .before .loop .inv .1)
+loop-again c = (
+  search needs,
+  rw (c .admits-character .ensures)
+      (every-carried (admits (c .before .before .before .before .before .args .t)) (now (c .before .before .before .before .before .args .s))
+      (c .before .before .before .loop .i) (c .before .before .before .loop .all) (search needs)
+      ∙ c .before .before .before .loop .inv .1),
+)
 
-returns-2 : tie.Need-returns-2 Inv-loop μ-loop
-returns-2 c = sym (every-ends (admits (c .before .before .before .args .t)) (now (c .before .before .before .args .s)) (c .before .loop .i) (search needs)) ∙ c .before .loop .inv .1
+returns : tie.Need-returns Inv-loop μ-loop
+returns c = every-told (admits (c .before .before .before .args .t)) (now (c .before .before .before .args .s)) (c .before .loop .i) (c .before .loop .all) (search needs)
+    ∙ c .before .loop .inv .1
 
 pub all-admitted-spec : {M : Type 1} → statement M
 all-admitted-spec =
@@ -52,8 +52,7 @@ all-admitted-spec =
     loop-holds
     shared-slice-read-admits-character
     admits-character-requires
-    returns
     add-i
     loop-less
     loop-again
-    returns-2)
+    returns)

@@ -1,68 +1,22 @@
-use mathlib.Core.Bool.{Bool}
-use Prim.Native.Nat.{ℕ, _≤_, _-_, _+_, _*_, _^_, _<_}
-use mathlib.Core.Path.{_≡_, refl, sym, _∙_, ap}
-use mathlib.Core.Bool.{_&&_, _||_}
-use native.Mathlib.Omega.{arith}
-use borrow.Author.Tests.{not-true, not-false}
-use lib.ListN.{length, getD, drop}
+use mathlib.Core.Bool.{false}
+use mathlib.Core.Path.{sym, _∙_}
 use denote.Ref.{now}
-use Rattle.text.specs.Characters.{isBlank, isNumeric}
-use Rattle.text.specs.DataTypes.{every, some, admits, isMark, blankEmbedded}
-use Rattle.text.specs.Number.{valueAfter}
-use Rattle.text.proofs.Laws.{every-fails, every-goes-on, every-ends, some-found, some-goes-on, some-ends, embeddedFrom, embedded-found, embedded-goes-on, embedded-ends, value-goes-on, value-ends, ten-more, ten-top}
+use Rattle.text.proofs.Classes.{digits-have-no-gap}
 use borrow.Author.Needs.{needs}
 use Rattle.text.proofs.blank_embedded.Statement.{statement}
 use Rattle.text.proofs.blank_embedded.Tie as tie
 
-abbrev Inv-loop : tie.InvT-loop
-Inv-loop s before₀ gap₀ i₀ before gap i = (i ≤ length s) × (embeddedFrom before gap (drop i s) ≡ blankEmbedded s)
+all-numeric-requires : tie.Need-all-numeric-requires
+all-numeric-requires c κs = search needs
 
-abbrev μ-loop : tie.MeasureT-loop
-μ-loop s before₀ gap₀ i₀ before gap i = length s - i
+returns : tie.Need-returns
+returns c = sym (digits-have-no-gap false (now (c .before .before .before .args .s)) (sym (c .before .all-numeric .ensures) ∙ c .if1 .taken))
 
-loop-holds : tie.Need-loop-holds Inv-loop μ-loop
-loop-holds c = (search needs, refl)
+blank-between-digits-requires : tie.Need-blank-between-digits-requires
+blank-between-digits-requires c κs = search needs
 
-shared-slice-read-is-numeric : tie.Need-shared-slice-read-is-numeric Inv-loop μ-loop
-shared-slice-read-is-numeric c = search needs
-
-is-numeric-requires : tie.Need-is-numeric-requires Inv-loop μ-loop
-is-numeric-requires c κs = search needs
-
-returns : tie.Need-returns Inv-loop μ-loop
-returns c = sym (embedded-found (now (c .before .before .before .before .before .before .args .s)) (c .before .before .before .before .loop .i) (c .before .before .before .before .loop .before) (c .before .before .before .before .loop .gap) (search needs) (ap (λ (b : Bool). c .before .before .before .before .loop .gap && b) (sym (c .before .is-numeric .ensures)) ∙ c .if1 .taken)) ∙ c .before .before .before .before .loop .inv .1
-
-shared-slice-read-is-blank : tie.Need-shared-slice-read-is-blank Inv-loop μ-loop
-shared-slice-read-is-blank c = search needs
-
-is-blank-requires : tie.Need-is-blank-requires Inv-loop μ-loop
-is-blank-requires c κs = search needs
-
-add-i : tie.Need-add-i Inv-loop μ-loop
-add-i c = search needs
-
-loop-less : tie.Need-loop-less Inv-loop μ-loop
-loop-less c = search needs
-
-loop-again : tie.Need-loop-again Inv-loop μ-loop
-loop-again c = (search needs, rw (c .before .before .before .is-numeric .ensures, c .is-blank .ensures) (sym (embedded-goes-on (now (c .before .before .before .before .before .before .before .before .args .s)) (c .before .before .before .before .before .before .loop .i) (c .before .before .before .before .before .before .loop .before) (c .before .before .before .before .before .before .loop .gap) (search needs) (ap (λ (b : Bool). c .before .before .before .before .before .before .loop .gap && b) (sym (c .before .before .before .is-numeric .ensures)) ∙ c .before .before .if1 .left)) ∙ c .before .before .before .before .before .before .loop .inv .1))
-
-returns-2 : tie.Need-returns-2 Inv-loop μ-loop
-returns-2 c = sym (embedded-ends (now (c .before .before .before .args .s)) (c .before .loop .i) (c .before .loop .before) (c .before .loop .gap) (search needs)) ∙ c .before .loop .inv .1
+returns-2 : tie.Need-returns-2
+returns-2 c = search needs
 
 pub blank-embedded-spec : {M : Type 1} → statement M
-blank-embedded-spec =
-    tie.close
-    (tie.spec
-    Inv-loop
-    μ-loop
-    loop-holds
-    shared-slice-read-is-numeric
-    is-numeric-requires
-    returns
-    shared-slice-read-is-blank
-    is-blank-requires
-    add-i
-    loop-less
-    loop-again
-    returns-2)
+blank-embedded-spec = tie.close (tie.spec all-numeric-requires returns blank-between-digits-requires returns-2)

@@ -1,0 +1,66 @@
+-- The printable characters are one range, and no blank stands between digits alone. Assumes nothing.
+use mathlib.Core.Path.{_≡_, refl, ap, sym, _∙_}
+use mathlib.Core.Bool.{Bool, true, false, _&&_, _||_, not}
+use mathlib.Core.List.{List, [], _∷_}
+use Prim.Native.Nat.{ℕ, zero, suc, _≤_, _<_}
+use native.Mathlib.Nat.{not-suc-le-zero}
+use native.Mathlib.Omega.{arith}
+use borrow.Author.Tests.{leb-true, eqb-true, eqb-false, ne-eqb}
+use lib.Dec.{leb, eqb}
+use Rattle.text.specs.Characters.{within, isBlank, isNumeric}
+use Rattle.text.specs.declared.DataType.the-variants.{ANS}
+use Rattle.text.specs.DataTypes.{every, admits, blankAfter}
+
+and-left : (a b : Bool) → a && b ≡ true → a ≡ true
+and-left true b e = refl
+and-left false b e = cc
+
+and-right : (a b : Bool) → a && b ≡ true → b ≡ true
+and-right true b e = e
+and-right false b e = cc
+
+-- a test that is computed at every number below n
+abbrev passesBelow : ℕ → (ℕ → Bool) → Bool
+passesBelow zero test = true
+passesBelow (suc n) test = test n && passesBelow n test
+
+at-or-below : (b : Bool) (n x : ℕ) (test : ℕ → Bool) → eqb x n ≡ b → x < suc n → test n ≡ true → (x < n → test x ≡ true) → test x ≡ true
+at-or-below true n x test q h at below = ap test (eqb-true x n q) ∙ at
+at-or-below false n x test q h at below = let other = eqb-false x n q in below (omega arith)
+
+passes-below : (n : ℕ) (test : ℕ → Bool) → passesBelow n test ≡ true → (x : ℕ) → x < n → test x ≡ true
+passes-below zero test e x h = absurd (not-suc-le-zero h)
+passes-below (suc n) test e x h =
+    at-or-below (eqb x n) n x test refl h (and-left (test n) (passesBelow n test) e)
+    (λ l. passes-below n test (and-right (test n) (passesBelow n test) e) x l)
+
+abbrev same : Bool → Bool → Bool
+same true b = b
+same false b = not b
+
+same-equal : (a b : Bool) → same a b ≡ true → a ≡ b
+same-equal true true e = refl
+same-equal true false e = sym e
+same-equal false true e = e
+same-equal false false e = refl
+
+-- at every value of a byte
+pub printable-range : (x : ℕ) → x < 256 → within 0x20 0x7E x ≡ admits ANS x
+printable-range x h =
+    same-equal (within 0x20 0x7E x) (admits ANS x)
+    (passes-below 256 (λ (y : ℕ). same (within 0x20 0x7E y) (admits ANS y)) refl x h)
+
+digit-not-blank : (x : ℕ) → isNumeric x ≡ true → isBlank x ≡ false
+digit-not-blank x e =
+    let low = leb-true 0x30 x (and-left (leb 0x30 x) (leb x 0x39) e) in
+    ne-eqb x 0x20 (λ q. omega arith)
+
+never-both : (b : Bool) → b && false ≡ false
+never-both true = refl
+never-both false = refl
+
+pub digits-have-no-gap : (before : Bool) (xs : List ℕ) → every isNumeric xs ≡ true → blankAfter before xs ≡ false
+digits-have-no-gap before [] e = refl
+digits-have-no-gap before (x ∷ xs) e =
+    rw (digit-not-blank x (and-left (isNumeric x) (every isNumeric xs) e), never-both before)
+    (digits-have-no-gap (before || isNumeric x) xs (and-right (isNumeric x) (every isNumeric xs) e))
