@@ -14,7 +14,9 @@ use Rattle.kind.specs.declared.Judged.{Judged}
 use Rattle.kind.specs.declared.Judged.the-variants.{Sound, WrongLength, WrongField}
 use Rattle.kind.specs.Alone.{typeOf, lineHolds, firstWrong, Sized, sizedParts, statedSize, statedSizes, firstWrongPart, isVariable, judged, alone, judgedAs}
 use Rattle.kind.specs.Alone as alone
+use Rattle.kind.proofs.Laws.{length-not-sound, field-not-sound, kept}
 use Rattle.framing.specs.Framed.{Body}
+use Rattle.framing.proofs.Held.{both}
 use Rattle.arrangement.specs.Sound.{All, PartsRight, Right}
 
 -- fields are numbered from 1, so that 0 names none of them
@@ -25,10 +27,6 @@ linesNumbered (l ∷ ls) = leb 1 (l .number) && linesNumbered ls
 abbrev partsNumbered : List Sized → Bool
 partsNumbered [] = true
 partsNumbered (s ∷ ss) = leb 1 (s .number) && partsNumbered ss
-
-pub both : (a b : Bool) → a && b ≡ true → (a ≡ true) × (b ≡ true)
-both true b e = (refl, e)
-both false b e = (e, cc)
 
 picked-zero : (t : Bool) (x n : ℕ) → leb 1 n ≡ true → alone.pickNumber t x n ≡ 0 → (t ≡ true) × (x ≡ 0)
 picked-zero true x n l e = (refl, e)
@@ -59,16 +57,6 @@ no-part-wrong : (ss : List Sized) (b : Body) (rest : List ℕ) → PartsRight ss
 unfolding firstWrongPart
 no-part-wrong [] b rest h = refl
 no-part-wrong (s ∷ ss) b rest h = rw (h .0) (no-part-wrong ss b (drop (statedSize s b) rest) (h .1))
-
-length-not-sound : WrongLength ≡ Sound → ⊥
-length-not-sound q = let z : _≡_ {A = ℕ} 0 1 = cc in omega arith
-
-field-not-sound : (n : ℕ) → WrongField n ≡ Sound → ⊥
-field-not-sound n q = let z : _≡_ {A = ℕ} 0 1 = cc in omega arith
-
-kept : (t : Bool) {a j : Judged} → (a ≡ Sound → ⊥) → alone.unless t a j ≡ Sound → (t ≡ true) × (j ≡ Sound)
-kept true differs e = (refl, e)
-kept false differs e = absurd (differs e)
 
 -- no fixed record is longer than its fixed part
 not-long : (ss : List Sized) (b : Body) (fixed : ℕ) → length b ≡ fixed + statedSizes ss b → isVariable ss || leb (length b) fixed ≡ true

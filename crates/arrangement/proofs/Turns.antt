@@ -13,7 +13,7 @@ use Rattle.agree.specs.Links.{same, addendaKept, annexB}
 use Rattle.framing.specs.Framed.{Body}
 use Rattle.framing.proofs.Good.{Good, GoodAs, is, statedIn, addendaIn, shownIn, openedIn, indicatorIn, itemsSince, lastIn, presentIn}
 use Rattle.arrangement.specs.Sound.{N, E, I, F}
-use Rattle.arrangement.proofs.Rightness.{both}
+use Rattle.framing.proofs.Held.{both}
 
 -- byte by byte
 pub same-in : (xs ys : List ℕ) → same xs ys ≡ true → xs ≡ ys

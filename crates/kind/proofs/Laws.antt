@@ -157,13 +157,13 @@ sizes-within [] body n (suc i) = omega arith
 sizes-within (p ∷ ps) body n zero = omega arith
 sizes-within (p ∷ ps) body n (suc i) = omega (arith, sizes-within ps body (n + 1) i)
 
-length-not-sound : WrongLength ≡ Sound → ⊥
+pub length-not-sound : WrongLength ≡ Sound → ⊥
 length-not-sound q = let z : _≡_ {A = ℕ} 0 1 = cc in omega arith
 
-field-not-sound : (n : ℕ) → WrongField n ≡ Sound → ⊥
+pub field-not-sound : (n : ℕ) → WrongField n ≡ Sound → ⊥
 field-not-sound n q = let z : _≡_ {A = ℕ} 0 1 = cc in omega arith
 
-kept : (t : Bool) {a j : Judged} → (a ≡ Sound → ⊥) → unless t a j ≡ Sound → (t ≡ true) × (j ≡ Sound)
+pub kept : (t : Bool) {a j : Judged} → (a ≡ Sound → ⊥) → unless t a j ≡ Sound → (t ≡ true) × (j ≡ Sound)
 kept true differs e = (refl, e)
 kept false differs e = absurd (differs e)
 
