@@ -17,7 +17,16 @@ pub struct Cursor {
     pub offset: usize,
 }
 
-// The bytes from a start on, as many as the size says and as far as there are any.
+// The bytes from a start on, as many as the size says, of a slice that reaches so far.
+pub fn part_within(s: &[u8], start: usize, size: usize) -> &[u8]
+    requires { ⌜ start + size ≤ length (now s) ⌝ }
+    ensures { λ r. ⌜ now r ≡ part start size (now (s .entry)) ⌝ }
+{
+    let end = start + size;
+    &s[start..end]
+}
+
+// The same of any slice, as far as there are any.
 pub fn part_of(s: &[u8], start: usize, size: usize) -> &[u8]
     ensures { λ r. ⌜ now r ≡ part start size (now (s .entry)) ⌝ }
 {
@@ -27,17 +36,7 @@ pub fn part_of(s: &[u8], start: usize, size: usize) -> &[u8]
     if s.len() - start < size {
         return &s[start..];
     }
-    let end = start + size;
-    &s[start..end]
-}
-
-// The same where the slice is known to reach so far.
-pub fn part_within(s: &[u8], start: usize, size: usize) -> &[u8]
-    requires { ⌜ start + size ≤ length (now s) ⌝ }
-    ensures { λ r. ⌜ now r ≡ part start size (now (s .entry)) ⌝ }
-{
-    let end = start + size;
-    &s[start..end]
+    part_within(s, start, size)
 }
 
 fn wide(x: u8) -> usize

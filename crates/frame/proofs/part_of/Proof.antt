@@ -21,7 +21,7 @@ part-result-end : tie.Need-part-result-end
 part-result-end c = search needs
 
 returns : tie.Need-returns
-returns c = sym (part-outside (now (c .before .before .args .s)) (c .before .before .args .start) (c .before .before .args .size) (omega arith))
+returns c = sym (part-outside (now (c .before .before .before .args .s)) (c .before .before .before .args .start) (c .before .before .before .args .size) (omega arith))
 
 sub-if2 : tie.Need-sub-if2
 sub-if2 c = search needs
@@ -36,22 +36,13 @@ part-result-end-2 : tie.Need-part-result-end-2
 part-result-end-2 c = search needs
 
 returns-2 : tie.Need-returns-2
-returns-2 c = part-tail (now (c .before .before .before .args .s)) (c .before .before .before .args .start) (c .before .before .before .args .size) (omega arith)
+returns-2 c = part-tail (now (c .before .before .before .before .args .s)) (c .before .before .before .before .args .start) (c .before .before .before .before .args .size) (omega arith)
 
-add-end : tie.Need-add-end
-add-end c = search needs
-
-sub-result-3 : tie.Need-sub-result-3
-sub-result-3 c = search needs
-
-part-result-start-3 : tie.Need-part-result-start-3
-part-result-start-3 c = search needs
-
-part-result-end-3 : tie.Need-part-result-end-3
-part-result-end-3 c = search needs
+part-within-requires : tie.Need-part-within-requires
+part-within-requires c κs = search needs
 
 returns-3 : tie.Need-returns-3
-returns-3 c = part-whole (now (c .before .before .before .args .s)) (c .before .before .before .args .start) (c .before .before .before .args .size)
+returns-3 c = c .part-within .ensures
 
 pub part-of-spec : {M : Type 1} → statement M
 part-of-spec =
@@ -66,8 +57,5 @@ part-of-spec =
     part-result-start-2
     part-result-end-2
     returns-2
-    add-end
-    sub-result-3
-    part-result-start-3
-    part-result-end-3
+    part-within-requires
     returns-3)
