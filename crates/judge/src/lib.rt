@@ -237,6 +237,14 @@ pub fn judge_record(body: &[u8]) -> Judged
     judge_as(&layouts, type_of(body), body)
 }
 
+// A 52 judged alone, whatever its first two characters are.
+pub fn judge_image(body: &[u8]) -> Judged
+    ensures { λ r. ⌜ r ≡ alone imageViewData (now (body .entry)) ⌝ }
+{
+    let layouts = layout::table();
+    judge_as(&layouts, ImageViewData::TYPE, body)
+}
+
 // Where the Image Data of a sound 52 starts in its body: past the fixed part and fields 22 to 26.
 pub fn image_start(body: &[u8]) -> usize
     requires { ⌜ (alone imageViewData (now body) ≡ Sound) × (length (now body) ≤ 0xFFFF_FFFF) ⌝ }
