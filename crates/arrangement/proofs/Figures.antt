@@ -2,14 +2,13 @@
 use Prim.Native.Nat.{ℕ, _+_}
 use native.Mathlib.Omega.{arith}
 use mathlib.Core.Path.{_≡_, refl, ap, _∙_}
-use mathlib.Core.Bool.{Bool}
+use mathlib.Core.Bool.{Bool, cond}
 use mathlib.Core.List.{List, [], _∷_, _++_}
 use mathlib.Core.Option.{Option, none, some}
 use lib.ListN.{length}
-use Rattle.kind.specs.Alone.{typeOf}
-use Rattle.order.specs.Order.{pickNumber}
-use Rattle.framing.specs.Framed.{Body}
-use Rattle.framing.proofs.Good.{value, onto}
+use Rattle.judge.specs.Alone.{typeOf}
+use Rattle.file_as_records.specs.Framed.{Body}
+use Rattle.file_as_records.proofs.Good.{value, onto}
 use Rattle.arrangement.specs.Tree.{View, Addenda, ofCheck, ofReturn, Item, Bundle, CashLetter}
 use Rattle.arrangement.specs.Written.{optionalThen, viewsThen, addendaThen, itemThen, itemsThen, bundlesThen, lettersThen}
 use Rattle.arrangement.specs.Sound.{All, IfAny, total, kindIn, kindOf}
@@ -235,7 +234,7 @@ module _ {X : Type 0} (first : X) (next : ℕ → Body → X → X) where
 
 -- how `sumSince begins measure` goes on: `sumSince begins measure past` is `value 0 (adding begins measure) past`
 abbrev pub adding : (ℕ → Bool) → (ℕ → Body → ℕ) → ℕ → Body → ℕ → ℕ
-adding begins measure t b x = pickNumber (begins t) 0 (measure t b + x)
+adding begins measure t b x = cond (begins t) 0 (measure t b + x)
 
 -- a type of which each record adds one
 abbrev pub Counts : (ℕ → Body → ℕ → ℕ) → ℕ → Type 0

@@ -11,13 +11,13 @@ use lib.ListN.{length}
 use borrow.Author.Tests.{eq-eqb, lt-ltb}
 use Rattle.text.specs.Characters.{isBlank}
 use Rattle.text.specs.DataTypes.{every}
-use Rattle.kind.specs.Layout.{Kind}
-use Rattle.kind.specs.Kinds.{fileHeader, cashLetterHeader, bundleHeader, checkDetailAddendumA, checkDetailAddendumB, checkDetailAddendumC, returnAddendumA, returnAddendumB, returnAddendumC, returnAddendumD, imageViewAnalysis, bundleControl}
-use Rattle.kind.specs.Alone.{typeOf}
-use Rattle.order.specs.Order.{isItem, isAddendum, isOneOf, isCarried, follows}
+use Rattle.layout.specs.Layout.{Layout}
+use Rattle.layout.specs.Layouts.{fileHeader, cashLetterHeader, bundleHeader, checkDetailAddendumA, checkDetailAddendumB, checkDetailAddendumC, returnAddendumA, returnAddendumB, returnAddendumC, returnAddendumD, imageViewAnalysis, bundleControl}
+use Rattle.judge.specs.Alone.{typeOf}
+use Rattle.order.specs.MayFollow.{isItem, isAddendum, isOneOf, isCarried, follows}
 use Rattle.agree.specs.Links.{addendaKept}
-use Rattle.framing.specs.Framed.{Body, fieldOf}
-use Rattle.framing.proofs.Good.{value, GoodAll, onto, is, newest, numberedAs, signatureIn, indicatorIn, presentIn, statedIn, addendaIn, bofdIn, endorserIn, lastIn}
+use Rattle.file_as_records.specs.Framed.{Body, fieldOf}
+use Rattle.file_as_records.proofs.Good.{value, GoodAll, onto, is, newest, numberedAs, signatureIn, indicatorIn, presentIn, statedIn, addendaIn, bofdIn, endorserIn, lastIn}
 use Rattle.arrangement.specs.Tree.{View, Addenda, ofCheck, ofReturn, Item, Bundle, CashLetter, File}
 use Rattle.arrangement.specs.Written.{optionalThen, viewThen, viewsThen, addendaThen, itemThen, itemsThen, bundleThen, bundlesThen, letterThen, lettersThen, records}
 use Rattle.arrangement.specs.Sound.{All, IfAny, total, Right, Numbered, stated, kindIn, kindOf, micr, indicator, N, E, I, F, SoundAddenda, SoundView, SoundItem, OneKind, SoundBundle, SoundLetter, Sound}
@@ -34,7 +34,7 @@ all-map : {A : Type 0} (P Q : A → Type 0) → ((x : A) → P x → Q x) → (x
 all-map P Q turn [] h = tt
 all-map P Q turn (x ∷ xs) h = (turn x (h .0), all-map P Q turn xs (h .1))
 
-module _ (k : Kind) where
+module _ (k : Layout) where
   any-kind : (o : Option Body) → IfAny (Right k) o → IfAny (OfType (k .typeNumber)) o
   any-kind none h = tt
   any-kind (some b) h = h .type
@@ -80,7 +80,7 @@ settled-on past b t e i a s =
 abbrev Owes : List Body → List Body → Type 0
 Owes past owed = length owed + addendaIn past ≡ statedIn past
 
-module _ (k : Kind) (adds : Adds k) (c : isCarried (k .typeNumber) ≡ true) (o : isOneOf (k .typeNumber) checked ≡ false) where
+module _ (k : Layout) (adds : Adds k) (c : isCarried (k .typeNumber) ≡ true) (o : isOneOf (k .typeNumber) checked ≡ false) where
   one-good : (past : List Body) (b : Body) (owed rest : List Body) → Right k b → follows (lastIn past) (k .typeNumber) ≡ true
       → numberedAs (k .typeNumber) past b ≡ true → Owes past (b ∷ owed) → (Owes (b ∷ past) owed → GoodAll (b ∷ past) rest) → GoodAll past (b ∷ rest)
   unfolding addendaKept

@@ -6,12 +6,12 @@ use mathlib.Core.Path.{_≡_, refl, sym, ap, _∙_}
 use mathlib.Core.List.{List, [], _∷_}
 use lib.Dec.{eqb}
 use borrow.Author.Tests.{le-leb, eq-eqb, ne-eqb}
-use Rattle.kind.specs.Layout.{Kind}
-use Rattle.kind.specs.Kinds.{bundleHeader, checkDetail, returnRecord, imageViewDetail, imageViewData, bundleControl, cashLetterControl, fileControl}
-use Rattle.order.specs.Order.{isAddendum, isOneOf, mayFollow, follows, oneKind, isCarried}
+use Rattle.layout.specs.Layout.{Layout}
+use Rattle.layout.specs.Layouts.{bundleHeader, checkDetail, returnRecord, imageViewDetail, imageViewData, bundleControl, cashLetterControl, fileControl}
+use Rattle.order.specs.MayFollow.{isAddendum, isOneOf, mayFollow, follows, oneItemType, isCarried}
 use Rattle.agree.specs.Links.{addendaKept, annexB}
-use Rattle.framing.specs.Framed.{Body}
-use Rattle.framing.proofs.Good.{Good, AllHold, linkChecks, totalChecks, numberedAs, viewChecks, bundleChecks, letterChecks, fileChecks, is, statedIn, addendaIn, shownIn, openedIn, indicatorIn, itemsSince, lastIn, presentIn}
+use Rattle.file_as_records.specs.Framed.{Body}
+use Rattle.file_as_records.proofs.Good.{Good, AllHold, linkChecks, totalChecks, numberedAs, viewChecks, bundleChecks, letterChecks, fileChecks, is, statedIn, addendaIn, shownIn, openedIn, indicatorIn, itemsSince, lastIn, presentIn}
 use Rattle.arrangement.specs.Sound.{N, E, Right, kindIn}
 use Rattle.arrangement.specs.Tree.{Addenda, ofCheck, ofReturn}
 use Rattle.arrangement.proofs.Rightness.{Known, right-out, known-20, known-25, known-31, known-50, known-52, known-70, known-90, known-99}
@@ -23,9 +23,9 @@ Allow [] last = Unit {0}
 Allow (t ∷ ts) last = (follows last t ≡ true) × Allow ts last
 
 -- of any kind: at a kind written out, the checks compute to those of its type
-module _ (k : Kind) (known : Known k) (past : List Body) (b : Body) where
+module _ (k : Layout) (known : Known k) (past : List Body) (b : Body) where
   made : Right k b → isCarried (k .typeNumber) ≡ true → follows (lastIn past) (k .typeNumber) ≡ true
-      → oneKind (presentIn past) (k .typeNumber) ≡ true → AllHold (linkChecks (k .typeNumber) past b)
+      → oneItemType (presentIn past) (k .typeNumber) ≡ true → AllHold (linkChecks (k .typeNumber) past b)
       → AllHold (totalChecks (k .typeNumber) past b) → Good past b
   unfolding mayFollow
   made r c f o l s =
@@ -40,7 +40,7 @@ unlike : (t n : ℕ) (us : List ℕ) → isOneOf t us ≡ false → isOneOf n us
 unlike t n us o m = ne-eqb t n (λ e. not-both (sym o ∙ ap (λ (u : ℕ). isOneOf u us) e ∙ m))
 
 -- of a kind without such checks, left open so that one law serves a run of any addenda; a kind written out has both facts by `refl`
-module _ (k : Kind) (known : Known k) (c : isCarried (k .typeNumber) ≡ true) (o : isOneOf (k .typeNumber) checked ≡ false)
+module _ (k : Layout) (known : Known k) (c : isCarried (k .typeNumber) ≡ true) (o : isOneOf (k .typeNumber) checked ≡ false)
     (past : List Body) (b : Body) where
   pub made-plain : Right k b → follows (lastIn past) (k .typeNumber) ≡ true → addendaKept (k .typeNumber) (statedIn past) (addendaIn past) ≡ true
       → numberedAs (k .typeNumber) past b ≡ true → Good past b

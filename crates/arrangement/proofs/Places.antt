@@ -3,21 +3,21 @@ use Prim.Native.Nat.{ℕ, _+_}
 use native.Mathlib.Nat.{zero-add, add-zero}
 use native.Mathlib.Omega.{arith}
 use mathlib.Core.Path.{_≡_, refl, ap, sym, subst, _∙_}
-use mathlib.Core.Bool.{false}
+use mathlib.Core.Bool.{false, cond}
 use mathlib.Core.List.{List, [], _∷_, _++_}
 use mathlib.Core.Option.{Option, none, some}
 use lib.Dec.{eqb}
 use lib.ListN.{length}
-use Rattle.kind.specs.Alone.{typeOf}
-use Rattle.order.specs.Order.{isItem, pickNumber}
-use Rattle.reading.specs.Rows.{outsideLetter, outsideBundle, outsideItem}
-use Rattle.framing.specs.Framed.{Body}
-use Rattle.framing.proofs.Good.{onto, count, is, never, amountAs, lettersIn, bundlesIn, openedIn, itemsSince, debitSince, viewsSince, amountAfter, totalsAfter, rowsAll}
+use Rattle.judge.specs.Alone.{typeOf}
+use Rattle.order.specs.MayFollow.{isItem}
+use Rattle.passes.specs.Rows.{outsideLetter, outsideBundle, outsideItem}
+use Rattle.file_as_records.specs.Framed.{Body}
+use Rattle.file_as_records.proofs.Good.{onto, count, is, never, amountAs, lettersIn, bundlesIn, openedIn, itemsSince, debitSince, viewsSince, amountAfter, totalsAfter, rowsAll}
 use Rattle.arrangement.specs.Tree.{View, Addenda, ofCheck, ofReturn, Item, Bundle, CashLetter, File}
 use Rattle.arrangement.specs.Written.{optionalThen, viewsThen, addendaThen, itemsThen, bundlesThen, lettersThen, records}
 use Rattle.arrangement.specs.Sound.{All, IfAny, total, kindIn, kindOf, stated, amount, viewsOf, debitOf, debitIn, itemsIn, viewsIn}
 use Rattle.arrangement.specs.Kinds.{OfType, KindsView, KindsAddenda, KindsItem, KindsBundle, KindsLetter, Kinds}
-use Rattle.arrangement.specs.Rows.{Placed, placed, alikeThen, itemPlaces, bundlePlaces, letterPlaces, places, rowsFrom, rows, totals}
+use Rattle.arrangement.specs.RowsAndTotals.{Placed, placed, alikeThen, itemPlaces, bundlePlaces, letterPlaces, places, rowsFrom, rows, totals}
 use Rattle.arrangement.proofs.Figures.{afterOptional, afterViews, afterAddenda, afterItem, afterItems, afterBundle, afterBundles, afterLetter, afterLetters, onto-letters, length-onto, count-each, step, quiet-step, quiet-bundle, adding, count-bundle, count-letter}
 use Rattle.arrangement.proofs.Sums.{items-sum, items-counted, items-views, bundles-sum, bundle-sum, letter-sum, file-sum, file-sum-by-letters, file-sum-by-bundles}
 
@@ -78,9 +78,9 @@ record Agree (past bs : List Body) (ps : List Placed) : Type 0 where
 
 -- where past, with a record of type t as its newest, puts that record
 record Seated (t : ℕ) (past : List Body) (p : Placed) : Type 0 where
-  letter : pickNumber (outsideLetter t) 0 (lettersIn past) ≡ p .letter
-  bundle : pickNumber (outsideBundle t) 0 (openedIn past) ≡ p .bundle
-  item : pickNumber (outsideItem t) 0 (itemsSince (is 20) past) ≡ p .item
+  letter : cond (outsideLetter t) 0 (lettersIn past) ≡ p .letter
+  bundle : cond (outsideBundle t) 0 (openedIn past) ≡ p .bundle
+  item : cond (outsideItem t) 0 (itemsSince (is 20) past) ≡ p .item
   amount : amountAfter t past (p .body) ≡ p .amount
 
 same-row : (t at size l₁ l₂ o₁ o₂ i₁ i₂ n₁ n₂ : ℕ) (xs ys : List ℕ) → l₁ ≡ l₂ → o₁ ≡ o₂ → i₁ ≡ i₂ → n₁ ≡ n₂ → xs ≡ ys

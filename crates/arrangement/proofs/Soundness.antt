@@ -12,12 +12,12 @@ use borrow.Author.Tests.{eqb-true}
 use Rattle.text.specs.Characters.{isBlank}
 use Rattle.text.specs.DataTypes.{every}
 use Rattle.text.specs.Number.{number}
-use Rattle.kind.specs.Layout.{Kind}
-use Rattle.kind.specs.Kinds.{fileHeader, cashLetterHeader, bundleControl, cashLetterControl, fileControl, bundleHeader, checkDetail, checkDetailAddendumA, checkDetailAddendumB, checkDetailAddendumC, returnRecord, returnAddendumA, returnAddendumB, returnAddendumC, returnAddendumD, imageViewDetail, imageViewData, imageViewAnalysis}
-use Rattle.kind.specs.Alone.{typeOf}
-use Rattle.order.specs.Order.{follows}
-use Rattle.framing.specs.Framed.{Body, fieldOf}
-use Rattle.framing.proofs.Good.{value, Good, GoodAll, onto, is, newest, numberedAs, signatureIn, indicatorIn, presentIn, addendaIn, bofdIn, endorserIn, itemsSince, debitSince, viewsSince, micrIn, openedIn, lettersIn, never}
+use Rattle.layout.specs.Layout.{Layout}
+use Rattle.layout.specs.Layouts.{fileHeader, cashLetterHeader, bundleControl, cashLetterControl, fileControl, bundleHeader, checkDetail, checkDetailAddendumA, checkDetailAddendumB, checkDetailAddendumC, returnRecord, returnAddendumA, returnAddendumB, returnAddendumC, returnAddendumD, imageViewDetail, imageViewData, imageViewAnalysis}
+use Rattle.judge.specs.Alone.{typeOf}
+use Rattle.order.specs.MayFollow.{follows}
+use Rattle.file_as_records.specs.Framed.{Body, fieldOf}
+use Rattle.file_as_records.proofs.Good.{value, Good, GoodAll, onto, is, newest, numberedAs, signatureIn, indicatorIn, presentIn, addendaIn, bofdIn, endorserIn, itemsSince, debitSince, viewsSince, micrIn, openedIn, lettersIn, never}
 use Rattle.arrangement.specs.Tree.{View, Addenda, ofCheck, ofReturn, Item, Bundle, CashLetter, File}
 use Rattle.arrangement.specs.Written.{optionalThen, viewThen, viewsThen, addendaThen, itemThen, itemsThen, bundleThen, bundlesThen, letterThen, lettersThen, records}
 use Rattle.arrangement.specs.Sound.{All, IfAny, Right, Numbered, stated, kindIn, kindOf, indicator, N, E, I, F, OneKind, SoundAddenda, SoundView, SoundItem, SoundBundle, SoundLetter, Sound}
@@ -69,7 +69,7 @@ module _ (letter header : Body) (i : Item) where
       let y = views-sound (afterView past v) vs rest (k .1) (in-view letter header i past v (k .0) h) (x .2) in
       ((x .0, y .0), (λ e. absurd (x .1 e)), y .2)
 
-module _ (k : Kind) (adds : Adds k) where
+module _ (k : Layout) (adds : Adds k) where
   short-on : (past : List Body) (b : Body) → typeOf b ≡ k .typeNumber → Good past b → Short (b ∷ past)
   short-on past b e g =
       omega (

@@ -5,8 +5,8 @@ use mathlib.Core.Path.{_≡_, ap, _∙_}
 use mathlib.Core.List.{List, [], _∷_}
 use mathlib.Core.Option.{Option}
 use lib.ListN.{length}
-use Rattle.framing.specs.Framed.{Body}
-use Rattle.framing.proofs.Good.{value, onto}
+use Rattle.file_as_records.specs.Framed.{Body}
+use Rattle.file_as_records.proofs.Good.{value, onto}
 use Rattle.arrangement.specs.Tree.{Addenda, ofCheck, ofReturn, Item, Bundle, CashLetter, File}
 use Rattle.arrangement.specs.Written.{records}
 use Rattle.arrangement.specs.Sound.{All, total, kindIn, viewsOf}

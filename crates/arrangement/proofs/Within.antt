@@ -1,27 +1,27 @@
 -- What the records before one come to, for a record within an item. Assumes nothing.
 use Prim.Native.Nat.{ℕ, _+_, _≤_}
 use native.Mathlib.Omega.{arith}
-use mathlib.Core.Bool.{true, false, not}
+use mathlib.Core.Bool.{true, false, not, cond}
 use mathlib.Core.Option.{Option, none, some}
 use mathlib.Core.Path.{_≡_, refl, sym, ap, _∙_}
 use mathlib.Core.List.{List, [], _∷_, _++_}
 use lib.Dec.{eqb}
 use lib.ListN.{length, length-append}
 use Rattle.text.specs.DataTypes.{every}
-use Rattle.kind.specs.Layout.{Kind}
-use Rattle.kind.specs.Kinds.{checkDetailAddendumA, checkDetailAddendumB, checkDetailAddendumC, returnAddendumA, returnAddendumB, returnAddendumC, returnAddendumD}
-use Rattle.kind.specs.Alone.{typeOf}
-use Rattle.order.specs.Order.{isItem, isAddendum, pickNumber}
-use Rattle.standing.specs.History.{pickLine, isBofdAddendum, isEndorserAddendum}
-use Rattle.framing.specs.Framed.{Body, fieldOf}
-use Rattle.framing.proofs.Good.{value, onto, is, newest, count, statedAs, sequenceOf, signatureOf, indicatorIn, indicatorOf, presentIn, statedIn, addendaIn, bofdIn, endorserIn, shownIn, itemsSince}
+use Rattle.layout.specs.Layout.{Layout}
+use Rattle.layout.specs.Layouts.{checkDetailAddendumA, checkDetailAddendumB, checkDetailAddendumC, returnAddendumA, returnAddendumB, returnAddendumC, returnAddendumD}
+use Rattle.judge.specs.Alone.{typeOf}
+use Rattle.order.specs.MayFollow.{isItem, isAddendum}
+use Rattle.standing.specs.History.{isBofdAddendum, isEndorserAddendum}
+use Rattle.file_as_records.specs.Framed.{Body, fieldOf}
+use Rattle.file_as_records.proofs.Good.{value, onto, is, newest, count, statedAs, sequenceOf, signatureOf, indicatorIn, indicatorOf, presentIn, statedIn, addendaIn, bofdIn, endorserIn, shownIn, itemsSince}
 use Rattle.arrangement.specs.Tree.{View, Addenda, ofCheck, ofReturn, Item}
 use Rattle.arrangement.specs.Written.{optionalThen, addendaThen, records}
-use Rattle.arrangement.specs.Sound as sound
 use Rattle.arrangement.specs.Sound.{All, IfAny, kindIn, kindOf, sequence, statedAddenda, indicator}
 use Rattle.arrangement.specs.Kinds.{OfType, KindsView, KindsAddenda, KindsItem}
 use Rattle.arrangement.proofs.Rightness.{Known, known-26, known-27, known-28, known-32, known-33, known-34, known-35}
 use Rattle.arrangement.proofs.Figures.{QuietAddenda, QuietBundles, quiet-views, quiet-addenda, count-run, count-views, Quiet, Counts, adding, afterOptional, afterView, afterAddenda, afterItem, QuietViews, step, quiet-step}
+use Rattle.arrangement.specs.Sound as sound
 
 -- the records before one of an item: its cash letter header, its bundle header, itself
 pub record InItem (letter header : Body) (i : Item) (past : List Body) : Type 0 where
@@ -31,19 +31,19 @@ pub record InItem (letter header : Body) (i : Item) (past : List Body) : Type 0 
   pub present : presentIn past ≡ kindOf i .typeNumber
 
 abbrev pub nextIndicator : ℕ → Body → ℕ → ℕ
-nextIndicator t b x = pickNumber (is 10 t) (indicatorOf b) x
+nextIndicator t b x = cond (is 10 t) (indicatorOf b) x
 
 abbrev pub nextHeader : ℕ → Body → Body → Body
-nextHeader t b x = pickLine (is 20 t) b x
+nextHeader t b x = cond (is 20 t) b x
 
 abbrev pub nextDetail : ℕ → Body → Body → Body
-nextDetail t b x = pickLine (isItem t) b x
+nextDetail t b x = cond (isItem t) b x
 
 abbrev pub nextPresent : ℕ → Body → ℕ → ℕ
-nextPresent t b x = pickNumber (eqb t 20) 0 (pickNumber (isItem t) t x)
+nextPresent t b x = cond (eqb t 20) 0 (cond (isItem t) t x)
 
 abbrev pub nextSignature : ℕ → Body → ℕ → ℕ
-nextSignature t b x = pickNumber (is 50 t) (signatureOf b) x
+nextSignature t b x = cond (is 50 t) (signatureOf b) x
 
 -- a type of record that stands within an item, but not first
 pub record Inner (t : ℕ) : Type 0 where
@@ -129,7 +129,7 @@ abbrev pub nextAddenda : ℕ → Body → ℕ → ℕ
 nextAddenda t b x = adding isItem (count isAddendum) t b x
 
 abbrev pub nextStated : ℕ → Body → ℕ → ℕ
-nextStated t b x = pickNumber (isItem t) (statedAs t b) x
+nextStated t b x = cond (isItem t) (statedAs t b) x
 
 abbrev pub nextBofd : ℕ → Body → ℕ → ℕ
 nextBofd t b x = adding isItem (count isBofdAddendum) t b x
@@ -142,7 +142,7 @@ abbrev pub Short : List Body → Type 0
 Short past = addendaIn past ≤ statedIn past
 
 -- a kind of addendum
-pub record Adds (k : Kind) : Type 0 where
+pub record Adds (k : Layout) : Type 0 where
   pub known : Known k
   pub addendum : isAddendum (k .typeNumber) ≡ true
   pub more : Counts nextAddenda (k .typeNumber)

@@ -8,10 +8,6 @@ use Rattle.judge.specs.ByNumbers.{byOwn}
 use Rattle.judge.proofs.Dispatch.{judged-by-own, table-own}
 use Rattle.judge.proofs.judge_as.Statement.{statement}
 use Rattle.judge.proofs.judge_as.Tie as tie
-use Rattle.judge.proofs.judge_as.Reads as reads
-use Rattle.judge.proofs.judge_as.Lts as lts
-use Rattle.judge.proofs.judge_by.Reads as judge-by-reads
-use Rattle.layout.proofs.own_numbers.Reads as own-numbers-reads
 
 own-numbers-requires : tie.Need-own-numbers-requires
 own-numbers-requires c κs = search needs

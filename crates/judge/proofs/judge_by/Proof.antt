@@ -10,12 +10,6 @@ use borrow.Author.Needs.{needs}
 use Rattle.judge.proofs.Dispatch.{Whole, whole, own-nothing, few-lent, lines-within, own-judged}
 use Rattle.judge.proofs.judge_by.Statement.{statement}
 use Rattle.judge.proofs.judge_by.Tie as tie
-use Rattle.judge.proofs.judge_by.Reads as reads
-use Rattle.judge.proofs.judge_by.Lts as lts
-use Rattle.judge.proofs.judge_body.Reads as judge-body-reads
-use Rattle.layout.proofs.fields_in.Reads as fields-in-reads
-use Rattle.layout.proofs.length_in.Reads as length-in-reads
-use Rattle.layout.proofs.parts_in.Reads as parts-in-reads
 
 returns : tie.Need-returns
 returns c = own-nothing (c .before .before .before .args .own .now) (search needs) (c .before .before .before .args .body .now)

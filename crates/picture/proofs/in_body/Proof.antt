@@ -6,8 +6,8 @@ use lib.Dec.{eqb}
 use lib.ListN.{length}
 use borrow.Author.Tests.{eq-eqb, ne-eqb, lt-leb, le-leb}
 use Rattle.frame.specs.Frames.{frameAt}
-use Rattle.kind.specs.Alone.{typeOf}
-use Rattle.kind.proofs.Laws.{image-within}
+use Rattle.judge.specs.Alone.{typeOf}
+use Rattle.judge.proofs.Laws.{image-within}
 use Rattle.picture.specs.Picture.{inBody, pictureAt, startOf, sizeOf, bytesOf, whenSound}
 use Rattle.picture.proofs.Laws.{body-fits, part-found}
 use borrow.Author.Needs.{needs}
@@ -25,17 +25,17 @@ returns-2 : tie.Need-returns-2
 unfolding inBody
 returns-2 c = simp (le-leb _ _ (c .before .before .if1 .left), sym (c .before .type-of .ensures), ne-eqb _ _ (c .if2 .taken))
 
-judge-requires : tie.Need-judge-requires
-judge-requires c κs = search needs
+judge-image-requires : tie.Need-judge-image-requires
+judge-image-requires c κs = search needs
 
 enum-told : tie.Need-enum-told
 enum-told c = search needs
 
 image-start-requires : tie.Need-image-start-requires
-image-start-requires c κs = (sym (c .before .before .judge .ensures) ∙ c .enum-told .given .1, omega arith)
+image-start-requires c κs = (sym (c .before .before .judge-image .ensures) ∙ c .enum-told .given .1, omega arith)
 
 add-t10 : tie.Need-add-t10
-add-t10 c = omega (arith, c .image-start .ensures, image-within (now (c .before .before .before .before .before .before .before .before .args .body)) (sym (c .before .before .before .judge .ensures) ∙ c .before .enum-told .given .1))
+add-t10 c = omega (arith, c .image-start .ensures, image-within (now (c .before .before .before .before .before .before .before .before .args .body)) (sym (c .before .before .before .judge-image .ensures) ∙ c .before .enum-told .given .1))
 
 image-size-requires : tie.Need-image-size-requires
 image-size-requires c κs = search needs
@@ -51,19 +51,19 @@ enum-known-n c = search needs
 
 returns-3 : tie.Need-returns-3
 unfolding inBody
-returns-3 c = simp (le-leb _ _ (c .before .before .before .before .before .before .before .if1 .left), sym (c .before .before .before .before .before .before .type-of .ensures) ∙ c .before .before .before .before .before .if2 .left, sym (c .before .before .before .before .judge .ensures) ∙ c .before .before .enum-told .given .1, c .before .image-start .ensures, c .image-size .ensures)
+returns-3 c = simp (le-leb _ _ (c .before .before .before .before .before .before .before .if1 .left), sym (c .before .before .before .before .before .before .type-of .ensures) ∙ c .before .before .before .before .before .if2 .left, sym (c .before .before .before .before .judge-image .ensures) ∙ c .before .before .enum-told .given .1, c .before .image-start .ensures, c .image-size .ensures)
 
 returns-4 : tie.Need-returns-4
 unfolding inBody
-returns-4 c = simp (le-leb _ _ (c .before .before .before .before .before .if1 .left), sym (c .before .before .before .before .type-of .ensures) ∙ c .before .before .before .if2 .left, sym (c .before .before .judge .ensures) ∙ c .enum-told2 .given .1)
+returns-4 c = simp (le-leb _ _ (c .before .before .before .before .before .if1 .left), sym (c .before .before .before .before .type-of .ensures) ∙ c .before .before .before .if2 .left, sym (c .before .before .judge-image .ensures) ∙ c .enum-told2 .given .1)
 
 returns-5 : tie.Need-returns-5
 unfolding inBody
-returns-5 c = simp (le-leb _ _ (c .before .before .before .before .before .if1 .left), sym (c .before .before .before .before .type-of .ensures) ∙ c .before .before .before .if2 .left, sym (c .before .before .judge .ensures) ∙ c .enum-told3 .given .1)
+returns-5 c = simp (le-leb _ _ (c .before .before .before .before .before .if1 .left), sym (c .before .before .before .before .type-of .ensures) ∙ c .before .before .before .if2 .left, sym (c .before .before .judge-image .ensures) ∙ c .enum-told3 .given .1)
 
 returns-6 : tie.Need-returns-6
 unfolding inBody
-returns-6 c = simp (le-leb _ _ (c .before .before .before .before .before .before .if1 .left), sym (c .before .before .before .before .before .type-of .ensures) ∙ c .before .before .before .before .if2 .left, sym (c .before .before .before .judge .ensures) ∙ c .before .n .given .1)
+returns-6 c = simp (le-leb _ _ (c .before .before .before .before .before .before .if1 .left), sym (c .before .before .before .before .before .type-of .ensures) ∙ c .before .before .before .before .if2 .left, sym (c .before .before .before .judge-image .ensures) ∙ c .before .n .given .1)
 
 pub in-body-spec : {M : Type 1} → statement M
 in-body-spec =
@@ -72,7 +72,7 @@ in-body-spec =
     returns
     type-of-requires
     returns-2
-    judge-requires
+    judge-image-requires
     enum-told
     image-start-requires
     add-t10

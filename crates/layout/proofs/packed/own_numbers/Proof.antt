@@ -7,10 +7,6 @@ use borrow.Author.Needs.{needs}
 use Rattle.layout.proofs.Own.{Left, own-here, own-later, own-ends, own-at-end}
 use Rattle.layout.proofs.packed.own_numbers.Statement.{statement}
 use Rattle.layout.proofs.packed.own_numbers.Tie as tie
-use Rattle.layout.proofs.packed.own_numbers.Reads as reads
-use Rattle.layout.proofs.packed.own_numbers.Lts as lts
-use Rattle.layout.proofs.packing.fields_in.Reads as fields-in-reads
-use Rattle.layout.proofs.packing.type_in.Reads as type-in-reads
 
 abbrev Inv-loop : tie.InvT-loop
 Inv-loop numbers kind at₀ at = (at ≤ length numbers) × Left numbers kind at
