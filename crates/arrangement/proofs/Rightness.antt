@@ -28,7 +28,7 @@ abbrev partsNumbered : List Sized → Bool
 partsNumbered [] = true
 partsNumbered (s ∷ ss) = leb 1 (s .number) && partsNumbered ss
 
-picked-zero : (t : Bool) (x n : ℕ) → leb 1 n ≡ true → alone.cond t x n ≡ 0 → (t ≡ true) × (x ≡ 0)
+picked-zero : (t : Bool) (x n : ℕ) → leb 1 n ≡ true → cond t x n ≡ 0 → (t ≡ true) × (x ≡ 0)
 picked-zero true x n l e = (refl, e)
 picked-zero false x n l e = absurd (omega (arith, leb-true 1 n l, e))
 

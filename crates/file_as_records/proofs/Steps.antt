@@ -143,7 +143,7 @@ two-long : (b : Body) → isCarried (typeOf b) ≡ true → leb 2 (length b) ≡
 unfolding typeOf isCarried
 two-long b e = cases (leb 2 (length b)) e
   where
-    cases : (c : Bool) → isOneOf (kinds.cond (c && every isNumeric (take 2 b)) (number (take 2 b)) 0) carried ≡ true → c ≡ true
+    cases : (c : Bool) → isOneOf (cond (c && every isNumeric (take 2 b)) (number (take 2 b)) 0) carried ≡ true → c ≡ true
     cases true e = refl
     cases false e = cc
 
