@@ -31,10 +31,24 @@ pub fn framed(body: &[u8]) -> Vec<u8> {
 /// A routing number that keeps the ABA rule.
 pub fn routing(random: &mut Random) -> Vec<u8> {
     let mut bytes = random.bytes(DIGITS, 8);
-    let weights = [3, 7, 1, 3, 7, 1, 3, 7];
-    let sum: usize = bytes.iter().zip(weights).map(|(digit, weight)| usize::from(digit - b'0') * weight).sum();
-    bytes.extend(digits_of((10 - sum % 10) % 10, 1));
+    bytes.push(check_digit(&bytes));
     bytes
+}
+
+/// The ninth digit that goes with eight by the ABA rule.
+pub fn check_digit(eight: &[u8]) -> u8 {
+    let weights = [3, 7, 1, 3, 7, 1, 3, 7];
+    let sum: usize = eight.iter().zip(weights).map(|(digit, weight)| usize::from(digit - b'0') * weight).sum();
+    b'0' + ((10 - sum % 10) % 10) as u8
+}
+
+pub fn all_digits(bytes: &[u8]) -> bool {
+    bytes.iter().all(u8::is_ascii_digit)
+}
+
+/// The number that digits write.
+pub fn value_of(digits: &[u8]) -> usize {
+    std::str::from_utf8(digits).expect("digits").parse().expect("digits")
 }
 
 pub fn digits_of(value: usize, size: usize) -> Vec<u8> {
@@ -73,8 +87,7 @@ fn one_or_two_digits(random: &mut Random) -> Vec<u8> {
 fn defined_value(values: &[Values], random: &mut Random) -> Vec<u8> {
     let run = &values[random.below(values.len())];
     if run.low[0].is_ascii_digit() {
-        let value = |digits| std::str::from_utf8(digits).expect("digits").parse().expect("digits");
-        return digits_of(random.between(value(run.low), value(run.high)), run.low.len());
+        return digits_of(random.between(value_of(run.low), value_of(run.high)), run.low.len());
     }
     let letter = random.between(run.low[0].into(), run.high[0].into()) as u8;
     vec![if random.one_in(2) { letter } else { letter.to_ascii_lowercase() }]

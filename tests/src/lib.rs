@@ -1,10 +1,13 @@
 //! The test side of the reader of X9.100-180 records.
 //!
 //! `judge` is an independent judge of one record alone, written from documents 01 and 001 and driven by
-//! `fields.tsv`. `generate` makes sound records. `ffi` calls the proved library. The tests compare the two.
+//! `fields.tsv`. `generate` makes sound records and `compose` puts chosen contents into them; `edges` has what stands on
+//! both sides of each edge of a field's rule. `ffi` calls the proved library. The tests compare the two.
 //!
 //! `cargo test --release`, with the library's folder in `X9180_LIB_DIR` (default `../target/staticlib`).
 
+pub mod compose;
+pub mod edges;
 pub mod ffi;
 pub mod generate;
 pub mod judge;

@@ -21,6 +21,8 @@ pub struct Field {
     pub format: &'static str,
     /// The defined values; empty where none are listed or those listed are not judged.
     pub values: Vec<Values>,
+    /// The runs of values of a date's or a time's parts, one after another; empty for other fields.
+    pub ranges: Vec<Values>,
 }
 
 pub struct Kind {
@@ -95,6 +97,7 @@ impl Kind {
             data_type: cells[6],
             format: cells[7],
             values: values(cells[8]),
+            ranges: ranges(cells[8]),
         });
     }
 }
@@ -107,6 +110,14 @@ fn values(text: &'static str) -> Vec<Values> {
         return Vec::new();
     }
     text.split('|').map(one_run).collect()
+}
+
+/// `YYYY=1993-9999,MM=01-12,DD=01-31` and the like.
+fn ranges(text: &'static str) -> Vec<Values> {
+    match text.starts_with("YYYY=") || text.starts_with("hh=") {
+        true => text.split(',').filter_map(|part| part.split_once('=')).map(|(_, run)| one_run(run)).collect(),
+        false => Vec::new(),
+    }
 }
 
 /// Values marked `(r)` are printed as reserved: they pass like the others.

@@ -1,14 +1,17 @@
-//! One record alone: the library and the independent judge, side by side.
+//! One record alone: the library and the independent judge, side by side. The edges of every field's rule, each with its answer from the
+//! documents, are in `edges.rs`.
 
+use record_tests::edges::bytes_at_edges;
 use record_tests::generate::{digits_of, routing, sound_record};
 use record_tests::judge::{at_field, parts, whole, Answer, ACCEPTED, LENGTH, TYPE};
 use record_tests::random::Random;
 use record_tests::table::{Field, Kind, Table};
 use record_tests::{agreed, report};
 use std::collections::BTreeMap;
+use std::sync::LazyLock;
 
-/// Bytes on both sides of every edge of clause 5's character classes and of the defined values.
-const EDGES: &[u8] = b"\x00\x1F !\"#$%*+,-./0123489:;?@ABEFIJMNPRSTUYZ[`abefijmnprstuyz{~\x7F\x80\xFF";
+/// Bytes on both sides of every end of clause 5's data types and of the one-character values of the table.
+static EDGES: LazyLock<Vec<u8>> = LazyLock::new(|| bytes_at_edges(&Table::read()));
 
 /// Start and size of the field in this record.
 fn span(kind: &Kind, field: &Field, body: &[u8]) -> (usize, usize) {
@@ -107,7 +110,7 @@ fn replacements(old: &[u8], random: &mut Random) -> Vec<Vec<u8>> {
     let size = old.len();
     let mut list: Vec<Vec<u8>> = b" 09*?-AaZz".iter().map(|byte| vec![*byte; size]).collect();
     for _ in 0..8 {
-        for characters in [&b"0123456789"[..], b" 0123456789", b" -*?/0123456789", EDGES] {
+        for characters in [&b"0123456789"[..], b" 0123456789", b" -*?/0123456789", &EDGES] {
             list.push(random.bytes(characters, size));
         }
         list.push((0..size).map(|_| random.any_byte()).collect());
@@ -119,7 +122,6 @@ fn replacements(old: &[u8], random: &mut Random) -> Vec<Vec<u8>> {
         list.push(with(&vec![b' '; size], at, &[random.pick(b"0123456789?*-")]));
     }
     match size {
-        2 => list.extend(EDGES.iter().flat_map(|first| EDGES.iter().map(|second| vec![*first, *second]))),
         4 => list.extend((0..100).flat_map(|n| [digits_of(n, 4), digits_of(n * 100, 4)])),
         6 => list.extend((0..100).flat_map(|n| [digits_of(n, 6), digits_of(n * 100, 6), digits_of(n * 10_000, 6)])),
         8 => list.extend(dates()),
@@ -127,6 +129,11 @@ fn replacements(old: &[u8], random: &mut Random) -> Vec<Vec<u8>> {
         _ => (),
     }
     list
+}
+
+/// Every pair of bytes at edges, which takes in each two-digit number.
+fn pairs() -> Vec<Vec<u8>> {
+    EDGES.iter().flat_map(|first| EDGES.iter().map(|second| vec![*first, *second])).collect()
 }
 
 /// Each month and each day from 00 to 99, and the years at the edges.
@@ -160,13 +167,14 @@ fn change_field(table: &Table, kind: &Kind, field: &Field, random: &mut Random) 
     while rounds < 6 {
         let body = sound_record(kind, random);
         let (start, size) = span(kind, field, &body);
-        let bytes = if rounds == 0 { &every_byte } else { EDGES };
+        let bytes = if rounds == 0 { &every_byte } else { &*EDGES };
         for at in (0..size).filter(|at| *at < 32 || *at + 32 >= size) {
             bytes.iter().for_each(|byte| count(with(&body, start + at, &[*byte])));
         }
         if size > 0 {
             rounds += 1;
-            let list = replacements(&body[start..start + size], random);
+            let pairs = if size == 2 && rounds <= 3 { pairs() } else { Vec::new() };
+            let list = [replacements(&body[start..start + size], random), pairs].concat();
             list.iter().for_each(|replacement| count(with(&body, start, replacement)));
         }
     }
@@ -205,7 +213,7 @@ fn several_bytes_damaged() {
             let mut body = sound_record(kind, &mut random);
             for _ in 0..random.between(2, 5) {
                 let at = random.between(2, body.len() - 1);
-                body[at] = random.pick(EDGES);
+                body[at] = random.pick(&EDGES);
             }
             if random.one_in(8) {
                 body.pop();
@@ -214,21 +222,6 @@ fn several_bytes_damaged() {
         }
     }
     report(&format!("several bytes damaged: {} comparisons, {accepted} accepted", 8_000 * table.kinds.len()));
-}
-
-#[test]
-fn clipping_rule() {
-    let (table, mut random) = (Table::read(), Random::new(5));
-    for _ in 0..500 {
-        let clear = with(&sound_record(table.kind("52"), &mut random), 84, b"00000000000000000");
-        assert_eq!(agreed(&table, &clear), whole(ACCEPTED));
-        for (number, at) in [(10, 85), (11, 89), (12, 93), (13, 97)] {
-            let set = with(&clear, at + random.below(4), b"1");
-            assert_eq!(agreed(&table, &set), at_field(number));
-            assert_eq!(agreed(&table, &with(&set, 84, b"4")), whole(ACCEPTED));
-        }
-    }
-    report("clipping rule: 4500 records, each coordinate without and with an origin");
 }
 
 #[test]

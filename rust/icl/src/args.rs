@@ -2,7 +2,8 @@
 
 use std::ffi::{OsStr, OsString};
 
-use crate::{words, Stop};
+use crate::stop::Stop;
+use crate::words;
 
 pub struct Args {
     names: Vec<OsString>,

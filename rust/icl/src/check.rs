@@ -3,8 +3,8 @@
 use crate::args::Args;
 use crate::input::{bytes, judged, Input};
 use crate::screen::{coloured, complain, print, Colour};
-use crate::words::{amount, counted};
-use crate::{words, Stop, DONE, REFUSED, TROUBLE};
+use crate::stop::{Stop, DONE, REFUSED, TROUBLE};
+use crate::words::{self, amount, counted};
 
 pub fn run(args: Args) -> Result<u8, Stop> {
     let files = args.several()?;

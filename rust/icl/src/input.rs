@@ -7,7 +7,8 @@ use std::io::{stdin, Read};
 use x9180::{Reading, Refusal, LIMIT};
 
 use crate::screen::{with_clock, Progress};
-use crate::{words, Stop, REFUSED};
+use crate::stop::{Stop, REFUSED};
+use crate::words;
 
 /// What came of reading a file.
 pub enum Input {

@@ -1,5 +1,13 @@
 //! icl: checks X9.100-180 image cash letters, lists what they hold and takes out their pictures.
 
+// Imports go one way. This root imports the modules, and no module imports the root; among themselves each imports only those on lines
+// below its own. `x9180/tests/imports.rs` fails if two of them come to import each other.
+//
+//     check, rows, tree, pictures    the commands
+//     args, input, store, help
+//     screen
+//     stop
+//     words
 mod args;
 mod check;
 mod help;
@@ -7,6 +15,7 @@ mod input;
 mod pictures;
 mod rows;
 mod screen;
+mod stop;
 mod store;
 mod tree;
 mod words;
@@ -15,37 +24,7 @@ use std::ffi::OsString;
 use std::process::ExitCode;
 
 use args::Args;
-
-/// All accepted, all done.
-const DONE: u8 = 0;
-/// A file or a picture was refused.
-const REFUSED: u8 = 1;
-/// Something could not be read or written, or the command was not understood.
-const TROUBLE: u8 = 2;
-
-/// Why a command ended before its work was done.
-enum Stop {
-    /// One line for standard error, and the exit status.
-    Message(u8, String),
-    /// The command line was not understood.
-    Usage(String),
-    /// Whoever read our output has closed it, as `head` does: nothing more to say.
-    PipeClosed,
-}
-
-impl Stop {
-    fn trouble(message: String) -> Stop {
-        Stop::Message(TROUBLE, message)
-    }
-
-    /// From an error in writing to standard output.
-    fn output(error: std::io::Error) -> Stop {
-        match error.kind() {
-            std::io::ErrorKind::BrokenPipe => Stop::PipeClosed,
-            _ => Stop::trouble(format!("standard output: {}", words::plain(&error))),
-        }
-    }
-}
+use stop::{Stop, DONE, TROUBLE};
 
 fn main() -> ExitCode {
     let words: Vec<OsString> = std::env::args_os().skip(1).collect();

@@ -6,10 +6,11 @@ use std::path::{Path, PathBuf};
 use x9180::{Reading, View};
 
 use crate::args::Args;
+use crate::input;
 use crate::screen::{print, Progress};
+use crate::stop::{Stop, DONE};
 use crate::store::{free, Staging};
 use crate::words::{self, counted};
-use crate::{input, Stop, DONE};
 
 pub fn one(args: Args) -> Result<u8, Stop> {
     let [file, offset] = args.exactly(["FILE", "OFFSET"])?;

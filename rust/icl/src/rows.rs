@@ -5,7 +5,8 @@ use std::io::{stdout, BufWriter, Write};
 use x9180::Row;
 
 use crate::args::Args;
-use crate::{input, Stop, DONE};
+use crate::input;
+use crate::stop::{Stop, DONE};
 
 /// The columns, named alike in every format.
 const COLUMNS: [&str; 9] = ["record", "type", "offset", "length", "letter", "bundle", "item", "amount", "name"];

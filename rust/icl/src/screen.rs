@@ -4,7 +4,7 @@ use std::io::{stderr, stdout, IsTerminal, Write};
 use std::sync::mpsc::{channel, RecvTimeoutError};
 use std::time::{Duration, Instant};
 
-use crate::Stop;
+use crate::stop::Stop;
 
 /// Work that takes less time than this shows no progress.
 const PATIENCE: Duration = Duration::from_millis(500);

@@ -5,8 +5,9 @@ use std::io::{stdout, BufWriter, Result, Write};
 use x9180::{Form, Item, Reading, Row, Totals, Usage};
 
 use crate::args::Args;
+use crate::input;
+use crate::stop::{Stop, DONE};
 use crate::words::{amount, counted};
-use crate::{input, Stop, DONE};
 
 /// Lines of fields are broken before they grow longer than this.
 const WIDTH: usize = 110;

@@ -1,17 +1,11 @@
 //! The plain words of a refusal. The proved library says what is wrong and where; this module looks at those bytes, and at the
 //! records before them, to say what stands there. It decides nothing.
+//!
+//! It makes the refusals whose form `refusal` gives, so it imports `refusal`, and `refusal` knows nothing of it.
 
+use crate::digits::number_in;
 use crate::kinds::Kind;
-use crate::refusal::{Number, Refusal};
-use crate::{number_in, LIMIT};
-
-/// What can be said of a fault beyond its numbers.
-#[derive(Clone, Debug, Default, PartialEq, Eq)]
-pub(crate) struct Words {
-    pub kind: Option<&'static Kind>,
-    pub found: Vec<u8>,
-    pub lines: Vec<String>,
-}
+use crate::refusal::{Number, Refusal, Words};
 
 /// The most bytes of a field that a refusal keeps and shows.
 const SHOWN: usize = 64;
@@ -398,11 +392,6 @@ impl<'f> Before<'f> {
 fn next_number(next: u64, most: u64) -> String {
     let beyond = if next > most { ", which the field cannot hold" } else { "" };
     format!("the next number in this item is {next}{beyond}")
-}
-
-/// Whether a file of this length can be read at all.
-pub(crate) fn fits(length: u64) -> bool {
-    (1..=LIMIT as u64).contains(&length)
 }
 
 #[cfg(test)]

@@ -1,6 +1,7 @@
-//! The two calls of include/x9180.h. All unsafe code of the crate stands here.
+//! The two calls of include/x9180.h. All unsafe code of the crate stands here. It imports the row that the library fills, and no other
+//! module.
 
-use crate::Row;
+use crate::reading::Row;
 
 extern "C" {
     fn x9_read(file: *const u8, file_len: usize, table: *mut u64, table_len: usize, answer: *mut u64) -> u64;

@@ -1,8 +1,8 @@
 //! The kinds of record and their fields: numbers, names, positions, data types and values as clauses 7 to 35 of
 //! ANS X9.100-180-2006 print them. The table serves to find a field's bytes and to speak of it; what is right in a file, the
-//! proved library alone decides.
+//! proved library alone decides. Of the crate's modules it imports `digits` alone.
 
-use crate::number_in;
+use crate::digits::number_in;
 
 /// A kind of record that the standard describes. Those without fields here are named so that a refusal can speak of them.
 #[derive(Debug, PartialEq, Eq)]

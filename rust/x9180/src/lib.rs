@@ -18,6 +18,12 @@
 //! proved library names.
 #![warn(missing_docs)]
 
+// Imports go one way. This root imports the modules, and no module imports the root; among themselves each imports only those that stand
+// right of it on a line below. `tests/imports.rs` fails if two of them come to import each other.
+//
+//     explain → refusal → kinds → digits
+//     ffi → reading → kinds → digits
+mod digits;
 mod explain;
 mod ffi;
 mod kinds;
@@ -101,16 +107,6 @@ pub fn picture(file: &[u8], offset: u64) -> Result<&[u8], Refusal> {
 /// assert_eq!(x9180::refused_by_size(x9180::LIMIT as u64), None);
 /// ```
 pub fn refused_by_size(length: u64) -> Option<Refusal> {
-    (!explain::fits(length)).then(|| explain::size(length))
-}
-
-/// The number in a run of digits; `None` for anything else, and for more than 19 digits.
-pub(crate) fn number_in(digits: &[u8]) -> Option<u64> {
-    if digits.is_empty() || digits.len() > 19 {
-        return None;
-    }
-    digits.iter().try_fold(0u64, |number, digit| match digit {
-        b'0'..=b'9' => number.checked_mul(10)?.checked_add(u64::from(digit - b'0')),
-        _ => None,
-    })
+    let fits = (1..=LIMIT as u64).contains(&length);
+    (!fits).then(|| explain::size(length))
 }

@@ -1,4 +1,5 @@
-//! What an accepted file holds: its rows and totals, and the levels that the rows' ordinals set out.
+//! What an accepted file holds: its rows and totals, and the levels that the rows' ordinals set out. Of the crate's modules it imports
+//! `kinds` alone.
 
 use crate::kinds::Kind;
 

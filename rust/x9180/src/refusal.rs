@@ -1,6 +1,7 @@
 //! Why a file or a picture was refused, in numbers and in plain words.
+//!
+//! The form of a refusal only: `explain` finds the words and fills it in, so this module imports the kinds and nothing above them.
 
-use crate::explain::Words;
 use crate::kinds::{Field, Kind};
 
 /// The number of an answer. [`Number::name`] and [`Number::meaning`] say it in words.
@@ -84,6 +85,17 @@ pub struct Refusal {
     pub(crate) offset: u64,
     /// What stands in the file at the fault. Boxed, so that a `Result` with a refusal in it stays small.
     pub(crate) words: Box<Words>,
+}
+
+/// What can be said of a fault beyond its numbers.
+#[derive(Clone, Debug, Default, PartialEq, Eq)]
+pub(crate) struct Words {
+    /// The kind that the record's first two characters name.
+    pub kind: Option<&'static Kind>,
+    /// The bytes at the fault.
+    pub found: Vec<u8>,
+    /// The plain words, a line each.
+    pub lines: Vec<String>,
 }
 
 impl Refusal {
