@@ -1,0 +1,78 @@
+//! The two writings of the layouts, line by line: the definitions (crates/layout/specs/Layouts.antt) and the numbers of the code
+//! (crates/layout/src/packed.rt). The prover refuses the crate where they differ, but says only that they do; this says where.
+use std::fs;
+use std::path::Path;
+
+fn text(path: &str) -> String {
+    let root = Path::new(env!("CARGO_MANIFEST_DIR")).parent().expect("the repository");
+    fs::read_to_string(root.join(path)).unwrap_or_else(|error| panic!("{path}: {error}"))
+}
+
+/// A field as both writings can say it.
+#[derive(Debug, PartialEq)]
+struct Written {
+    place: String,
+    words: Vec<String>,
+    name: String,
+}
+
+/// `StandardLevel` as `STANDARD_LEVEL`.
+fn in_capitals(word: &str) -> String {
+    let mut out = String::new();
+    for (i, c) in word.chars().enumerate() {
+        if c.is_uppercase() && i > 0 && !word[..i].ends_with(char::is_uppercase) {
+            out.push('_');
+        }
+        out.extend(c.to_uppercase());
+    }
+    out
+}
+
+/// The rule of a line of the definitions, in the words of the code.
+fn rule_in_capitals(rule: &str) -> Vec<String> {
+    let words: Vec<&str> = rule.trim_matches(|c| c == '(' || c == ')').split(' ').collect();
+    match words[..] {
+        ["none" | "anyNumber" | "notJudged"] => Vec::new(),
+        ["only", n] => vec!["NUMBERS".into(), format!("{n} * LOW"), n.into()],
+        ["numbers", low, high] => vec!["NUMBERS".into(), format!("{low} * LOW"), high.into()],
+        ["clippedBy", position] => vec!["CLIPPED_BY".into(), position.into()],
+        ["Code", list] => vec![in_capitals(list)],
+        [one] => vec![in_capitals(one)],
+        _ => panic!("a rule that this test does not know: {rule}"),
+    }
+}
+
+/// `    line 10 C 75 75 1 NB (numbers 1 4) ∷  -- MICR Valid Indicator`
+fn defined_line(line: &str) -> Option<Written> {
+    let (code, name) = line.trim().strip_prefix("line ")?.split_once(" ∷  -- ")?;
+    let cells: Vec<&str> = code.splitn(7, ' ').collect();
+    let mut words = vec![cells[1].to_string(), cells[5].to_uppercase()];
+    words.extend(rule_in_capitals(cells[6]));
+    let place = format!("{} * FIRST + {} * SIZE", cells[2], cells[4]);
+    Some(Written { place, words, name: format!("{} {name}", cells[0]) })
+}
+
+/// `    75 * FIRST + 1 * SIZE + C + NB + NUMBERS + 1 * LOW + 4, // 10 MICR Valid Indicator`
+fn coded_line(line: &str) -> Option<Written> {
+    let (code, name) = line.trim().split_once(", // ")?;
+    let cells: Vec<&str> = code.split(" + ").collect();
+    if cells.len() < 4 || !cells[0].ends_with("FIRST") {
+        return None;
+    }
+    let words = cells[2..].iter().map(|word| word.to_string()).collect();
+    Some(Written { place: format!("{} + {}", cells[0], cells[1]), words, name: name.to_string() })
+}
+
+#[test]
+fn definition_and_code_write_the_same_layouts() {
+    let definitions = text("crates/layout/specs/Layouts.antt");
+    let code = text("crates/layout/src/packed.rt");
+    let defined: Vec<Written> = definitions.lines().filter_map(defined_line).collect();
+    let coded: Vec<Written> = code.lines().filter_map(coded_line).collect();
+    assert!(defined.len() > 200, "only {} lines were read", defined.len());
+    for (one, other) in defined.iter().zip(&coded) {
+        assert_eq!(one, other, "the definition (left) and the code (right) write this field differently");
+    }
+    assert_eq!(defined.len(), coded.len(), "one of the two has more fields in fixed parts");
+    println!("{} fields of fixed parts written alike", defined.len());
+}
