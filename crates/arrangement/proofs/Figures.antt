@@ -9,7 +9,8 @@ use lib.ListN.{length}
 use Rattle.kind.specs.Alone.{typeOf}
 use Rattle.order.specs.Order.{pickNumber}
 use Rattle.framing.specs.Framed.{Body}
-use Rattle.framing.proofs.Good.{value, onto}
+use Rattle.framing.proofs.Figures.{value, is}
+use Rattle.framing.proofs.Good.{onto}
 use Rattle.arrangement.specs.Tree.{View, Addenda, ofCheck, ofReturn, Item, Bundle, CashLetter}
 use Rattle.arrangement.specs.Written.{optionalThen, viewsThen, addendaThen, itemThen, itemsThen, bundlesThen, lettersThen}
 use Rattle.arrangement.specs.Sound.{All, IfAny, total, kindIn, kindOf}

@@ -1,7 +1,7 @@
 -- A sound arrangement's records are of the types of their places, and good, one after the other. Assumes nothing.
 use Prim.Native.Nat.{ℕ, _+_, _≤_}
 use native.Mathlib.Omega.{arith}
-use mathlib.Core.Bool.{Bool, true, false, _||_}
+use mathlib.Core.Bool.{true, false}
 use mathlib.Core.Logic.{_⊎_, inl, inr}
 use mathlib.Core.Option.{Option, none, some}
 use mathlib.Core.Path.{_≡_, refl, sym, ap, _∙_, subst}
@@ -9,23 +9,25 @@ use mathlib.Core.List.{List, [], _∷_, _++_}
 use lib.Dec.{eqb}
 use lib.ListN.{length}
 use borrow.Author.Tests.{eq-eqb, lt-ltb}
-use Rattle.text.specs.Characters.{isBlank}
-use Rattle.text.specs.DataTypes.{every}
 use Rattle.kind.specs.Layout.{Kind}
-use Rattle.kind.specs.Kinds.{fileHeader, cashLetterHeader, bundleHeader, checkDetailAddendumA, checkDetailAddendumB, checkDetailAddendumC, returnAddendumA, returnAddendumB, returnAddendumC, returnAddendumD, imageViewAnalysis, bundleControl}
+use Rattle.kind.specs.Kinds.{fileHeader, cashLetterHeader, bundleHeader, checkDetailAddendumA, checkDetailAddendumB, checkDetailAddendumC, returnAddendumA, returnAddendumB, returnAddendumC, returnAddendumD, imageViewAnalysis}
 use Rattle.kind.specs.Alone.{typeOf}
 use Rattle.order.specs.Order.{isItem, isAddendum, isOneOf, isCarried, follows}
 use Rattle.agree.specs.Links.{addendaKept}
 use Rattle.framing.specs.Framed.{Body, fieldOf}
-use Rattle.framing.proofs.Good.{value, GoodAll, onto, is, newest, numberedAs, signatureIn, indicatorIn, presentIn, statedIn, addendaIn, bofdIn, endorserIn, lastIn}
+use Rattle.framing.proofs.Figures.{value, is, newest, indicatorIn, presentIn, statedIn, addendaIn, bofdIn, endorserIn, lastIn}
+use Rattle.framing.proofs.Good.{GoodAll, onto}
+use Rattle.framing.proofs.Checks.{numberedAs}
+use Rattle.framing.proofs.Totals.{BundleTotals, FileTotals, LetterTotals}
+use Rattle.framing.proofs.Links.{ViewLinked}
 use Rattle.arrangement.specs.Tree.{View, Addenda, ofCheck, ofReturn, Item, Bundle, CashLetter, File}
 use Rattle.arrangement.specs.Written.{optionalThen, viewThen, viewsThen, addendaThen, itemThen, itemsThen, bundleThen, bundlesThen, letterThen, lettersThen, records}
-use Rattle.arrangement.specs.Sound.{All, IfAny, total, Right, Numbered, stated, kindIn, kindOf, micr, indicator, N, E, I, F, SoundAddenda, SoundView, SoundItem, OneKind, SoundBundle, SoundLetter, Sound}
+use Rattle.arrangement.specs.Sound.{All, IfAny, Right, Numbered, stated, kindIn, kindOf, indicator, N, E, I, F, SoundAddenda, SoundView, SoundItem, OneKind, SoundBundle, SoundLetter, Sound}
 use Rattle.arrangement.specs.Kinds.{OfType, KindsView, KindsAddenda, KindsItem, KindsBundle, KindsLetter, Kinds}
 use Rattle.arrangement.proofs.Rightness.{known-01, known-10, known-54}
 use Rattle.arrangement.proofs.Figures.{Counts, afterOptional, afterView, afterViews, afterAddenda, afterItem, afterItems, afterBundle, afterBundles, afterLetter, afterLetters, step, quiet-step, quiet-optional, quiet-run}
 use Rattle.arrangement.proofs.Levels.{bundle-figures, letter-figures, file-figures}
-use Rattle.arrangement.proofs.Turns.{same-out, signed-out, Settled, Viewed}
+use Rattle.arrangement.proofs.Turns.{Settled, Viewed}
 use Rattle.arrangement.proofs.Within.{in-first, InItem, inner-50, in-step, in-view, in-addenda, sequence-is, nextIndicator, nextHeader, nextPresent, nextSignature, nextAddenda, nextStated, nextBofd, nextEndorser, nextItems, Adds, adds-26, adds-27, adds-28, adds-32, adds-33, adds-34, adds-35, fresh, item-figures}
 use Rattle.arrangement.proofs.Making.{Allow, checked, settled-kept, made-plain, made-20, made-item, made-50, made-52, made-70, made-90, made-99}
 
@@ -87,10 +89,11 @@ module _ (k : Kind) (adds : Adds k) (c : isCarried (k .typeNumber) ≡ true) (o 
   one-good past b owed rest r f n owes on =
       let t = k .typeNumber in
       let more = step 0 nextAddenda past b t (r .type) ∙ adds .more b (addendaIn past) in
-      let still = quiet-step 0 nextStated past b t (r .type) (adds .same-stated) in (
-        made-plain k (adds .known) c o past b r f (rw (adds .addendum, lt-ltb (addendaIn past) (statedIn past) (omega arith)) refl) n,
-        on (omega (arith, owes, more, still)),
-      )
+      let still = quiet-step 0 nextStated past b t (r .type) (adds .same-stated) in
+      record {
+        first = made-plain k (adds .known) c o past b r f (rw (adds .addendum, lt-ltb (addendaIn past) (statedIn past) (omega arith)) refl) n;
+        rest = on (omega (arith, owes, more, still));
+      }
 
   optional-good : (ts : List ℕ) → Allow ts (k .typeNumber) → ((p : List Body) (b : Body) → numberedAs (k .typeNumber) p b ≡ true)
       → (past : List Body) (x : Option Body) (owed rest : List Body) → IfAny (Right k) x → Allow (k .typeNumber ∷ ts) (lastIn past)
@@ -166,10 +169,11 @@ module _ (letter header : Body) (i : Item) where
       → GoodAll past (optionalThen o rest)
   unfolding isCarried
   analysis-good past none rest r s a on = on s (a .1)
-  analysis-good past (some b) rest r s a on = (
-    made-plain imageViewAnalysis known-54 refl refl past b r (a .0) (settled-kept 54 past refl s) refl,
-    on (settled-on past b 54 (r .type) refl refl s) (allow-on (50 ∷ ends (i .addenda)) b 54 (r .type) (view-next (i .addenda) .1)),
-  )
+  analysis-good past (some b) rest r s a on =
+      record {
+        first = made-plain imageViewAnalysis known-54 refl refl past b r (a .0) (settled-kept 54 past refl s) refl;
+        rest = on (settled-on past b 54 (r .type) refl refl s) (allow-on (50 ∷ ends (i .addenda)) b 54 (r .type) (view-next (i .addenda) .1));
+      }
 
   view-good : (past : List Body) (v : View) (rest : List Body) → SoundView header i v → InItem letter header i past → (indicator letter ≡ E → ⊥)
       → Settled past → follows (lastIn past) 50 ≡ true
@@ -184,26 +188,26 @@ module _ (letter header : Body) (i : Item) where
       let s₁ = settled-on past (v .detail) 50 (k .0) refl refl s in
       let s₂ = settled-on d (v .image) 52 (k .1) refl refl s₁ in
       let head : (n : ℕ) → fieldOf bundleHeader n header ≡ fieldOf bundleHeader n (newest (is 20) d) =
-      λ n. ap (λ (b : Body). fieldOf bundleHeader n b) (sym (u .header-is)) in (
-        made-50 past (v .detail) (x .detail) f s (λ e. seen (sym (h .letter-is) ∙ e)),
-        (
-          made-52 d (v .image) (x .image) (allow-on (52 ∷ []) (v .detail) 50 (k .0) (search) .0) s₁ (
-            same-out _ _ (x .institution ∙ head 4),
-            (
-              same-out _ _ (x .date ∙ head 5),
-              (
-                same-out _ _ (x .cycle ∙ head 9),
-                (
-                  same-out _ _ (x .number ∙ sym (sequence-is letter header i d u)),
-                  (signed-out (signatureIn d) _ (λ e. x .signer (sym now ∙ e)), (signed-out (signatureIn d) _ (λ e. x .key (sym now ∙ e)), tt)),
-                ),
-              ),
-            ),
-          ),
-          analysis-good (v .image ∷ d) (v .analysis) rest (x .analysis) s₂
-              (allow-on (54 ∷ 50 ∷ ends (i .addenda)) (v .image) 52 (k .1) (view-next (i .addenda) .0)) on,
-        ),
-      )
+      λ n. ap (λ (b : Body). fieldOf bundleHeader n b) (sym (u .header-is)) in
+      let linked : ViewLinked d (v .image) =
+      record {
+        institution = x .institution ∙ head 4;
+        date = x .date ∙ head 5;
+        cycle = x .cycle ∙ head 9;
+        number = x .number ∙ sym (sequence-is letter header i d u);
+        signer = λ e. x .signer (sym now ∙ e);
+        key = λ e. x .key (sym now ∙ e);
+      } in
+      record {
+        first = made-50 past (v .detail) (x .detail) f s (λ e. seen (sym (h .letter-is) ∙ e));
+        rest =
+            record {
+              first = made-52 d (v .image) (x .image) (allow-on (52 ∷ []) (v .detail) 50 (k .0) (search) .0) s₁ linked;
+              rest =
+                  analysis-good (v .image ∷ d) (v .analysis) rest (x .analysis) s₂
+                  (allow-on (54 ∷ 50 ∷ ends (i .addenda)) (v .image) 52 (k .1) (view-next (i .addenda) .0)) on;
+            };
+      }
 
   views-good : (past : List Body) (vs : List View) (rest : List Body) → All (SoundView header i) vs → InItem letter header i past
       → (indicator letter ≡ E → length vs ≡ 0) → Settled past → Allow (50 ∷ ends (i .addenda)) (lastIn past)
@@ -236,9 +240,11 @@ module _ (letter header : Body) where
       let new = fresh (i .addenda) (i .detail) past (k .0) in
       let f = item-figures i past k in
       let before = afterAddenda d (i .addenda) in
-      let inside = in-addenda letter header i d (i .addenda) (k .1) (in-first letter header i past k (b .letter-is) (b .header-is)) in (
-        made-item (i .addenda) (i .detail) past (x .detail) (b .allowed) (b .settled) (b .viewed) (b .present),
-        addenda-good d (i .addenda) (viewsThen (i .views) rest) (x .addenda) (k .0) (new .bofd) (new .endorser)
+      let inside = in-addenda letter header i d (i .addenda) (k .1) (in-first letter header i past k (b .letter-is) (b .header-is)) in
+      record {
+        first = made-item (i .addenda) (i .detail) past (x .detail) (b .allowed) (b .settled) (b .viewed) (b .present);
+        rest =
+            addenda-good d (i .addenda) (viewsThen (i .views) rest) (x .addenda) (k .0) (new .bofd) (new .endorser)
             (omega (arith, x .number, new .addenda, new .stated-is))
             (λ a owes. views-good letter header i before (i .views) rest (x .views) inside (x .unseen) (omega (arith, owes)) a
             (λ s e. on
@@ -250,8 +256,8 @@ module _ (letter header : Body) where
               present = inr (f .present);
               allowed = e .0;
             })
-            (e .1 .0))),
-      )
+            (e .1 .0)));
+      }
 
   -- the items of a bundle from the second on
   items-good : (kind : ℕ) (its : List Item) (past rest : List Body) → All (SoundItem letter header) its
@@ -294,12 +300,6 @@ started letter b past e s l a =
       allowed = allow-on (kindIn a .typeNumber ∷ []) b 20 e (kind-first a) .0;
     }
 
--- "blank is not compared"
-blank-or : (blank : Bool) (x y : ℕ) → (blank ≡ true) ⊎ (x ≡ y) → blank || eqb x y ≡ true
-blank-or true x y h = refl
-blank-or false x y (inl h) = cc
-blank-or false x y (inr h) = eq-eqb x y h
-
 -- before a bundle, and behind one
 record Bundling (letter : Body) (past : List Body) : Type 0 where
   pub settled : Settled past
@@ -314,29 +314,32 @@ module _ (letter : Body) where
       let k = bundle-kinds letter b x in
       let f = bundle-figures b past k in
       let before = afterItems (b .header ∷ past) (b .items) in
-      let c = b .control in (
-        made-20 past (b .header) (x .header) (h .allowed .0) (h .settled) (λ e. x .allowed (sym (h .letter-is) ∙ e)),
-        filled-good letter (b .header) (b .items) (b .header ∷ past) (c ∷ rest) (x .filled) (x .items) (x .one-kind)
+      let c = b .control in
+      let totals : BundleTotals before c =
+      record {
+        item-count = x .item-count ∙ sym (f .items);
+        debit = x .debit ∙ sym (f .debit);
+        valid = rw (f .valid) (x .valid);
+        view-count = x .view-count ∙ sym (f .views);
+        credit-count = x .credit;
+        credit = x .credit-count;
+      } in
+      record {
+        first = made-20 past (b .header) (x .header) (h .allowed .0) (h .settled) (λ e. x .allowed (sym (h .letter-is) ∙ e));
+        rest =
+            filled-good letter (b .header) (b .items) (b .header ∷ past) (c ∷ rest) (x .filled) (x .items) (x .one-kind)
             (started letter (b .header) past (k .0) (h .settled) (h .letter-is))
-            (λ kind w closes. (
-              made-70 before c (x .control) closes (w .settled) (w .viewed) (
-                eq-eqb _ _ (x .item-count ∙ sym (f .items)),
-                (
-                  eq-eqb _ _ (x .debit ∙ sym (f .debit)),
-                  (
-                    rw (f .valid) (blank-or (every isBlank (fieldOf bundleControl 4 c)) (stated bundleControl 4 c) (total micr (b .items)) (x .valid)),
-                    (eq-eqb _ _ (x .view-count ∙ sym (f .views)), (eq-eqb _ _ (x .credit), (eq-eqb _ _ (x .credit-count), tt))),
-                  ),
-                ),
-              ),
-              on
+            (λ kind w closes. record {
+              first = made-70 before c (x .control) closes (w .settled) (w .viewed) totals;
+              rest =
+                  on
                   (record {
                     settled = settled-on before c 70 (k .2) refl refl (w .settled);
                     letter-is = step 0 nextIndicator before c 70 (k .2) ∙ w .letter-is;
                     allowed = allow-on (20 ∷ 90 ∷ []) c 70 (k .2) (search);
-                  }),
-            )),
-      )
+                  });
+            });
+      }
 
   bundles-good : (bs : List Bundle) (past rest : List Body) → All (SoundBundle letter) bs → Bundling letter past
       → (Bundling letter (afterBundles past bs) → GoodAll (afterBundles past bs) rest) → GoodAll past (bundlesThen bs rest)
@@ -352,31 +355,30 @@ letter-good l past rest x s a on =
     let k = letter-kinds l x in
     let f = letter-figures l past k in
     let before = afterBundles (l .header ∷ past) (l .bundles) in
-    let c = l .control in (
-      made-plain cashLetterHeader known-10 refl refl past (l .header) (x .header) a (settled-kept 10 past refl s) refl,
-      bundles-good (l .header) (l .bundles) (l .header ∷ past) (c ∷ rest) (x .bundles)
+    let c = l .control in
+    let totals : LetterTotals before c =
+    record {
+      bundle-count = x .bundle-count ∙ sym (f .bundles);
+      item-count = x .item-count ∙ sym (f .items);
+      debit = x .debit ∙ sym (f .debit);
+      view-count = x .view-count ∙ sym (f .views);
+      credit-count = x .credit;
+      credit = x .credit-count;
+    } in
+    record {
+      first = made-plain cashLetterHeader known-10 refl refl past (l .header) (x .header) a (settled-kept 10 past refl s) refl;
+      rest =
+          bundles-good (l .header) (l .bundles) (l .header ∷ past) (c ∷ rest) (x .bundles)
           (record {
             settled = settled-on past (l .header) 10 (k .0) refl refl s;
             letter-is = step 0 nextIndicator past (l .header) 10 (k .0);
             allowed = allow-on (20 ∷ 90 ∷ []) (l .header) 10 (k .0) (search);
           })
-          (λ w. (
-            made-90 before c (x .control) (w .allowed .1 .0) (w .settled) (filled (w .letter-is) (f .bundles) (x .filled)) (
-              eq-eqb _ _ (x .bundle-count ∙ sym (f .bundles)),
-              (
-                eq-eqb _ _ (x .item-count ∙ sym (f .items)),
-                (
-                  eq-eqb _ _ (x .debit ∙ sym (f .debit)),
-                  (
-                    eq-eqb _ _ (x .view-count ∙ sym (f .views)),
-                    (eq-eqb _ _ (x .credit), (eq-eqb _ _ (x .credit-count), tt)),
-                  ),
-                ),
-              ),
-            ),
-            on (settled-on before c 90 (k .2) refl refl (w .settled)) (allow-on (10 ∷ 99 ∷ []) c 90 (k .2) (search)),
-          )),
-    )
+          (λ w. record {
+            first = made-90 before c (x .control) (w .allowed .1 .0) (w .settled) (filled (w .letter-is) (f .bundles) (x .filled)) totals;
+            rest = on (settled-on before c 90 (k .2) refl refl (w .settled)) (allow-on (10 ∷ 99 ∷ []) c 90 (k .2) (search));
+          });
+    }
   where
     filled : {i j m n : ℕ} → i ≡ j → m ≡ n → (j ≡ N) ⊎ (1 ≤ n) → (i ≡ N) ⊎ (1 ≤ m)
     filled e d (inl h) = inl (e ∙ h)
@@ -400,18 +402,19 @@ sound-good f x =
     let h = f .header in
     let c = f .control in
     let before = afterLetters (h ∷ []) (f .letters) in
-    let begun : Settled [] = omega arith in (
-      made-plain fileHeader known-01 refl refl [] h (x .header) refl (settled-kept 1 [] refl begun) refl,
-      letters-good (f .letters) (h ∷ []) (c ∷ []) (x .letters) (settled-on [] h 1 (k .0) refl refl begun)
+    let begun : Settled [] = omega arith in
+    let totals : FileTotals before c =
+    record {
+      letter-count = x .letter-count ∙ sym (g .letters);
+      record-count = x .record-count ∙ sym (g .all);
+      item-count = x .item-count ∙ sym (g .items);
+      debit = x .debit ∙ sym (g .debit);
+      credit = x .credit;
+    } in
+    record {
+      first = made-plain fileHeader known-01 refl refl [] h (x .header) refl (settled-kept 1 [] refl begun) refl;
+      rest =
+          letters-good (f .letters) (h ∷ []) (c ∷ []) (x .letters) (settled-on [] h 1 (k .0) refl refl begun)
           (allow-on (10 ∷ []) h 1 (k .0) (search) .0) (λ e. absurd (omega (arith, x .filled, e)))
-          (λ s a. (
-            made-99 before c (x .control) a s (
-              eq-eqb _ _ (x .letter-count ∙ sym (g .letters)),
-              (
-                eq-eqb _ _ (x .record-count ∙ sym (g .all)),
-                (eq-eqb _ _ (x .item-count ∙ sym (g .items)), (eq-eqb _ _ (x .debit ∙ sym (g .debit)), (eq-eqb _ _ (x .credit), tt))),
-              ),
-            ),
-            x .control .type,
-          )),
-    )
+          (λ s a. record { first = made-99 before c (x .control) a s totals; rest = x .control .type });
+    }

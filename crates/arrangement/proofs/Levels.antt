@@ -6,12 +6,12 @@ use mathlib.Core.List.{List, [], _∷_}
 use lib.ListN.{length}
 use Rattle.order.specs.Order.{isItem}
 use Rattle.framing.specs.Framed.{Body}
-use Rattle.framing.proofs.Good.{count, is, never, amountAs, micrAs, lettersIn, openedIn, itemsSince, debitSince, viewsSince, micrIn}
+use Rattle.framing.proofs.Figures.{count, is, never, amountAs, micrAs, lettersIn, openedIn, itemsSince, debitSince, viewsSince, micrIn}
 use Rattle.arrangement.specs.Tree.{Addenda, Bundle, CashLetter, File}
 use Rattle.arrangement.specs.Written.{records}
 use Rattle.arrangement.specs.Sound.{total, kindIn, stated, micr, viewsOf, debitOf, debitIn, itemsIn, viewsIn}
-use Rattle.arrangement.specs.Sound as sound
 use Rattle.arrangement.specs.Kinds.{KindsBundle, KindsLetter, Kinds}
+use Rattle.arrangement.specs.Sound as sound
 use Rattle.arrangement.proofs.Figures.{adding, afterItems, afterBundle, afterBundles, afterLetter, afterLetters, onto-letters, length-onto, count-each, count-bundle, count-letter, step}
 use Rattle.arrangement.proofs.Sums.{items-sum, items-counted, items-views, bundles-sum, bundle-sum, letter-sum, letters-sum}
 

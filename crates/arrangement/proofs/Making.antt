@@ -11,11 +11,16 @@ use Rattle.kind.specs.Kinds.{bundleHeader, checkDetail, returnRecord, imageView
 use Rattle.order.specs.Order.{isAddendum, isOneOf, mayFollow, follows, oneKind, isCarried}
 use Rattle.agree.specs.Links.{addendaKept, annexB}
 use Rattle.framing.specs.Framed.{Body}
-use Rattle.framing.proofs.Good.{Good, AllHold, linkChecks, totalChecks, numberedAs, viewChecks, bundleChecks, letterChecks, fileChecks, is, statedIn, addendaIn, shownIn, openedIn, indicatorIn, itemsSince, lastIn, presentIn}
+use Rattle.framing.proofs.Good.{Good}
+use Rattle.framing.proofs.Checks.{numberedAs}
+use Rattle.framing.proofs.Figures.{is, statedIn, addendaIn, shownIn, openedIn, indicatorIn, itemsSince, lastIn, presentIn}
+use Rattle.framing.proofs.Tests.{not-both, unless-test}
+use Rattle.framing.proofs.Totals.{BundleTotals, FileTotals, LetterTotals, Totalled, bundle-totalled, file-totalled, letter-totalled, not-totalled}
+use Rattle.framing.proofs.Links.{Linked, ViewLinked}
 use Rattle.arrangement.specs.Sound.{N, E, Right, kindIn}
 use Rattle.arrangement.specs.Tree.{Addenda, ofCheck, ofReturn}
 use Rattle.arrangement.proofs.Rightness.{Known, right-out, known-20, known-25, known-31, known-50, known-52, known-70, known-90, known-99}
-use Rattle.arrangement.proofs.Turns.{of-type, not-both, differs, seen-out, filled-out, Settled, Viewed}
+use Rattle.arrangement.proofs.Turns.{of-type, differs, seen-out, filled-out, Settled, Viewed}
 
 -- the types that may all follow one
 abbrev pub Allow : List ℕ → ℕ → Type 0
@@ -25,12 +30,11 @@ Allow (t ∷ ts) last = (follows last t ≡ true) × Allow ts last
 -- of any kind: at a kind written out, the checks compute to those of its type
 module _ (k : Kind) (known : Known k) (past : List Body) (b : Body) where
   made : Right k b → isCarried (k .typeNumber) ≡ true → follows (lastIn past) (k .typeNumber) ≡ true
-      → oneKind (presentIn past) (k .typeNumber) ≡ true → AllHold (linkChecks (k .typeNumber) past b)
-      → AllHold (totalChecks (k .typeNumber) past b) → Good past b
+      → oneKind (presentIn past) (k .typeNumber) ≡ true → Linked (k .typeNumber) past b → Totalled (k .typeNumber) past b → Good past b
   unfolding mayFollow
   made r c f o l s =
       of-type (k .typeNumber) past b (r .type)
-      (record { carried = c; follows = rw (f, o) refl; alone = right-out k b known r; links = l; sums = s })
+      (record { carried = c; follows = rw (f, o) refl; alone = right-out k b known r; linked = l; totalled = s })
 
 -- the types with checks beside those of addenda and record numbers
 abbrev pub checked : List ℕ
@@ -55,46 +59,60 @@ module _ (k : Kind) (known : Known k) (c : isCarried (k .typeNumber) ≡ true) (
       let not-70 = unlike t 70 checked o refl in
       let not-90 = unlike t 90 checked o refl in
       let not-99 = unlike t 99 checked o refl in
-      made k known past b r c f (simp (not-25, not-31)) (a, (simp (not-20, not-25, not-31, not-50, not-70, not-90), (n, simp not-52 tt)))
-      (simp (not-70, not-90, not-99) tt)
+      made k known past b r c f (simp (not-25, not-31))
+      (record {
+        addenda = a;
+        annex-b = simp (not-20, not-25, not-31, not-50, not-70, not-90);
+        numbered = n;
+        view = unless-test (eqb t 52) not-52;
+      })
+      (not-totalled past b t not-70 not-90 not-99)
 
 pub settled-kept : (t : ℕ) (past : List Body) → isAddendum t ≡ false → Settled past → addendaKept t (statedIn past) (addendaIn past) ≡ true
 unfolding addendaKept
 settled-kept t past n s = rw (n, le-leb (statedIn past) (addendaIn past) s) refl
 
+-- the links of a record that is no addendum and no 52
+plainly : (t : ℕ) (past : List Body) (b : Body) → isAddendum t ≡ false → eqb t 52 ≡ false → Settled past
+    → annexB t (indicatorIn past) (openedIn past) (itemsSince (is 20) past) (shownIn past) ≡ true → numberedAs t past b ≡ true → Linked t past b
+plainly t past b a v s x n = record { addenda = settled-kept t past a s; annex-b = x; numbered = n; view = unless-test (eqb t 52) v }
+
 module _ (past : List Body) (b : Body) where
   pub made-20 : Right bundleHeader b → follows (lastIn past) 20 ≡ true → Settled past → (indicatorIn past ≡ N → ⊥) → Good past b
   unfolding isCarried annexB
   made-20 r f s n =
-      made bundleHeader known-20 past b r refl f refl
-      (settled-kept 20 past refl s, (rw (differs (indicatorIn past) N n) refl, (refl, tt))) tt
+      made bundleHeader known-20 past b r refl f refl (plainly 20 past b refl refl s (rw (differs (indicatorIn past) N n) refl) refl)
+      (not-totalled past b 20 refl refl refl)
 
   pub made-50 : Right imageViewDetail b → follows (lastIn past) 50 ≡ true → Settled past → (indicatorIn past ≡ E → ⊥) → Good past b
   unfolding isCarried annexB
   made-50 r f s n =
-      made imageViewDetail known-50 past b r refl f refl
-      (settled-kept 50 past refl s, (rw (differs (indicatorIn past) E n) refl, (refl, tt))) tt
+      made imageViewDetail known-50 past b r refl f refl (plainly 50 past b refl refl s (rw (differs (indicatorIn past) E n) refl) refl)
+      (not-totalled past b 50 refl refl refl)
 
-  pub made-52 : Right imageViewData b → follows (lastIn past) 52 ≡ true → Settled past → AllHold (viewChecks past b) → Good past b
+  pub made-52 : Right imageViewData b → follows (lastIn past) 52 ≡ true → Settled past → ViewLinked past b → Good past b
   unfolding isCarried annexB
-  made-52 r f s v = made imageViewData known-52 past b r refl f refl (settled-kept 52 past refl s, (refl, (refl, v))) tt
+  made-52 r f s v =
+      made imageViewData known-52 past b r refl f refl
+      (record { addenda = settled-kept 52 past refl s; annex-b = refl; numbered = refl; view = λ e. v }) (not-totalled past b 52 refl refl refl)
 
-  pub made-70 : Right bundleControl b → follows (lastIn past) 70 ≡ true → Settled past → Viewed past → AllHold (bundleChecks past b) → Good past b
+  pub made-70 : Right bundleControl b → follows (lastIn past) 70 ≡ true → Settled past → Viewed past → BundleTotals past b → Good past b
   unfolding isCarried annexB
-  made-70 r f s v c =
+  made-70 r f s v t =
       made bundleControl known-70 past b r refl f refl
-      (settled-kept 70 past refl s, (rw (seen-out (indicatorIn past) (itemsSince (is 20) past) (shownIn past) v) refl, (refl, tt))) c
+      (plainly 70 past b refl refl s (rw (seen-out (indicatorIn past) (itemsSince (is 20) past) (shownIn past) v) refl) refl)
+      (bundle-totalled past b t)
 
   pub made-90 : Right cashLetterControl b → follows (lastIn past) 90 ≡ true → Settled past → (indicatorIn past ≡ N) ⊎ (1 ≤ openedIn past)
-      → AllHold (letterChecks past b) → Good past b
+      → LetterTotals past b → Good past b
   unfolding isCarried annexB
-  made-90 r f s n c =
+  made-90 r f s n t =
       made cashLetterControl known-90 past b r refl f refl
-      (settled-kept 90 past refl s, (filled-out (indicatorIn past) (openedIn past) n, (refl, tt))) c
+      (plainly 90 past b refl refl s (filled-out (indicatorIn past) (openedIn past) n) refl) (letter-totalled past b t)
 
-  pub made-99 : Right fileControl b → follows (lastIn past) 99 ≡ true → Settled past → AllHold (fileChecks past b) → Good past b
+  pub made-99 : Right fileControl b → follows (lastIn past) 99 ≡ true → Settled past → FileTotals past b → Good past b
   unfolding isCarried annexB
-  made-99 r f s c = made fileControl known-99 past b r refl f refl (settled-kept 99 past refl s, (refl, (refl, tt))) c
+  made-99 r f s t = made fileControl known-99 past b r refl f refl (plainly 99 past b refl refl s refl refl) (file-totalled past b t)
 
 one-kind : (p t : ℕ) → (p ≡ 0) ⊎ (p ≡ t) → eqb p 0 || eqb p t ≡ true
 one-kind p t (inl e) = rw (eq-eqb p 0 e) refl
@@ -110,7 +128,9 @@ pub made-item : (a : Addenda) (d : Body) (past : List Body) → Right (kindIn a)
 unfolding isCarried annexB
 made-item (ofCheck a b c) d past r f s v p =
     made checkDetail known-25 past d r refl f (one-kind (presentIn past) 25 p)
-    (settled-kept 25 past refl s, (rw (seen-out (indicatorIn past) (itemsSince (is 20) past) (shownIn past) v) refl, (refl, tt))) tt
+    (plainly 25 past d refl refl s (rw (seen-out (indicatorIn past) (itemsSince (is 20) past) (shownIn past) v) refl) refl)
+    (not-totalled past d 25 refl refl refl)
 made-item (ofReturn a b c e) d past r f s v p =
     made returnRecord known-31 past d r refl f (one-kind (presentIn past) 31 p)
-    (settled-kept 31 past refl s, (rw (seen-out (indicatorIn past) (itemsSince (is 20) past) (shownIn past) v) refl, (refl, tt))) tt
+    (plainly 31 past d refl refl s (rw (seen-out (indicatorIn past) (itemsSince (is 20) past) (shownIn past) v) refl) refl)
+    (not-totalled past d 31 refl refl refl)

@@ -12,7 +12,8 @@ use Rattle.kind.specs.Alone.{typeOf}
 use Rattle.order.specs.Order.{isItem, pickNumber}
 use Rattle.reading.specs.Rows.{outsideLetter, outsideBundle, outsideItem}
 use Rattle.framing.specs.Framed.{Body}
-use Rattle.framing.proofs.Good.{onto, count, is, never, amountAs, lettersIn, bundlesIn, openedIn, itemsSince, debitSince, viewsSince, amountAfter, totalsAfter, rowsAll}
+use Rattle.framing.proofs.Good.{onto, amountAfter, totalsAfter, rowsAll}
+use Rattle.framing.proofs.Figures.{count, is, never, amountAs, lettersIn, bundlesIn, openedIn, itemsSince, debitSince, viewsSince}
 use Rattle.arrangement.specs.Tree.{View, Addenda, ofCheck, ofReturn, Item, Bundle, CashLetter, File}
 use Rattle.arrangement.specs.Written.{optionalThen, viewsThen, addendaThen, itemsThen, bundlesThen, lettersThen, records}
 use Rattle.arrangement.specs.Sound.{All, IfAny, total, kindIn, kindOf, stated, amount, viewsOf, debitOf, debitIn, itemsIn, viewsIn}

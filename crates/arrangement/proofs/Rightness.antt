@@ -10,13 +10,12 @@ use borrow.Author.Tests.{leb-true, le-leb, eqb-true, eq-eqb}
 use Rattle.text.specs.DataTypes.{ofType}
 use Rattle.kind.specs.Layout.{Line, Kind}
 use Rattle.kind.specs.Kinds.{fileHeader, cashLetterHeader, bundleHeader, checkDetail, checkDetailAddendumA, checkDetailAddendumB, checkDetailAddendumC, returnRecord, returnAddendumA, returnAddendumB, returnAddendumC, returnAddendumD, imageViewDetail, imageViewData, imageViewAnalysis, bundleControl, cashLetterControl, fileControl}
-use Rattle.kind.specs.declared.Judged.{Judged}
-use Rattle.kind.specs.declared.Judged.the-variants.{Sound, WrongLength, WrongField}
+use Rattle.kind.specs.declared.Judged.the-variants.{Sound}
 use Rattle.kind.specs.Alone.{typeOf, lineHolds, firstWrong, Sized, sizedParts, statedSize, statedSizes, firstWrongPart, isVariable, judged, alone, judgedAs}
 use Rattle.kind.specs.Alone as alone
 use Rattle.kind.proofs.Laws.{length-not-sound, field-not-sound, kept}
 use Rattle.framing.specs.Framed.{Body}
-use Rattle.framing.proofs.Held.{both}
+use Rattle.framing.proofs.Tests.{both}
 use Rattle.arrangement.specs.Sound.{All, PartsRight, Right}
 
 -- fields are numbered from 1, so that 0 names none of them

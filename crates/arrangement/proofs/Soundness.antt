@@ -1,7 +1,7 @@
 -- Good records in the places of an arrangement make it sound. Assumes nothing.
 use Prim.Native.Nat.{ℕ, _+_, _≤_}
 use native.Mathlib.Omega.{arith}
-use mathlib.Core.Bool.{Bool, true, false, _||_, not}
+use mathlib.Core.Bool.{true, false}
 use mathlib.Core.Logic.{_⊎_, inl, inr}
 use mathlib.Core.Option.{Option, none, some}
 use mathlib.Core.Path.{_≡_, refl, sym, ap, _∙_, subst}
@@ -17,14 +17,17 @@ use Rattle.kind.specs.Kinds.{fileHeader, cashLetterHeader, bundleControl, cashL
 use Rattle.kind.specs.Alone.{typeOf}
 use Rattle.order.specs.Order.{follows}
 use Rattle.framing.specs.Framed.{Body, fieldOf}
-use Rattle.framing.proofs.Good.{value, Good, GoodAll, onto, is, newest, numberedAs, signatureIn, indicatorIn, presentIn, addendaIn, bofdIn, endorserIn, itemsSince, debitSince, viewsSince, micrIn, openedIn, lettersIn, never}
+use Rattle.framing.proofs.Figures.{value, is, newest, indicatorIn, presentIn, addendaIn, bofdIn, endorserIn, openedIn}
+use Rattle.framing.proofs.Good.{Good, GoodAll, onto}
+use Rattle.framing.proofs.Checks.{numberedAs}
+use Rattle.framing.proofs.Tests.{not-both}
 use Rattle.arrangement.specs.Tree.{View, Addenda, ofCheck, ofReturn, Item, Bundle, CashLetter, File}
 use Rattle.arrangement.specs.Written.{optionalThen, viewThen, viewsThen, addendaThen, itemThen, itemsThen, bundleThen, bundlesThen, letterThen, lettersThen, records}
 use Rattle.arrangement.specs.Sound.{All, IfAny, Right, Numbered, stated, kindIn, kindOf, indicator, N, E, I, F, OneKind, SoundAddenda, SoundView, SoundItem, SoundBundle, SoundLetter, Sound}
 use Rattle.arrangement.specs.Kinds.{OfType, KindsView, KindsAddenda, KindsItem, KindsBundle, KindsLetter, Kinds}
 use Rattle.arrangement.proofs.Rightness.{right-in, known-01, known-10, known-20, known-70, known-90, known-99, known-25, known-31, known-50, known-52, known-54}
 use Rattle.arrangement.proofs.Figures.{Counts, afterOptional, afterView, afterViews, afterAddenda, afterItem, afterItems, afterBundle, afterBundles, afterLetter, afterLetters, quiet-bundle, quiet-bundles, step, quiet-step, quiet-optional, quiet-run, quiet-views}
-use Rattle.arrangement.proofs.Turns.{not-both, bundle-in, letter-in, same-in, signed-in, as-type, settled-in, short-in, follows-in, view-in, viewed-check, viewed-return, viewed-control, kind-in, Settled, Viewed}
+use Rattle.arrangement.proofs.Turns.{bundle-in, letter-in, as-type, settled-in, short-in, follows-in, view-in, viewed-check, viewed-return, viewed-control, kind-in, Settled, Viewed}
 use Rattle.arrangement.proofs.Within.{InItem, inner-50, in-step, in-view, in-addenda, sequence-is, nextSignature, nextAddenda, nextStated, nextBofd, nextEndorser, Short, Adds, adds-26, adds-27, adds-28, adds-32, adds-33, adds-34, adds-35, fresh, in-first, item-figures, nextIndicator, nextHeader, quiet-indicator}
 use Rattle.arrangement.proofs.Levels.{bundle-figures, letter-figures, file-figures}
 
@@ -32,17 +35,17 @@ module _ (letter header : Body) (i : Item) where
   analysis-sound : (past : List Body) (o : Option Body) (rest : List Body) → IfAny (OfType 54) o → GoodAll past (optionalThen o rest)
       → IfAny (Right imageViewAnalysis) o × GoodAll (afterOptional past o) rest
   analysis-sound past none rest k g = (tt, g)
-  analysis-sound past (some b) rest k g = (right-in imageViewAnalysis b known-54 k (as-type 54 past b k (g .0) .alone), g .1)
+  analysis-sound past (some b) rest k g = (right-in imageViewAnalysis b known-54 k (as-type 54 past b k (g .first) .alone), g .rest)
 
   view-sound : (past : List Body) (v : View) (rest : List Body) → KindsView v → InItem letter header i past → GoodAll past (viewThen v rest)
       → SoundView header i v × (indicator letter ≡ E → ⊥) × GoodAll (afterView past v) rest
   view-sound past v rest k h g =
-      let d = as-type 50 past (v .detail) (k .0) (g .0) in
-      let m = as-type 52 (v .detail ∷ past) (v .image) (k .1) (g .1 .0) in
-      let a = analysis-sound (v .image ∷ v .detail ∷ past) (v .analysis) rest (k .2) (g .1 .1) in
+      let d = as-type 50 past (v .detail) (k .0) (g .first) in
+      let m = as-type 52 (v .detail ∷ past) (v .image) (k .1) (g .rest .first) in
+      let a = analysis-sound (v .image ∷ v .detail ∷ past) (v .analysis) rest (k .2) (g .rest .rest) in
       let u = in-step letter header i past (v .detail) 50 (k .0) inner-50 h in
       let now = step 0 nextSignature past (v .detail) 50 (k .0) in
-      let checks = m .links .1 .1 .1 in
+      let links = m .linked .view refl in
       let head = ap (λ (x : Body). fieldOf bundleHeader 4 x) (u .header-is) in
       let date = ap (λ (x : Body). fieldOf bundleHeader 5 x) (u .header-is) in
       let cycle = ap (λ (x : Body). fieldOf bundleHeader 9 x) (u .header-is) in
@@ -51,12 +54,12 @@ module _ (letter header : Body) (i : Item) where
         detail = right-in imageViewDetail (v .detail) known-50 (k .0) (d .alone);
         image = right-in imageViewData (v .image) known-52 (k .1) (m .alone);
         analysis = a .0;
-        institution = same-in _ _ (checks .0) ∙ head;
-        date = same-in _ _ (checks .1 .0) ∙ date;
-        cycle = same-in _ _ (checks .1 .1 .0) ∙ cycle;
-        number = same-in _ _ (checks .1 .1 .1 .0) ∙ sequence-is letter header i (v .detail ∷ past) u;
-        signer = λ e. signed-in (signatureIn (v .detail ∷ past)) _ (checks .1 .1 .1 .1 .0) (now ∙ e);
-        key = λ e. signed-in (signatureIn (v .detail ∷ past)) _ (checks .1 .1 .1 .1 .1 .0) (now ∙ e);
+        institution = links .institution ∙ head;
+        date = links .date ∙ date;
+        cycle = links .cycle ∙ cycle;
+        number = links .number ∙ sequence-is letter header i (v .detail ∷ past) u;
+        signer = λ e. links .signer (now ∙ e);
+        key = λ e. links .key (now ∙ e);
       } in
       (sv, (λ e. view-in past (v .detail) d (h .letter-is ∙ e)), a .1)
 
@@ -85,7 +88,7 @@ module _ (k : Kind) (adds : Adds k) where
   optional-sound : (past : List Body) (o : Option Body) (rest : List Body) → IfAny (OfType (k .typeNumber)) o → Short past
       → GoodAll past (optionalThen o rest) → IfAny (Right k) o × Short (afterOptional past o) × GoodAll (afterOptional past o) rest
   optional-sound past none rest t s g = (tt, s, g)
-  optional-sound past (some b) rest t s g = (adds-right past b t (g .0), short-on past b t (g .0), g .1)
+  optional-sound past (some b) rest t s g = (adds-right past b t (g .first), short-on past b t (g .first), g .rest)
 
   -- a run of them, numbered on from a figure
   module _ (next : ℕ → Body → ℕ → ℕ) (counts : Counts next (k .typeNumber))
@@ -94,11 +97,11 @@ module _ (k : Kind) (adds : Adds k) where
         → GoodAll past (bs ++ rest) → Numbered k n bs × Short (onto bs past) × GoodAll (onto bs past) rest
     run-sound past [] rest n t e s g = (tt, s, g)
     run-sound past (b ∷ bs) rest n t e s g =
-        let a = as-type (k .typeNumber) past b (t .0) (g .0) in
-        let at = eqb-true (stated k 2 b) (value 0 next past + 1) (sym (numbered past b) ∙ a .links .1 .1 .0) in
+        let a = as-type (k .typeNumber) past b (t .0) (g .first) in
+        let at = eqb-true (stated k 2 b) (value 0 next past + 1) (sym (numbered past b) ∙ a .linked .numbered) in
         let on = step 0 next past b (k .typeNumber) (t .0) ∙ counts b (value 0 next past) in
-        let x = run-sound (b ∷ past) bs rest (n + 1) (t .1) (omega (arith, on, e)) (short-on past b (t .0) (g .0)) (g .1) in
-        ((adds-right past b (t .0) (g .0), at ∙ e, x .0), x .1, x .2)
+        let x = run-sound (b ∷ past) bs rest (n + 1) (t .1) (omega (arith, on, e)) (short-on past b (t .0) (g .first)) (g .rest) in
+        ((adds-right past b (t .0) (g .first), at ∙ e, x .0), x .1, x .2)
 
 -- the addenda of an item, behind its first record
 addenda-sound : (past : List Body) (a : Addenda) (rest : List Body) → KindsAddenda a → bofdIn past ≡ 0 → endorserIn past ≡ 0 → Short past
@@ -160,14 +163,14 @@ module _ (letter header : Body) where
   item-sound i past rest k l h g =
       let d = i .detail ∷ past in
       let f = fresh (i .addenda) (i .detail) past (k .0) in
-      let a = addenda-sound d (i .addenda) (viewsThen (i .views) rest) (k .1) (f .bofd) (f .endorser) (omega (arith, f .addenda)) (g .1) in
+      let a = addenda-sound d (i .addenda) (viewsThen (i .views) rest) (k .1) (f .bofd) (f .endorser) (omega (arith, f .addenda)) (g .rest) in
       let inside = in-addenda letter header i d (i .addenda) (k .1) (in-first letter header i past k l h) in
       let before = afterAddenda d (i .addenda) in
       let v = views-sound letter header i before (i .views) rest (k .2) inside (a .2) in
       let q₁ = quiet-views 0 nextAddenda (omega arith) before (i .views) (k .2) in
       let q₂ = quiet-views 0 nextStated (record { detail = λ b x. refl; image = λ b x. refl; analysis = λ b x. refl }) before (i .views) (k .2) in
       record {
-        first = first-sound (i .addenda) (i .detail) past (k .0) (g .0);
+        first = first-sound (i .addenda) (i .detail) past (k .0) (g .first);
         addenda = a .0;
         short = omega (arith, q₁, q₂, a .1);
         views = v .0;
@@ -205,7 +208,7 @@ module _ (letter header : Body) where
       → indicatorIn past ≡ indicator letter → newest (is 20) past ≡ header → presentIn past ≡ kind → GoodAll past (itemsThen its (c ∷ rest))
       → Items kind its past (c ∷ rest)
   items-sound kind [] past c rest o k t l h p g =
-      let a = as-type 70 past c t (g .0) in
+      let a = as-type 70 past c t (g .first) in
       record { settled = settled-in 70 past c a refl; viewed = viewed-control past c a; items = tt; kinds = tt; behind = g }
   items-sound kind (i ∷ its) past c rest o k t l h p g =
       let x = item-sound i past (itemsThen its (c ∷ rest)) (k .0) l h g in
@@ -237,15 +240,11 @@ never-99 : follows 1 99 ≡ false
 unfolding follows
 never-99 = refl
 
-either-blank : (blank : Bool) (n m : ℕ) → blank || eqb n m ≡ true → (blank ≡ true) ⊎ (n ≡ m)
-either-blank true n m e = inl refl
-either-blank false n m e = inr (eqb-true n m e)
-
 module _ (letter : Body) where
   items-filled : (b : Bundle) (its : List Item) (past : List Body) (c : Body) (rest : List Body) → typeOf c ≡ 70
       → typeOf (b .header) ≡ 20 → All KindsItem its → indicatorIn past ≡ indicator letter → GoodAll (b .header ∷ past) (itemsThen its (c ∷ rest))
       → (1 ≤ length its) × All (SoundItem letter (b .header)) its × OneKind its × GoodAll (afterItems (b .header ∷ past) its) (c ∷ rest)
-  items-filled b [] past c rest t h k l g = absurd (not-after 70 20 past (b .header) c h t never-70 (g .0))
+  items-filled b [] past c rest t h k l g = absurd (not-after 70 20 past (b .header) c h t never-70 (g .first))
   items-filled b (i ∷ its) past c rest t h k l g =
       let q = b .header ∷ past in
       let l₁ = quiet-step 0 nextIndicator past (b .header) 20 h (λ d x. refl) ∙ l in
@@ -259,12 +258,12 @@ module _ (letter : Body) where
   bundle-sound : (b : Bundle) (past rest : List Body) → KindsBundle b → indicatorIn past ≡ indicator letter → GoodAll past (bundleThen b rest)
       → SoundBundle letter b × GoodAll (afterBundle past b) rest
   bundle-sound b past rest k l g =
-      let h = as-type 20 past (b .header) (k .0) (g .0) in
-      let x = items-filled b (b .items) past (b .control) rest (k .2) (k .0) (k .1) l (g .1) in
+      let h = as-type 20 past (b .header) (k .0) (g .first) in
+      let x = items-filled b (b .items) past (b .control) rest (k .2) (k .0) (k .1) l (g .rest) in
       let q = afterItems (b .header ∷ past) (b .items) in
-      let c = as-type 70 q (b .control) (k .2) (x .3 .0) in
+      let c = as-type 70 q (b .control) (k .2) (x .3 .first) in
       let f = bundle-figures b past (k .0, k .1, k .2) in
-      let sums = c .sums in (
+      let sums = c .totalled .bundle refl in (
         record {
           header = right-in bundleHeader (b .header) known-20 (k .0) (h .alone);
           allowed = λ e. bundle-in past (b .header) h (l ∙ e);
@@ -272,16 +271,16 @@ module _ (letter : Body) where
           items = x .1;
           one-kind = x .2;
           control = right-in bundleControl (b .control) known-70 (k .2) (c .alone);
-          item-count = eqb-true (stated bundleControl 2 (b .control)) (itemsSince (is 20) q) (sums .0) ∙ f .items;
-          debit = eqb-true (stated bundleControl 3 (b .control)) (debitSince (is 20) q) (sums .1 .0) ∙ f .debit;
+          item-count = sums .item-count ∙ f .items;
+          debit = sums .debit ∙ f .debit;
           valid =
               subst (λ (n : ℕ). (every isBlank (fieldOf bundleControl 4 (b .control)) ≡ true) ⊎ (stated bundleControl 4 (b .control) ≡ n)) (f .valid)
-              (either-blank (every isBlank (fieldOf bundleControl 4 (b .control))) (stated bundleControl 4 (b .control)) (micrIn q) (sums .1 .1 .0));
-          view-count = eqb-true (stated bundleControl 5 (b .control)) (viewsSince (is 20) q) (sums .1 .1 .1 .0) ∙ f .views;
-          credit = eqb-true (stated bundleControl 6 (b .control)) 0 (sums .1 .1 .1 .1 .0);
-          credit-count = eqb-true (stated bundleControl 7 (b .control)) 0 (sums .1 .1 .1 .1 .1 .0);
+              (sums .valid);
+          view-count = sums .view-count ∙ f .views;
+          credit = sums .credit-count;
+          credit-count = sums .credit;
         },
-        x .3 .1,
+        x .3 .rest,
       )
 
   bundles-sound : (bs : List Bundle) (past rest : List Body) → All KindsBundle bs → indicatorIn past ≡ indicator letter
@@ -300,27 +299,27 @@ filled-letter i j m n e f (inr h) = inr (omega (arith, f, h))
 letter-sound : (l : CashLetter) (past rest : List Body) → KindsLetter l → GoodAll past (letterThen l rest)
     → SoundLetter l × GoodAll (afterLetter past l) rest
 letter-sound l past rest k g =
-    let h = as-type 10 past (l .header) (k .0) (g .0) in
+    let h = as-type 10 past (l .header) (k .0) (g .first) in
     let i₁ = step 0 nextIndicator past (l .header) 10 (k .0) in
-    let x = bundles-sound (l .header) (l .bundles) (l .header ∷ past) (l .control ∷ rest) (k .1) i₁ (g .1) in
+    let x = bundles-sound (l .header) (l .bundles) (l .header ∷ past) (l .control ∷ rest) (k .1) i₁ (g .rest) in
     let q = afterBundles (l .header ∷ past) (l .bundles) in
     let i₂ = quiet-bundles 0 nextIndicator quiet-indicator (l .header ∷ past) (l .bundles) (k .1) ∙ i₁ in
-    let c = as-type 90 q (l .control) (k .2) (x .1 .0) in
+    let c = as-type 90 q (l .control) (k .2) (x .1 .first) in
     let f = letter-figures l past (k .0, k .1, k .2) in
-    let sums = c .sums in (
+    let sums = c .totalled .letter refl in (
       record {
         header = right-in cashLetterHeader (l .header) known-10 (k .0) (h .alone);
         filled = filled-letter (indicatorIn q) (indicator (l .header)) (openedIn q) (length (l .bundles)) i₂ (f .bundles) (letter-in q (l .control) c);
         bundles = x .0;
         control = right-in cashLetterControl (l .control) known-90 (k .2) (c .alone);
-        bundle-count = eqb-true (stated cashLetterControl 2 (l .control)) (openedIn q) (sums .0) ∙ f .bundles;
-        item-count = eqb-true (stated cashLetterControl 3 (l .control)) (itemsSince (is 10) q) (sums .1 .0) ∙ f .items;
-        debit = eqb-true (stated cashLetterControl 4 (l .control)) (debitSince (is 10) q) (sums .1 .1 .0) ∙ f .debit;
-        view-count = eqb-true (stated cashLetterControl 5 (l .control)) (viewsSince (is 10) q) (sums .1 .1 .1 .0) ∙ f .views;
-        credit = eqb-true (stated cashLetterControl 8 (l .control)) 0 (sums .1 .1 .1 .1 .0);
-        credit-count = eqb-true (stated cashLetterControl 9 (l .control)) 0 (sums .1 .1 .1 .1 .1 .0);
+        bundle-count = sums .bundle-count ∙ f .bundles;
+        item-count = sums .item-count ∙ f .items;
+        debit = sums .debit ∙ f .debit;
+        view-count = sums .view-count ∙ f .views;
+        credit = sums .credit-count;
+        credit-count = sums .credit;
       },
-      x .1 .1,
+      x .1 .rest,
     )
 
 letters-sound : (ls : List CashLetter) (past rest : List Body) → All KindsLetter ls → GoodAll past (lettersThen ls rest)
@@ -333,25 +332,25 @@ letters-sound (l ∷ ls) past rest k g =
 
 some-letter : (f : File) (ls : List CashLetter) → typeOf (f .header) ≡ 1 → typeOf (f .control) ≡ 99
     → GoodAll (f .header ∷ []) (lettersThen ls (f .control ∷ [])) → 1 ≤ length ls
-some-letter f [] h c g = absurd (not-after 99 1 [] (f .header) (f .control) h c never-99 (g .0))
+some-letter f [] h c g = absurd (not-after 99 1 [] (f .header) (f .control) h c never-99 (g .first))
 some-letter f (l ∷ ls) h c g = omega arith
 
 pub good-sound : (f : File) → Kinds f → GoodAll [] (records f) → Sound f
 good-sound f k g =
-    let h = as-type 1 [] (f .header) (k .0) (g .0) in
-    let x = letters-sound (f .letters) (f .header ∷ []) (f .control ∷ []) (k .1) (g .1) in
+    let h = as-type 1 [] (f .header) (k .0) (g .first) in
+    let x = letters-sound (f .letters) (f .header ∷ []) (f .control ∷ []) (k .1) (g .rest) in
     let q = afterLetters (f .header ∷ []) (f .letters) in
-    let c = as-type 99 q (f .control) (k .2) (x .1 .0) in
+    let c = as-type 99 q (f .control) (k .2) (x .1 .first) in
     let s = file-figures f (k .0, k .1, k .2) in
-    let sums = c .sums in
+    let sums = c .totalled .file refl in
     record {
       header = right-in fileHeader (f .header) known-01 (k .0) (h .alone);
-      filled = some-letter f (f .letters) (k .0) (k .2) (g .1);
+      filled = some-letter f (f .letters) (k .0) (k .2) (g .rest);
       letters = x .0;
       control = right-in fileControl (f .control) known-99 (k .2) (c .alone);
-      letter-count = eqb-true (stated fileControl 2 (f .control)) (lettersIn q) (sums .0) ∙ s .letters;
-      record-count = eqb-true (stated fileControl 3 (f .control)) (length q + 1) (sums .1 .0) ∙ s .all;
-      item-count = eqb-true (stated fileControl 4 (f .control)) (itemsSince never q) (sums .1 .1 .0) ∙ s .items;
-      debit = eqb-true (stated fileControl 5 (f .control)) (debitSince never q) (sums .1 .1 .1 .0) ∙ s .debit;
-      credit = eqb-true (stated fileControl 8 (f .control)) 0 (sums .1 .1 .1 .1 .0);
+      letter-count = sums .letter-count ∙ s .letters;
+      record-count = sums .record-count ∙ s .all;
+      item-count = sums .item-count ∙ s .items;
+      debit = sums .debit ∙ s .debit;
+      credit = sums .credit;
     }

@@ -6,7 +6,8 @@ use mathlib.Core.List.{List, [], _∷_}
 use mathlib.Core.Option.{Option}
 use lib.ListN.{length}
 use Rattle.framing.specs.Framed.{Body}
-use Rattle.framing.proofs.Good.{value, onto}
+use Rattle.framing.proofs.Figures.{value}
+use Rattle.framing.proofs.Good.{onto}
 use Rattle.arrangement.specs.Tree.{Addenda, ofCheck, ofReturn, Item, Bundle, CashLetter, File}
 use Rattle.arrangement.specs.Written.{records}
 use Rattle.arrangement.specs.Sound.{All, total, kindIn, viewsOf}

@@ -17,8 +17,11 @@ use Rattle.reading.specs.Rows.{rowsOf}
 use Rattle.reading.specs.Reading.{pickAnswer, surveyed, inRoom, answerOf, tableAfter, tableOf}
 use Rattle.reading.proofs.Passes.{accepted-small}
 use Rattle.framing.specs.Framed.{Body, framed}
-use Rattle.framing.proofs.Good.{GoodAll, lastIn}
-use Rattle.framing.proofs.Accepted.{Bytes, accepted-records, records-accepted, one-framing}
+use Rattle.framing.proofs.Good.{GoodAll}
+use Rattle.framing.proofs.Figures.{lastIn}
+use Rattle.framing.proofs.LengthFields.{Bytes, one-framing}
+use Rattle.framing.proofs.Accepted.{accepted-records}
+use Rattle.framing.proofs.ReadThrough.{records-accepted}
 use Rattle.arrangement.specs.Tree.{File}
 use Rattle.arrangement.specs.Written.{records, written}
 use Rattle.arrangement.specs.Kinds.{Kinds}
@@ -26,13 +29,14 @@ use Rattle.arrangement.specs.Rows.{rows, totals}
 use Rattle.arrangement.specs.Arranged.{Arranges, HasRoom, Arranged}
 use Rattle.arrangement.proofs.Turns.{follows-in}
 use Rattle.arrangement.proofs.Places.{rows-of, totals-of}
-use Rattle.arrangement.proofs.Shape.{Chain, shape-of, one-shape}
+use Rattle.arrangement.proofs.Shape.{Chain, shape-of}
+use Rattle.arrangement.proofs.Unique.{one-shape}
 use Rattle.arrangement.proofs.Soundness.{good-sound}
 use Rattle.arrangement.proofs.Goodness.{sound-kinds, sound-good}
 
 good-chain : (past bs : List Body) → GoodAll past bs → Chain (lastIn past) bs
 good-chain past [] g = g
-good-chain past (b ∷ bs) g = (follows-in (typeOf b) past b (g .0), good-chain (b ∷ past) bs (g .1))
+good-chain past (b ∷ bs) g = (follows-in (typeOf b) past b (g .first), good-chain (b ∷ past) bs (g .rest))
 
 refused-not : (fault : Fault) (n o : ℕ) (t : Totals) → Refused fault n o ≡ Accepted t → ⊥
 refused-not fault n o t e = let z : _≡_ {A = ℕ} 0 1 = cc in omega arith
@@ -52,7 +56,7 @@ pub arranged-accepted : (file : List ℕ) (x : File) → Arranges file x → (su
 arranged-accepted file x a =
     let k = sound-kinds x (a .sound) in
     let r = records-accepted file (records x) (a .size) (a .bytes) (sound-good x (a .sound)) in
-    (r .0 ∙ ap Accepted (totals-of x k), r .1 ∙ rows-of x k)
+    (r .answer ∙ ap Accepted (totals-of x k), r .rows ∙ rows-of x k)
 
 -- an accepted file has an arrangement
 pub accepted-arranged : (file : List ℕ) (t : Totals) → Bytes file → surveyed file ≡ Accepted t → (x : File) × Arranges file x

@@ -9,8 +9,7 @@ use Rattle.kind.specs.Alone.{typeOf}
 use Rattle.order.specs.Order.{pickNumber, isItem}
 use Rattle.framing.specs.Framed.{Body}
 use Rattle.arrangement.specs.Tree.{View, Addenda, ofCheck, ofReturn, Item, Bundle, CashLetter, File}
-use Rattle.arrangement.specs.Written.{optionalThen, viewThen, viewsThen, itemThen, itemsThen}
-use Rattle.arrangement.specs.Written.{bundleThen, bundlesThen, letterThen, lettersThen, records}
+use Rattle.arrangement.specs.Written.{optionalThen, viewThen, viewsThen, itemThen, itemsThen, bundleThen, bundlesThen, letterThen, lettersThen, records}
 use Rattle.arrangement.specs.Sound.{All, IfAny, kindIn}
 use Rattle.arrangement.specs.Kinds.{OfType, KindsView, KindsItem, KindsBundle, KindsLetter, Kinds}
 

@@ -1,25 +1,25 @@
 -- What the records before one come to, for a record within an item. Assumes nothing.
 use Prim.Native.Nat.{ℕ, _+_, _≤_}
 use native.Mathlib.Omega.{arith}
-use mathlib.Core.Bool.{true, false, not}
+use mathlib.Core.Bool.{true, false}
 use mathlib.Core.Option.{Option, none, some}
 use mathlib.Core.Path.{_≡_, refl, sym, ap, _∙_}
 use mathlib.Core.List.{List, [], _∷_, _++_}
 use lib.Dec.{eqb}
 use lib.ListN.{length, length-append}
-use Rattle.text.specs.DataTypes.{every}
 use Rattle.kind.specs.Layout.{Kind}
 use Rattle.kind.specs.Kinds.{checkDetailAddendumA, checkDetailAddendumB, checkDetailAddendumC, returnAddendumA, returnAddendumB, returnAddendumC, returnAddendumD}
 use Rattle.kind.specs.Alone.{typeOf}
 use Rattle.order.specs.Order.{isItem, isAddendum, pickNumber}
 use Rattle.standing.specs.History.{pickLine, isBofdAddendum, isEndorserAddendum}
 use Rattle.framing.specs.Framed.{Body, fieldOf}
-use Rattle.framing.proofs.Good.{value, onto, is, newest, count, statedAs, sequenceOf, signatureOf, indicatorIn, indicatorOf, presentIn, statedIn, addendaIn, bofdIn, endorserIn, shownIn, itemsSince}
+use Rattle.framing.proofs.Figures.{value, is, newest, count, statedAs, sequenceOf, signatureOf, indicatorIn, indicatorOf, presentIn, statedIn, addendaIn, bofdIn, endorserIn, shownIn, itemsSince}
+use Rattle.framing.proofs.Good.{onto}
 use Rattle.arrangement.specs.Tree.{View, Addenda, ofCheck, ofReturn, Item}
-use Rattle.arrangement.specs.Written.{optionalThen, addendaThen, records}
-use Rattle.arrangement.specs.Sound as sound
+use Rattle.arrangement.specs.Written.{optionalThen, addendaThen}
 use Rattle.arrangement.specs.Sound.{All, IfAny, kindIn, kindOf, sequence, statedAddenda, indicator}
 use Rattle.arrangement.specs.Kinds.{OfType, KindsView, KindsAddenda, KindsItem}
+use Rattle.arrangement.specs.Sound as sound
 use Rattle.arrangement.proofs.Rightness.{Known, known-26, known-27, known-28, known-32, known-33, known-34, known-35}
 use Rattle.arrangement.proofs.Figures.{QuietAddenda, QuietBundles, quiet-views, quiet-addenda, count-run, count-views, Quiet, Counts, adding, afterOptional, afterView, afterAddenda, afterItem, QuietViews, step, quiet-step}
 

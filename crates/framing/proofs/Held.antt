@@ -20,12 +20,13 @@ use Rattle.measure.specs.Measures.{sums, noSums, together, pickSums, cents}
 use Rattle.measure.specs.Measures as measures
 use Rattle.order.specs.Order.{isItem, isAddendum, pickNumber, lastOf, kindInBundle}
 use Rattle.standing.specs.History.{Entry, entry, pickLine, fieldIn, field, amountOf, micrOf, statedBy, one, sumsSince, countSince, isBofdAddendum, isEndorserAddendum}
-use Rattle.standing.specs.History as history
 use Rattle.standing.specs.Standing.{standing}
 use Rattle.standing.specs.declared.Standing.{Standing}
+use Rattle.standing.specs.History as history
 use Rattle.standing.proofs.Laws.{assembled}
 use Rattle.framing.specs.Framed.{Body, fieldAmong, fieldOf}
-use Rattle.framing.proofs.Good.{value, sumSince, newest, never, is, count, amountAs, micrAs, statedAs, indicatorOf, signatureOf, lastIn, presentIn, lettersIn, bundlesIn, openedIn, itemsSince, debitSince, viewsSince, micrIn, addendaIn, bofdIn, endorserIn, shownIn, statedIn, indicatorIn, signatureIn}
+use Rattle.framing.proofs.Figures.{value, sumSince, never, is, count, amountAs, micrAs, statedAs, indicatorOf, signatureOf, lastIn, presentIn, lettersIn, bundlesIn, openedIn, itemsSince, debitSince, viewsSince, micrIn, addendaIn, bofdIn, endorserIn, shownIn, statedIn, indicatorIn, signatureIn}
+use Rattle.framing.proofs.Tests.{both}
 
 -- the bytes that records take with their lengths, and their entries; the newest first
 abbrev pub extent : List Body → ℕ
@@ -51,10 +52,6 @@ pub under : {A : Type 0} (pick : Bool → A → A → A) (c : Bool) {x x′ y y�
     → ((z : A) → pick false x z ≡ pick false x′ z) → pick c x y ≡ pick c x′ y′
 under pick true p q unread = ap₂ (pick true) (p refl) q
 under pick false {x} {x′} {y} {y′} p q unread = ap (pick false x) q ∙ unread y′
-
-pub both : (a b : Bool) → a && b ≡ true → (a ≡ true) × (b ≡ true)
-both true b e = (refl, e)
-both false b e = ((cc), (cc))
 
 -- the lines of a layout lie within so many characters
 abbrev pub within : ℕ → List Line → Bool

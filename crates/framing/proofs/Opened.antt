@@ -11,15 +11,16 @@ use Rattle.kind.specs.Alone.{typeOf}
 use Rattle.order.specs.Order.{After, table, isOneOf, inTable, pickBool, pickNumber, follows, isItem, oneKind, mayFollow}
 use Rattle.standing.specs.History.{pickLine}
 use Rattle.framing.specs.Framed.{Body}
-use Rattle.framing.proofs.Good.{value, newest, is, lastIn, presentIn}
-use Rattle.framing.proofs.Held.{both, HeldAt, Held, extent, newestAt}
+use Rattle.framing.proofs.Figures.{value, newest, is, lastIn, presentIn}
+use Rattle.framing.proofs.Tests.{both}
+use Rattle.framing.proofs.Held.{HeldAt, Held, extent, newestAt}
 
 -- a law of a type and the one after it, at each pair of a table
 abbrev pub throughout : (ℕ → ℕ → Bool) → List After → Bool
 throughout law [] = true
 throughout law (line ∷ lines) = every (law (line .last)) (line .next) && throughout law lines
 
-among : (law : ℕ → Bool) (t : ℕ) (ts : List ℕ) → every law ts ≡ true → isOneOf t ts ≡ true → law t ≡ true
+pub among : (law : ℕ → Bool) (t : ℕ) (ts : List ℕ) → every law ts ≡ true → isOneOf t ts ≡ true → law t ≡ true
 among law t [] h e = cc
 among law t (u ∷ us) h e =
     let tests = both (law u) (every law us) h in

@@ -12,26 +12,31 @@ use Rattle.text.specs.Number.{number}
 use Rattle.kind.specs.Kinds.{bundleHeader, checkDetail, checkDetailAddendumA, checkDetailAddendumC, returnRecord, returnAddendumA, returnAddendumD, imageViewData, bundleControl, cashLetterControl, fileControl}
 use Rattle.kind.specs.declared.Judged.{Judged}
 use Rattle.kind.specs.declared.Judged.the-variants.{Sound, WrongLength, WrongField}
-use Rattle.kind.specs.declared.Judged.the-variants as judgements
 use Rattle.kind.specs.Alone.{typeOf, judgedAs, alone}
+use Rattle.kind.specs.declared.Judged.the-variants as judgements
 use Rattle.kind.specs.Alone as kinds
 use Rattle.order.specs.Order.{isItem, isOneOf, carried, isCarried, mayFollow, pickNumber, pickBool}
 use Rattle.standing.specs.History.{field, pickLine}
 use Rattle.standing.specs.declared.Standing.{Standing}
 use Rattle.agree.specs.Checks.{Check, check, firstFailing}
 use Rattle.agree.specs.Links.{addendaKept, annexB, numberedOn, sequenceOfItem, viewLinks, pickChecks, linkFault}
-use Rattle.agree.specs.Links as links
 use Rattle.agree.specs.Totals.{totalFault}
+use Rattle.agree.specs.Links as links
 use Rattle.agree.specs.Totals as totals
 use Rattle.reading.specs.declared.Fault.{Fault}
 use Rattle.reading.specs.declared.Fault.the-variants.{Length, UnknownType, Place, Link, Total}
 use Rattle.reading.specs.declared.Turn.{Turn}
-use Rattle.reading.specs.declared.Turn.the-variants as turns
 use Rattle.reading.specs.Order.{unless, unlessAlone, agreement, turnOf}
+use Rattle.reading.specs.declared.Turn.the-variants as turns
 use Rattle.framing.specs.Framed.{Body, fieldOf}
-use Rattle.framing.proofs.Good.{newest, is, presentIn, bofdIn, endorserIn, signatureIn, statedIn, addendaIn, indicatorIn, openedIn, itemsSince, shownIn, numberedAs, sequenceOf, viewChecks, linkChecks, bundleChecks, letterChecks, fileChecks, totalChecks, AllHold, Good}
-use Rattle.framing.proofs.Held.{HeldAt, Held, under, both, fields-held, fields-at, item-long, newestAt, over}
+use Rattle.framing.proofs.Figures.{newest, is, presentIn, bofdIn, endorserIn, signatureIn, statedIn, addendaIn, indicatorIn, openedIn, itemsSince, shownIn, sequenceOf, value}
+use Rattle.framing.proofs.Checks.{numberedAs, viewChecks, linkChecks, bundleChecks, letterChecks, fileChecks, totalChecks, AllHold, _and_, end}
+use Rattle.framing.proofs.Good.{Good}
+use Rattle.framing.proofs.Held.{HeldAt, Held, under, fields-held, fields-at, item-long, newestAt, over}
+use Rattle.framing.proofs.Tests.{both}
 use Rattle.framing.proofs.Opened.{AllOpened, all-opened, has, newest-passes}
+use Rattle.framing.proofs.Links.{links-out, links-in}
+use Rattle.framing.proofs.Totals.{totals-out, totals-in}
 
 -- the first failing check is none exactly where all of them hold: no check faults a field 0
 abbrev numbered : List Check → Bool
@@ -39,15 +44,15 @@ numbered [] = true
 numbered (c ∷ cs) = not (eqb (c .field) 0) && numbered cs
 
 none-fails : (cs : List Check) → AllHold cs → firstFailing cs ≡ 0
-none-fails [] h = refl
-none-fails (c ∷ cs) h = ap (λ (t : Bool). pickNumber t (firstFailing cs) (c .field)) (h .0) ∙ none-fails cs (h .1)
+none-fails [] end = refl
+none-fails (c ∷ cs) (here and others) = ap (λ (t : Bool). pickNumber t (firstFailing cs) (c .field)) here ∙ none-fails cs others
 
 all-hold : (cs : List Check) → numbered cs ≡ true → firstFailing cs ≡ 0 → AllHold cs
-all-hold [] n e = tt
+all-hold [] n e = end
 all-hold (c ∷ cs) n e =
     let tests = both (not (eqb (c .field) 0)) (numbered cs) n in
     let here = holds-here (c .holds) (c .field) (firstFailing cs) (tests .0) e in
-    (here .0, all-hold cs (tests .1) (here .1))
+    here .0 and all-hold cs (tests .1) (here .1)
   where
     holds-here : (t : Bool) (field later : ℕ) → not (eqb field 0) ≡ true → pickNumber t later field ≡ 0 → (t ≡ true) × (later ≡ 0)
     holds-here true field later n e = (refl, e)
@@ -179,12 +184,14 @@ module _ (file : List ℕ) (past : List Body) (older : Held file past) (opened :
         carried = p .carried;
         follows = p .follows;
         alone = p .alone;
-        links =
-            all-hold (linkChecks (typeOf b) past b) (links-numbered (typeOf b) past b)
-            (ap firstFailing (sym (links-same past older h now)) ∙ p .linked);
-        sums =
-            all-hold (totalChecks (typeOf b) past b) (totals-numbered (typeOf b) past b)
-            (ap firstFailing (sym (totals-same past older h)) ∙ p .totalled);
+        linked =
+            links-in (typeOf b) past b
+            (all-hold (linkChecks (typeOf b) past b) (links-numbered (typeOf b) past b)
+            (ap firstFailing (sym (links-same past older h now)) ∙ p .linked));
+        totalled =
+            totals-in (typeOf b) past b
+            (all-hold (totalChecks (typeOf b) past b) (totals-numbered (typeOf b) past b)
+            (ap firstFailing (sym (totals-same past older h)) ∙ p .totalled));
       }
 
   pub good-turn : HeldAt file at b → Good past b → turnOf file (over past) at b ≡ turns.Good (typeOf b)
@@ -195,6 +202,6 @@ module _ (file : List ℕ) (past : List Body) (older : Held file past) (opened :
         carried = g .carried;
         follows = g .follows;
         alone = g .alone;
-        linked = ap firstFailing (links-same past older h now) ∙ none-fails (linkChecks (typeOf b) past b) (g .links);
-        totalled = ap firstFailing (totals-same past older h) ∙ none-fails (totalChecks (typeOf b) past b) (g .sums);
+        linked = ap firstFailing (links-same past older h now) ∙ none-fails (linkChecks (typeOf b) past b) (links-out (typeOf b) past b (g .linked));
+        totalled = ap firstFailing (totals-same past older h) ∙ none-fails (totalChecks (typeOf b) past b) (totals-out (typeOf b) past b (g .totalled));
       })

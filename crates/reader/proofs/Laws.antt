@@ -11,7 +11,7 @@ use Rattle.reading.specs.declared.Answer.{Answer}
 use Rattle.reading.specs.declared.Answer.the-variants.{Accepted, Refused}
 use Rattle.reading.specs.Rows.{rowsOf}
 use Rattle.reading.specs.Reading.{surveyed, answerOf, tableOf}
-use Rattle.framing.proofs.Accepted.{Bytes}
+use Rattle.framing.proofs.LengthFields.{Bytes}
 use Rattle.arrangement.specs.Arranged.{Arranged}
 use Rattle.arrangement.proofs.Theorem.{arranged}
 
