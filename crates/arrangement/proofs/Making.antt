@@ -1,14 +1,17 @@
 -- What makes a record of each type good behind others: the record right, what it may follow, and figures of the others. Assumes nothing.
 use Prim.Native.Nat.{ℕ, _≤_}
+use native.Mathlib.Omega.{arith}
 use mathlib.Core.Bool.{Bool, true, false, _||_}
 use mathlib.Core.Logic.{_⊎_, inl, inr}
 use mathlib.Core.Path.{_≡_, refl, sym, ap, _∙_}
 use mathlib.Core.List.{List, [], _∷_}
 use lib.Dec.{eqb}
 use borrow.Author.Tests.{le-leb, eq-eqb, ne-eqb}
+use Rattle.text.specs.DataTypes.{every}
 use Rattle.kind.specs.Layout.{Kind}
 use Rattle.kind.specs.Kinds.{bundleHeader, checkDetail, returnRecord, imageViewDetail, imageViewData, bundleControl, cashLetterControl, fileControl}
-use Rattle.order.specs.Order.{isAddendum, isOneOf, mayFollow, follows, oneKind, isCarried}
+use Rattle.kind.specs.Alone.{typeOf}
+use Rattle.order.specs.Order.{isItem, isAddendum, isOneOf, mayFollow, follows, oneKind, isCarried}
 use Rattle.agree.specs.Links.{addendaKept, annexB}
 use Rattle.framing.specs.Framed.{Body}
 use Rattle.framing.proofs.Good.{Good}
@@ -17,15 +20,31 @@ use Rattle.framing.proofs.Figures.{is, statedIn, addendaIn, shownIn, openedIn, 
 use Rattle.framing.proofs.Tests.{not-both, unless-test}
 use Rattle.framing.proofs.Totals.{BundleTotals, FileTotals, LetterTotals, Totalled, bundle-totalled, file-totalled, letter-totalled, not-totalled}
 use Rattle.framing.proofs.Links.{Linked, ViewLinked}
-use Rattle.arrangement.specs.Sound.{N, E, Right, kindIn}
+use Rattle.framing.proofs.Opened.{among}
+use Rattle.arrangement.specs.Sound.{N, E, Right, layoutIn}
 use Rattle.arrangement.specs.Tree.{Addenda, ofCheck, ofReturn}
 use Rattle.arrangement.proofs.Rightness.{Known, right-out, known-20, known-25, known-31, known-50, known-52, known-70, known-90, known-99}
 use Rattle.arrangement.proofs.Turns.{of-type, differs, seen-out, filled-out, Settled, Viewed}
+use Rattle.arrangement.proofs.OwnAddenda.{nextAddenda, nextStated}
+use Rattle.arrangement.proofs.Quiet.{step}
 
 -- the types that may all follow one
-abbrev pub Allow : List ℕ → ℕ → Type 0
-Allow [] last = Unit {0}
-Allow (t ∷ ts) last = (follows last t ≡ true) × Allow ts last
+pub record Allow (ts : List ℕ) (last : ℕ) : Type 0 where
+  pub may : (t : ℕ) → isOneOf t ts ≡ true → follows last t ≡ true
+
+pub allow-first : {t : ℕ} {ts : List ℕ} {last : ℕ} → Allow (t ∷ ts) last → follows last t ≡ true
+allow-first {t} a = a .may t (rw (eq-eqb t t refl) refl)
+
+pub allow-rest : {t : ℕ} {ts : List ℕ} {last : ℕ} → Allow (t ∷ ts) last → Allow ts last
+allow-rest {t} {ts} a = record { may = λ u e. a .may u (later (eqb u t) (isOneOf u ts) e) }
+  where
+    later : (c d : Bool) → d ≡ true → c || d ≡ true
+    later true d e = refl
+    later false d e = e
+
+-- at types written out the last fact is `refl`
+pub allow-at : {last t : ℕ} (ts : List ℕ) → last ≡ t → every (follows t) ts ≡ true → Allow ts last
+allow-at {last} ts e h = record { may = λ u o. among (follows last) u ts (rw e h) o }
 
 -- of any kind: at a kind written out, the checks compute to those of its type
 module _ (k : Kind) (known : Known k) (past : List Body) (b : Body) where
@@ -114,23 +133,28 @@ module _ (past : List Body) (b : Body) where
   unfolding isCarried annexB
   made-99 r f s t = made fileControl known-99 past b r refl f refl (plainly 99 past b refl refl s refl refl) (file-totalled past b t)
 
-one-kind : (p t : ℕ) → (p ≡ 0) ⊎ (p ≡ t) → eqb p 0 || eqb p t ≡ true
-one-kind p t (inl e) = rw (eq-eqb p 0 e) refl
-one-kind p t (inr e) = rw (eq-eqb p t e) (either (eqb p 0))
+one-type : (p t : ℕ) → (p ≡ 0) ⊎ (p ≡ t) → eqb p 0 || eqb p t ≡ true
+one-type p t (inl e) = rw (eq-eqb p 0 e) refl
+one-type p t (inr e) = rw (eq-eqb p t e) (either (eqb p 0))
   where
     either : (x : Bool) → x || true ≡ true
     either true = refl
     either false = refl
 
 -- an item's first record
-pub made-item : (a : Addenda) (d : Body) (past : List Body) → Right (kindIn a) d → follows (lastIn past) (kindIn a .typeNumber) ≡ true → Settled past
-    → Viewed past → (presentIn past ≡ 0) ⊎ (presentIn past ≡ kindIn a .typeNumber) → Good past d
+pub made-item : (a : Addenda) (d : Body) (past : List Body) → Right (layoutIn a) d → follows (lastIn past) (layoutIn a .typeNumber) ≡ true → Settled past
+    → Viewed past → (presentIn past ≡ 0) ⊎ (presentIn past ≡ layoutIn a .typeNumber) → Good past d
 unfolding isCarried annexB
 made-item (ofCheck a b c) d past r f s v p =
-    made checkDetail known-25 past d r refl f (one-kind (presentIn past) 25 p)
+    made checkDetail known-25 past d r refl f (one-type (presentIn past) 25 p)
     (plainly 25 past d refl refl s (rw (seen-out (indicatorIn past) (itemsSince (is 20) past) (shownIn past) v) refl) refl)
     (not-totalled past d 25 refl refl refl)
 made-item (ofReturn a b c e) d past r f s v p =
-    made returnRecord known-31 past d r refl f (one-kind (presentIn past) 31 p)
+    made returnRecord known-31 past d r refl f (one-type (presentIn past) 31 p)
     (plainly 31 past d refl refl s (rw (seen-out (indicatorIn past) (itemsSince (is 20) past) (shownIn past) v) refl) refl)
     (not-totalled past d 31 refl refl refl)
+
+-- the item before a record that is no item and no addendum stays settled behind it
+pub settled-on : (past : List Body) (b : Body) (t : ℕ) → typeOf b ≡ t → isItem t ≡ false → isAddendum t ≡ false → Settled past → Settled (b ∷ past)
+settled-on past b t e i a s =
+    omega (arith, simp (i, a) at (step 0 nextAddenda past b t e), simp i at (step 0 nextStated past b t e))

@@ -3,15 +3,15 @@ use Prim.Native.Nat.{ℕ, _≤_, _<_}
 use native.Mathlib.Omega.{arith}
 use mathlib.Core.Bool.{Bool, true, false, _&&_, _||_, not}
 use mathlib.Core.Logic.{_⊎_, inl, inr}
-use mathlib.Core.Path.{_≡_, refl, sym, subst}
-use mathlib.Core.List.{List}
+use mathlib.Core.Path.{ap, _∙_, _≡_, refl, sym, subst}
+use mathlib.Core.List.{List, _∷_}
 use lib.Dec.{leb, eqb}
 use borrow.Author.Tests.{leb-true, le-leb, ltb-true, eqb-true, eq-eqb, ne-eqb, eqb-false}
 use Rattle.kind.specs.Alone.{typeOf}
 use Rattle.order.specs.Order.{isItem, isAddendum, mayFollow, follows, oneKind}
 use Rattle.agree.specs.Links.{addendaKept, annexB}
 use Rattle.framing.specs.Framed.{Body}
-use Rattle.framing.proofs.Good.{Good, GoodAs}
+use Rattle.framing.proofs.Good.{Good, GoodAs, GoodAll}
 use Rattle.framing.proofs.Figures.{is, statedIn, addendaIn, shownIn, openedIn, indicatorIn, itemsSince, lastIn, presentIn}
 use Rattle.framing.proofs.Tests.{both, not-both}
 use Rattle.arrangement.specs.Sound.{N, E, I, F}
@@ -143,10 +143,20 @@ module _ (past : List Body) (b : Body) where
 
 module _ (t : ℕ) (past : List Body) (b : Body) (g : GoodAs t past b) where
   -- "as the first"
-  pub kind-in : isItem t ≡ true → (presentIn past ≡ 0) ⊎ (presentIn past ≡ t)
+  pub item-type-in : isItem t ≡ true → (presentIn past ≡ 0) ⊎ (presentIn past ≡ t)
   unfolding mayFollow
-  kind-in h = turn (either-in (eqb (presentIn past) 0) (eqb (presentIn past) t) (rw h at (both (follows (lastIn past) t) (oneKind (presentIn past) t) (g .follows) .1)))
+  item-type-in h = turn (either-in (eqb (presentIn past) 0) (eqb (presentIn past) t) (rw h at (both (follows (lastIn past) t) (oneKind (presentIn past) t) (g .follows) .1)))
     where
       turn : (eqb (presentIn past) 0 ≡ true) ⊎ (eqb (presentIn past) t ≡ true) → (presentIn past ≡ 0) ⊎ (presentIn past ≡ t)
       turn (inl e) = inl (eqb-true (presentIn past) 0 e)
       turn (inr e) = inr (eqb-true (presentIn past) t e)
+
+-- a type that does not follow the one before it
+pub not-after : (t n : ℕ) (past : List Body) (b c : Body) → typeOf b ≡ n → typeOf c ≡ t → follows n t ≡ false → Good (b ∷ past) c → ⊥
+not-after t n past b c e k f g =
+    not-both (sym f ∙ ap (λ (l : ℕ). follows l t) (sym e) ∙ follows-in t (b ∷ past) c (as-type t (b ∷ past) c k g))
+
+-- a part of an arrangement found sound, and the records behind it good
+pub record Found (Part : Type 0) (past rest : List Body) : Type 0 where
+  pub sound : Part
+  pub behind : GoodAll past rest
