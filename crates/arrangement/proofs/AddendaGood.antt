@@ -1,6 +1,4 @@
--- The records of sound addenda are good, one after the other. Here and in the files for views, items, bundles and cash letters, each law makes
--- good the records of a part and then `rest`, given facts of those before it, if from the same facts behind the part `rest` is good there:
--- what is known goes forward, and what is good comes back. Assumes nothing.
+-- The records of sound addenda are good, one after the other. Assumes nothing.
 use Prim.Native.Nat.{ℕ, _+_}
 use native.Mathlib.Omega.{arith}
 use mathlib.Core.Bool.{true, false}
@@ -28,6 +26,9 @@ use Rattle.arrangement.proofs.Quiet.{step, quiet-step}
 use Rattle.arrangement.proofs.OwnAddenda.{nextAddenda, nextStated, nextBofd, nextEndorser, Adds, adds-26, adds-27, adds-28, adds-32, adds-33, adds-34, adds-35, endorser-check, endorser-return}
 use Rattle.arrangement.proofs.Making.{Allow, checked, made-plain, allow-at, allow-first, allow-rest}
 use Rattle.arrangement.proofs.SoundTyped.{addenda-typed}
+
+-- Here, and for views, items, bundles and cash letters, each law makes good the records of a part and then `rest`, given facts of those
+-- before it, if from the same facts behind the part `rest` is good there: what is known goes forward, and what is good comes back.
 
 -- the addenda that the item still owes
 abbrev pub Owes : List Body → List Body → Type 0

@@ -6,7 +6,6 @@ use mathlib.Core.Path.{_≡_, refl, sym, _∙_}
 use mathlib.Core.List.{List, [], _∷_, _++_}
 use lib.Dec.{eqb}
 use borrow.Author.Tests.{eqb-true}
-use Rattle.text.specs.Number.{number}
 use Rattle.kind.specs.Layout.{Kind}
 use Rattle.kind.specs.Kinds.{checkDetailAddendumA, checkDetailAddendumB, checkDetailAddendumC, returnAddendumA, returnAddendumB, returnAddendumC, returnAddendumD}
 use Rattle.kind.specs.Alone.{typeOf}

@@ -38,42 +38,12 @@ nextPresent t b x = pickNumber (eqb t 20) 0 (pickNumber (isItem t) t x)
 abbrev pub nextSignature : ℕ → Body → ℕ → ℕ
 nextSignature t b x = pickNumber (is 50 t) (signatureOf b) x
 
--- a type of record that stands within an item, but not first
+-- a type of record that stands within an item, but not first; `search` proves it of a numeral
 pub record Inner (t : ℕ) : Type 0 where
   pub indicates : Quiet nextIndicator t
   pub heads : Quiet nextHeader t
   pub details : Quiet nextDetail t
   pub presents : Quiet nextPresent t
-
-pub inner-26 : Inner 26
-inner-26 = search
-
-pub inner-27 : Inner 27
-inner-27 = search
-
-pub inner-28 : Inner 28
-inner-28 = search
-
-pub inner-32 : Inner 32
-inner-32 = search
-
-pub inner-33 : Inner 33
-inner-33 = search
-
-pub inner-34 : Inner 34
-inner-34 = search
-
-pub inner-35 : Inner 35
-inner-35 = search
-
-pub inner-50 : Inner 50
-inner-50 = search
-
-pub inner-52 : Inner 52
-inner-52 = search
-
-pub inner-54 : Inner 54
-inner-54 = search
 
 module _ (letter header : Body) (i : Item) where
   pub in-step : (past : List Body) (b : Body) (t : ℕ) → typeOf b ≡ t → Inner t → InItem letter header i past → InItem letter header i (b ∷ past)
@@ -96,16 +66,17 @@ module _ (letter header : Body) (i : Item) where
 
   pub in-view : (past : List Body) (v : View) → TypedView v → InItem letter header i past → InItem letter header i (afterView past v)
   in-view past v k h =
-      in-optional (v .image ∷ v .detail ∷ past) (v .analysis) 54 (k .analysis) inner-54
-      (in-step (v .detail ∷ past) (v .image) 52 (k .image) inner-52 (in-step past (v .detail) 50 (k .detail) inner-50 h))
+      in-optional (v .image ∷ v .detail ∷ past) (v .analysis) 54 (k .analysis) (search)
+      (in-step (v .detail ∷ past) (v .image) 52 (k .image) (search) (in-step past (v .detail) 50 (k .detail) (search) h))
 
   pub in-addenda : (past : List Body) (a : Addenda) → TypedAddenda a → InItem letter header i past → InItem letter header i (afterAddenda past a)
   in-addenda past (ofCheck a b c) k h =
-      in-run (afterOptional (onto a past) b) c 28 (k .addenda-c) inner-28
-      (in-optional (onto a past) b 27 (k .addendum-b) inner-27 (in-run past a 26 (k .addenda-a) inner-26 h))
+      in-run (afterOptional (onto a past) b) c 28 (k .addenda-c) (search)
+      (in-optional (onto a past) b 27 (k .addendum-b) (search) (in-run past a 26 (k .addenda-a) (search) h))
   in-addenda past (ofReturn a b c d) k h =
-      in-run (afterOptional (b ∷ onto a past) c) d 35 (k .addenda-d) inner-35
-      (in-optional (b ∷ onto a past) c 34 (k .addendum-c) inner-34 (in-step (onto a past) b 33 (k .addendum-b) inner-33 (in-run past a 32 (k .addenda-a) inner-32 h)))
+      in-run (afterOptional (b ∷ onto a past) c) d 35 (k .addenda-d) (search)
+      (in-optional (b ∷ onto a past) c 34 (k .addendum-c) (search)
+      (in-step (onto a past) b 33 (k .addendum-b) (search) (in-run past a 32 (k .addenda-a) (search) h)))
 
 sequence-of : (a : Addenda) (d : Body) → sequenceOf (layoutIn a .typeNumber) d ≡ fieldOf (layoutIn a) 7 d
 sequence-of (ofCheck a b c) d = refl

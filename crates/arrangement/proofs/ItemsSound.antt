@@ -5,7 +5,6 @@ use mathlib.Core.Logic.{_⊎_, inl, inr}
 use mathlib.Core.Path.{_≡_, refl, sym, _∙_, subst}
 use mathlib.Core.List.{List, [], _∷_}
 use lib.ListN.{length}
-use Rattle.text.specs.Number.{number}
 use Rattle.kind.specs.Kinds.{checkDetail, returnRecord}
 use Rattle.kind.specs.Alone.{typeOf}
 use Rattle.framing.specs.Framed.{Body}

@@ -46,7 +46,7 @@ allow-rest {t} {ts} a = record { may = λ u e. a .may u (later (eqb u t) (isOneO
 pub allow-at : {last t : ℕ} (ts : List ℕ) → last ≡ t → every (follows t) ts ≡ true → Allow ts last
 allow-at {last} ts e h = record { may = λ u o. among (follows last) u ts (rw e h) o }
 
--- of any kind: at a kind written out, the checks compute to those of its type
+-- of any layout: at a layout written out, the checks compute to those of its type
 module _ (k : Kind) (known : Known k) (past : List Body) (b : Body) where
   made : Right k b → isCarried (k .typeNumber) ≡ true → follows (lastIn past) (k .typeNumber) ≡ true
       → oneKind (presentIn past) (k .typeNumber) ≡ true → Linked (k .typeNumber) past b → Totalled (k .typeNumber) past b → Good past b
@@ -62,7 +62,7 @@ checked = 20 ∷ 25 ∷ 31 ∷ 50 ∷ 52 ∷ 70 ∷ 90 ∷ 99 ∷ []
 unlike : (t n : ℕ) (us : List ℕ) → isOneOf t us ≡ false → isOneOf n us ≡ true → eqb t n ≡ false
 unlike t n us o m = ne-eqb t n (λ e. not-both (sym o ∙ ap (λ (u : ℕ). isOneOf u us) e ∙ m))
 
--- of a kind without such checks, left open so that one law serves a run of any addenda; a kind written out has both facts by `refl`
+-- of a layout without such checks, left open so that one law serves a run of any addenda; a layout written out has both facts by `refl`
 module _ (k : Kind) (known : Known k) (c : isCarried (k .typeNumber) ≡ true) (o : isOneOf (k .typeNumber) checked ≡ false)
     (past : List Body) (b : Body) where
   pub made-plain : Right k b → follows (lastIn past) (k .typeNumber) ≡ true → addendaKept (k .typeNumber) (statedIn past) (addendaIn past) ≡ true

@@ -38,7 +38,7 @@ nextEndorser t b x = adding isItem (count isEndorserAddendum) t b x
 abbrev pub Short : List Body → Type 0
 Short past = addendaIn past ≤ statedIn past
 
--- a kind of addendum
+-- the layout of an addendum
 pub record Adds (k : Kind) : Type 0 where
   pub known : Known k
   pub addendum : isAddendum (k .typeNumber) ≡ true

@@ -130,4 +130,5 @@ module _ (l o i : ℕ) (ps : List Placed) where
   alike-addenda (ofCheck a b c) k others =
       alike-run a 26 (search) (k .addenda-a) (alike-optional b 27 (search) (k .addendum-b) (alike-run c 28 (search) (k .addenda-c) others))
   alike-addenda (ofReturn a b c d) k others =
-      alike-run a 32 (search) (k .addenda-a) (alike b 33 (search) (k .addendum-b) (alike-optional c 34 (search) (k .addendum-c) (alike-run d 35 (search) (k .addenda-d) others)))
+      alike-run a 32 (search) (k .addenda-a)
+      (alike b 33 (search) (k .addendum-b) (alike-optional c 34 (search) (k .addendum-c) (alike-run d 35 (search) (k .addenda-d) others)))

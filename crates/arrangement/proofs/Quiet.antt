@@ -5,7 +5,7 @@ use mathlib.Core.List.{List, [], _∷_}
 use mathlib.Core.Option.{Option, none, some}
 use Rattle.kind.specs.Alone.{typeOf}
 use Rattle.framing.specs.Framed.{Body}
-use Rattle.framing.proofs.Figures.{value, is}
+use Rattle.framing.proofs.Figures.{value}
 use Rattle.framing.proofs.Good.{onto}
 use Rattle.arrangement.specs.Tree.{View, Addenda, ofCheck, ofReturn, Item, Bundle, CashLetter}
 use Rattle.arrangement.specs.Sound.{All, IfAny, layoutIn, layoutOf}

@@ -1,4 +1,4 @@
--- A record of a kind is right exactly when the judgement of it alone finds it sound. Assumes nothing.
+-- A record of a layout is right exactly when the judgement of it alone finds it sound. Assumes nothing.
 use Prim.Native.Nat.{ℕ, _+_}
 use native.Mathlib.Omega.{arith}
 use mathlib.Core.Bool.{Bool, true, false, _&&_, _||_}
@@ -63,7 +63,7 @@ unfolding statedSizes
 not-long [] b fixed e = le-leb (length b) fixed (omega (arith, e))
 not-long (s ∷ ss) b fixed e = refl
 
--- what the judgement needs to know of a kind: all its fields are numbered, and it is the kind of its type
+-- what the judgement needs to know of a layout: all its fields are numbered, and it is the layout of its type
 pub record Known (k : Kind) : Type 0 where
   pub lines : linesNumbered (k .lines) ≡ true
   pub parts : partsNumbered (sizedParts k) ≡ true
@@ -103,7 +103,7 @@ module _ (k : Kind) (b : Body) (known : Known k) where
         no-part-wrong ss b (drop fixed b) (r .parts),
       )
 
--- the kinds, each found by its type
+-- the layouts, each found by its type
 pub known-01 : Known fileHeader
 unfolding judgedAs
 known-01 = record { lines = refl; parts = refl; judged = λ b. refl }

@@ -45,15 +45,13 @@ bundle-debit : (past : List Body) (b : Bundle) → TypedBundle b → debitSince 
 bundle-debit past b k =
     let next : ℕ → Body → ℕ → ℕ = adding (is 20) amountAs in
     quiet-step 0 next (afterItems (b .header ∷ past) (b .items)) (b .control) 70 (k .control) (omega arith)
-    ∙ bundle-sum next debitOf (omega arith) (λ past b k. items-sum next amountIn (omega arith) past (b .items) k) past b k
+    ∙ bundle-sum next debitOf (omega arith) (items-sum next amountIn (omega arith)) past b k
 
 letter-debit : (past : List Body) (l : CashLetter) → TypedLetter l → debitSince (is 10) (afterLetter past l) ≡ debitIn l
 letter-debit past l k =
     let next : ℕ → Body → ℕ → ℕ = adding (is 10) amountAs in
     quiet-step 0 next (afterBundles (l .header ∷ past) (l .bundles)) (l .control) 90 (k .control) (omega arith)
-    ∙ letter-sum next debitIn (omega arith)
-    (λ past l k. bundles-sum next debitOf (omega arith)
-    (λ past b k. items-sum next amountIn (omega arith) past (b .items) k) past (l .bundles) k) past l k
+    ∙ letter-sum next debitIn (omega arith) (bundles-sum next debitOf (omega arith) (items-sum next amountIn (omega arith))) past l k
 
 bundles-agree : (l n : ℕ) {past rest : List Body} {ps : List Placed} (bs : List Bundle) → All TypedBundle bs
     → lettersIn past ≡ l → openedIn past ≡ n

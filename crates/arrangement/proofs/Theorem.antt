@@ -124,9 +124,10 @@ theorem file table b =
       );
       alone = λ x y a c. one-arrangement x y (sound-typed x (a .sound)) (sound-typed y (c .sound)) (a .bytes ∙ sym (c .bytes))
           (omega (arith, ap length (a .bytes), a .size));
-      its-totals = λ x a acc. accepted-answer file table x a (has-room file table x (acc .0) a (acc .1));
+      its-totals = λ x a acc. let (t, e) = acc in accepted-answer file table x a (has-room file table x t a e);
       its-rows = λ x a acc.
-          ap (λ (answer : Answer). tableAfter answer (rowsOf file) table) (accepted-answer file table x a (has-room file table x (acc .0) a (acc .1)))
+          let (t, e) = acc in
+          ap (λ (answer : Answer). tableAfter answer (rowsOf file) table) (accepted-answer file table x a (has-room file table x t a e))
           ∙ ap (λ (r : List ℕ). r ++ drop (length r) table) (arranged-accepted file x a .its-rows);
       its-control =
           λ x t a e.

@@ -12,11 +12,11 @@ use Rattle.framing.proofs.Figures.{count, is, never, amountAs, lettersIn, bundl
 use Rattle.arrangement.specs.Tree.{CashLetter, File}
 use Rattle.arrangement.specs.Written.{records}
 use Rattle.arrangement.specs.Sound.{total, viewsOf, debitOf, debitIn, itemsIn, viewsIn}
-use Rattle.arrangement.specs.TypesInPlace.{TypedBundle, TypedLetter, Typed}
+use Rattle.arrangement.specs.TypesInPlace.{Typed}
 use Rattle.arrangement.specs.Rows.{totals}
-use Rattle.arrangement.proofs.After.{afterBundle, afterLetter, length-onto, count-each}
-use Rattle.arrangement.proofs.Counting.{adding, count-bundle, count-letter}
-use Rattle.arrangement.proofs.Sums.{items-sum, items-counted, items-views, file-sum, file-sum-by-letters, file-sum-by-bundles, amountIn}
+use Rattle.arrangement.proofs.After.{length-onto}
+use Rattle.arrangement.proofs.Counting.{adding}
+use Rattle.arrangement.proofs.Sums.{items-sum, items-counted, items-views, file-sum, file-sum-by-letters, file-sum-by-bundles, amountIn, bundles-counted, letters-counted}
 
 -- each total of the reading
 module _ (f : File) (k : Typed f) where
@@ -24,33 +24,31 @@ module _ (f : File) (k : Typed f) where
   letters-of =
       let next : ℕ → Body → ℕ → ℕ = adding never (count (is 10)) in
       file-sum next (λ f. length (f .letters)) (omega arith) (omega arith)
-      (λ past f k. count-each afterLetter TypedLetter lettersIn (count-letter 0 next (omega arith) (omega arith) (omega arith))
-      past (f .letters) k) f k
+      (letters-counted next (omega arith) (omega arith) (omega arith)) f k
 
   bundles-of : bundlesIn (onto (records f) []) ≡ total (λ (l : CashLetter). length (l .bundles)) (f .letters)
   bundles-of =
       let next : ℕ → Body → ℕ → ℕ = adding never (count (is 20)) in
       file-sum-by-letters next (λ l. length (l .bundles)) (omega arith)
-      (λ past l k. count-each afterBundle TypedBundle bundlesIn (count-bundle 0 next (omega arith) (omega arith) (omega arith))
-      past (l .bundles) k) f k
+      (bundles-counted next (omega arith) (omega arith) (omega arith)) f k
 
   items-of : itemsSince never (onto (records f) []) ≡ total itemsIn (f .letters)
   items-of =
       let next : ℕ → Body → ℕ → ℕ = adding never (count isItem) in
       file-sum-by-bundles next (λ b. length (b .items)) (omega arith) (omega arith)
-      (λ past b k. items-counted next (omega arith) past (b .items) k) f k
+      (items-counted next (omega arith)) f k
 
   pub debit-of : debitSince never (onto (records f) []) ≡ total debitIn (f .letters)
   debit-of =
       let next : ℕ → Body → ℕ → ℕ = adding never amountAs in
       file-sum-by-bundles next debitOf (omega arith) (omega arith)
-      (λ past b k. items-sum next amountIn (omega arith) past (b .items) k) f k
+      (items-sum next amountIn (omega arith)) f k
 
   views-of : viewsSince never (onto (records f) []) ≡ total viewsIn (f .letters)
   views-of =
       let next : ℕ → Body → ℕ → ℕ = adding never (count (is 50)) in
       file-sum-by-bundles next (λ b. total viewsOf (b .items)) (omega arith) (omega arith)
-      (λ past b k. items-views next (omega arith) past (b .items) k) f k
+      (items-views next (omega arith)) f k
 
 pub totals-of : (x : File) → Typed x → totalsAfter (onto (records x) []) ≡ totals x
 totals-of x k =

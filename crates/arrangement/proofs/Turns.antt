@@ -145,7 +145,9 @@ module _ (t : ℕ) (past : List Body) (b : Body) (g : GoodAs t past b) where
   -- "as the first"
   pub item-type-in : isItem t ≡ true → (presentIn past ≡ 0) ⊎ (presentIn past ≡ t)
   unfolding mayFollow
-  item-type-in h = turn (either-in (eqb (presentIn past) 0) (eqb (presentIn past) t) (rw h at (both (follows (lastIn past) t) (oneKind (presentIn past) t) (g .follows) .1)))
+  item-type-in h =
+      let same = both (follows (lastIn past) t) (oneKind (presentIn past) t) (g .follows) .1 in
+      turn (either-in (eqb (presentIn past) 0) (eqb (presentIn past) t) (rw h at same))
     where
       turn : (eqb (presentIn past) 0 ≡ true) ⊎ (eqb (presentIn past) t ≡ true) → (presentIn past ≡ 0) ⊎ (presentIn past ≡ t)
       turn (inl e) = inl (eqb-true (presentIn past) 0 e)

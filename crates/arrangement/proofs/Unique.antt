@@ -96,7 +96,8 @@ bodies t = many (OfType t) _∷_ _++_ (turn t) (λ r. refl) (λ x xs r. refl) (�
 
 views : Unique (All TypedView) viewsThen 55 56
 views = many TypedView viewThen viewsThen 55 (λ r. refl) (λ x xs r. refl) (λ x r h. ap turn (h .detail)) (λ x y r s h g.
-    led {X = View} (λ d z. record { detail = d; image = z .0; analysis = z .1 }) (seq (single 52 53) (optional 54) (omega arith))
+    led {X = View} (λ d z. let (image, analysis) = z in record { detail = d; image = image; analysis = analysis })
+    (seq (single 52 53) (optional 54) (omega arith))
     (x .detail) (y .detail) (x .image, x .analysis) (y .image, y .analysis) r s (h .image, h .analysis) (g .image, g .analysis))
 
 abbrev item : Body → Addenda → List View → Item
@@ -136,16 +137,22 @@ items = many TypedItem itemThen itemsThen 60 (λ r. refl) (λ x xs r. refl) (λ 
 
 bundles : Unique (All TypedBundle) bundlesThen 80 81
 bundles = many TypedBundle bundleThen bundlesThen 80 (λ r. refl) (λ x xs r. refl) (λ x r h. ap turn (h .header)) (λ x y r s h g a b.
-    led {X = Bundle} (λ d z. record { header = d; items = z .0; control = z .1 }) (seq items (single 70 71) (omega arith))
-    (x .header) (y .header) (x .items, x .control) (y .items, y .control) r s (h .items, h .control) (g .items, g .control) (omega arith) (omega arith))
+    led {X = Bundle} (λ d z. let (its, control) = z in record { header = d; items = its; control = control })
+    (seq items (single 70 71) (omega arith))
+    (x .header) (y .header) (x .items, x .control) (y .items, y .control) r s
+    (h .items, h .control) (g .items, g .control) (omega arith) (omega arith))
 
 letters : Unique (All TypedLetter) lettersThen 95 96
 letters = many TypedLetter letterThen lettersThen 95 (λ r. refl) (λ x xs r. refl) (λ x r h. ap turn (h .header)) (λ x y r s h g a b.
-    led {X = CashLetter} (λ d z. record { header = d; bundles = z .0; control = z .1 }) (seq bundles (single 90 91) (omega arith))
-    (x .header) (y .header) (x .bundles, x .control) (y .bundles, y .control) r s (h .bundles, h .control) (g .bundles, g .control) (omega arith) (omega arith))
+    led {X = CashLetter} (λ d z. let (bs, control) = z in record { header = d; bundles = bs; control = control })
+    (seq bundles (single 90 91) (omega arith))
+    (x .header) (y .header) (x .bundles, x .control) (y .bundles, y .control) r s
+    (h .bundles, h .control) (g .bundles, g .control) (omega arith) (omega arith))
 
 -- no list of records is two arrangements, whatever else the records hold
 pub one-shape : (x y : File) → Typed x → Typed y → records x ≡ records y → x ≡ y
 one-shape x y h g e =
-    led {X = File} (λ d z. record { header = d; letters = z .0; control = z .1 }) (seq letters (single 99 100) (omega arith))
-    (x .header) (y .header) (x .letters, x .control) (y .letters, y .control) [] [] (h .letters, h .control) (g .letters, g .control) (omega arith) (omega arith) e .0
+    led {X = File} (λ d z. let (ls, control) = z in record { header = d; letters = ls; control = control })
+    (seq letters (single 99 100) (omega arith))
+    (x .header) (y .header) (x .letters, x .control) (y .letters, y .control) [] []
+    (h .letters, h .control) (g .letters, g .control) (omega arith) (omega arith) e .0

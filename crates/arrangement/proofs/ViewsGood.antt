@@ -19,7 +19,7 @@ use Rattle.arrangement.proofs.Rightness.{known-54}
 use Rattle.arrangement.proofs.After.{afterOptional, afterView, afterViews}
 use Rattle.arrangement.proofs.Quiet.{step}
 use Rattle.arrangement.proofs.Turns.{Settled}
-use Rattle.arrangement.proofs.InItem.{InItem, inner-50, in-step, in-view, sequence-is, nextSignature}
+use Rattle.arrangement.proofs.InItem.{InItem, in-step, in-view, sequence-is, nextSignature}
 use Rattle.arrangement.proofs.Making.{settled-kept, made-plain, made-50, made-52, settled-on, allow-at}
 use Rattle.arrangement.proofs.AddendaGood.{MayEnd}
 use Rattle.arrangement.proofs.SoundTyped.{view-typed}
@@ -59,7 +59,7 @@ module _ (letter header : Body) (i : Item) where
   view-good past v rest sound inside seen settled allowed on =
       let d = v .detail ∷ past in
       let typed = view-typed header i v sound in
-      let now = in-step letter header i past (v .detail) 50 (typed .detail) inner-50 inside in
+      let now = in-step letter header i past (v .detail) 50 (typed .detail) (search) inside in
       let signature = step 0 nextSignature past (v .detail) 50 (typed .detail) in
       let settled-50 = settled-on past (v .detail) 50 (typed .detail) refl refl settled in
       let settled-52 = settled-on d (v .image) 52 (typed .image) refl refl settled-50 in

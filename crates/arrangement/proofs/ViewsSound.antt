@@ -4,7 +4,6 @@ use mathlib.Core.Option.{Option, none, some}
 use mathlib.Core.Path.{_≡_, refl, ap, _∙_}
 use mathlib.Core.List.{List, [], _∷_}
 use lib.ListN.{length}
-use Rattle.text.specs.Number.{number}
 use Rattle.kind.specs.Kinds.{bundleHeader, imageViewDetail, imageViewData, imageViewAnalysis}
 use Rattle.framing.specs.Framed.{Body, fieldOf}
 use Rattle.framing.proofs.Figures.{is, newest}
@@ -17,7 +16,7 @@ use Rattle.arrangement.proofs.Rightness.{right-in, known-50, known-52, 
 use Rattle.arrangement.proofs.After.{afterOptional, afterView, afterViews}
 use Rattle.arrangement.proofs.Quiet.{step}
 use Rattle.arrangement.proofs.Turns.{as-type, view-in, Found}
-use Rattle.arrangement.proofs.InItem.{InItem, inner-50, in-step, in-view, sequence-is, nextSignature}
+use Rattle.arrangement.proofs.InItem.{InItem, in-step, in-view, sequence-is, nextSignature}
 
 -- a view found sound, in a cash letter that may have one
 record ViewFound (letter header : Body) (i : Item) (v : View) (past rest : List Body) : Type 0 where
@@ -43,7 +42,7 @@ module _ (letter header : Body) (i : Item) where
       let detail = as-type 50 past (v .detail) (typed .detail) (good .first) in
       let image = as-type 52 (v .detail ∷ past) (v .image) (typed .image) (good .rest .first) in
       let analysis = analysis-sound (v .image ∷ v .detail ∷ past) (v .analysis) rest (typed .analysis) (good .rest .rest) in
-      let now = in-step letter header i past (v .detail) 50 (typed .detail) inner-50 inside in
+      let now = in-step letter header i past (v .detail) 50 (typed .detail) (search) inside in
       let signature = step 0 nextSignature past (v .detail) 50 (typed .detail) in
       let above : (n : ℕ) → fieldOf bundleHeader n (newest (is 20) (v .detail ∷ past)) ≡ fieldOf bundleHeader n header =
       λ n. ap (λ (b : Body). fieldOf bundleHeader n b) (now .header-is) in

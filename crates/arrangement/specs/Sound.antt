@@ -36,7 +36,7 @@ abbrev pub PartsRight : List Sized → Body → List ℕ → Type 0
 PartsRight [] b rest = Unit {0}
 PartsRight (s ∷ ss) b rest = (ofType (s .dataType) (take (statedSize s b) rest) ≡ true) × PartsRight ss b (drop (statedSize s b) rest)
 
--- a record of a kind, alone: its type, its length, each of its fields
+-- a record of a layout, alone: its type, its length, each of its fields
 pub record Right (k : Kind) (b : Body) : Type 0 where
   pub type : typeOf b ≡ k .typeNumber
   pub long : length b ≡ k .fixedLength + statedSizes (sizedParts k) b
@@ -47,7 +47,7 @@ pub record Right (k : Kind) (b : Body) : Type 0 where
 abbrev pub stated : Kind → ℕ → Body → ℕ
 stated k n b = number (fieldOf k n b)
 
--- a record of a kind whose record number, field 2, is n; and records whose numbers run on from n
+-- a record of a layout whose record number, field 2, is n; and records whose numbers run on from n
 pub record RightAt (k : Kind) (n : ℕ) (b : Body) : Type 0 where
   pub right : Right k b
   pub number : stated k 2 b ≡ n

@@ -99,8 +99,9 @@ all-opened b past older e =
         (by-table (opening opens inside) law (lastIn past) (presentIn past) (typeOf b) e) q older
 
 -- the newest record that passes a test, where there is one
-abbrev pub Passing : List ℕ → (ℕ → Bool) → ℕ → Body → Type 0
-Passing file test at b = HeldAt file at b × (test (typeOf b) ≡ true)
+pub record Passing (file : List ℕ) (test : ℕ → Bool) (at : ℕ) (b : Body) : Type 0 where
+  pub held : HeldAt file at b
+  pub passes : test (typeOf b) ≡ true
 
 pub newest-passes : (file : List ℕ) (test : ℕ → Bool) (past : List Body) → Held file past → has test past ≡ true
     → Passing file test (newestAt test past) (newest test past)
@@ -110,5 +111,5 @@ newest-passes file test (b ∷ past) h e =
   where
     cases : (c : Bool) → test (typeOf b) ≡ c → (has test past ≡ true → Passing file test (newestAt test past) (newest test past))
         → c || has test past ≡ true → Passing file test (pickNumber c (extent past) (newestAt test past)) (pickLine c b (newest test past))
-    cases true q older e = (h .0, q)
+    cases true q older e = record { held = h .0; passes = q }
     cases false q older e = older e

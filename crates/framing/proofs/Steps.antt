@@ -99,11 +99,11 @@ module _ {file : List ℕ} {at : ℕ} {b : Body} (past : List Body) (older : Hel
       let header = newest-passes file (is 20) past older bundle in
       let there = newest-passes file isItem past older item in
       let above : (n : ℕ) → field bundleHeader n file (newestAt (is 20) past) ≡ fieldOf bundleHeader n (newest (is 20) past) =
-      fields-at (header .0) bundleHeader (λ c. refl) refl (header .1) in
-      let long = item-long (there .0) (there .1) in
+      fields-at (header .held) bundleHeader (λ c. refl) refl (header .passes) in
+      let long = item-long (there .held) (there .passes) in
       let own : (n : ℕ) → field imageViewData n file at ≡ fieldOf imageViewData n b = fields-at h imageViewData (λ c. refl) refl e in
       let sequence : sequenceOfItem file (presentIn past) (newestAt isItem past) ≡ sequenceOf (presentIn past) (newest isItem past) =
-      ap₂ (pickLine (eqb (presentIn past) 31)) (fields-held (there .0) returnRecord refl long 7) (fields-held (there .0) checkDetail refl long 7) in
+      ap₂ (pickLine (eqb (presentIn past) 31)) (fields-held (there .held) returnRecord refl long 7) (fields-held (there .held) checkDetail refl long 7) in
       rw (own 2, own 3, own 4, own 5, own 7, own 8, above 4, above 5, above 9, sequence)
 
   links-same : AllOpened (b ∷ past) → links.linkChecks file (over past) (typeOf b) at ≡ linkChecks (typeOf b) past b
@@ -133,15 +133,20 @@ record Passed (file : List ℕ) (s : Standing) (at : ℕ) (b : Body) : Type 0 wh
   linked : firstFailing (links.linkChecks file s (typeOf b) at) ≡ 0
   totalled : firstFailing (totals.totalChecks file s (typeOf b) at) ≡ 0
 
-through : (c : Bool) (fault : Fault) (next : Turn) {t : ℕ} → unless c fault next ≡ turns.Good t → (c ≡ true) × (next ≡ turns.Good t)
-through true fault next e = (refl, e)
-through false fault next e = ((cc), (cc))
+-- one check passed, and the turn that goes on behind it
+record Through (Check : Type 0) (next : Turn) (t : ℕ) : Type 0 where
+  check : Check
+  on : next ≡ turns.Good t
 
-through-alone : (j : Judged) (next : Turn) {t : ℕ} → unlessAlone j next ≡ turns.Good t → (j ≡ Sound) × (next ≡ turns.Good t)
-through-alone Sound next e = (refl, e)
-through-alone WrongLength next e = ((cc), (cc))
-through-alone judgements.UnknownType next e = ((cc), (cc))
-through-alone (WrongField n) next e = ((cc), (cc))
+through : (c : Bool) (fault : Fault) (next : Turn) {t : ℕ} → unless c fault next ≡ turns.Good t → Through (c ≡ true) next t
+through true fault next e = record { check = refl; on = e }
+through false fault next e = record { check = cc; on = cc }
+
+through-alone : (j : Judged) (next : Turn) {t : ℕ} → unlessAlone j next ≡ turns.Good t → Through (j ≡ Sound) next t
+through-alone Sound next e = record { check = refl; on = e }
+through-alone WrongLength next e = record { check = cc; on = cc }
+through-alone judgements.UnknownType next e = record { check = cc; on = cc }
+through-alone (WrongField n) next e = record { check = cc; on = cc }
 
 two-long : (b : Body) → isCarried (typeOf b) ≡ true → leb 2 (length b) ≡ true
 unfolding typeOf isCarried
@@ -156,17 +161,17 @@ module _ {file : List ℕ} {s : Standing} {at : ℕ} {b : Body} where
   unfolding turnOf agreement linkFault totalFault
   passed-in e =
       let long = through (leb 2 (length b)) Length _ e in
-      let carries = through (isCarried (typeOf b)) UnknownType _ (long .1) in
-      let placed = through (mayFollow (s .last) (s .present) (typeOf b)) Place _ (carries .1) in
-      let judged = through-alone (judgedAs (typeOf b) b) _ (placed .1) in
-      let links = through (eqb (linkFault file s (typeOf b) at) 0) (Link (linkFault file s (typeOf b) at)) _ (judged .1) in
-      let sums = through (eqb (totalFault file s (typeOf b) at) 0) (Total (totalFault file s (typeOf b) at)) _ (links .1) in
+      let carries = through (isCarried (typeOf b)) UnknownType _ (long .on) in
+      let placed = through (mayFollow (s .last) (s .present) (typeOf b)) Place _ (carries .on) in
+      let judged = through-alone (judgedAs (typeOf b) b) _ (placed .on) in
+      let links = through (eqb (linkFault file s (typeOf b) at) 0) (Link (linkFault file s (typeOf b) at)) _ (judged .on) in
+      let sums = through (eqb (totalFault file s (typeOf b) at) 0) (Total (totalFault file s (typeOf b) at)) _ (links .on) in
       record {
-        carried = carries .0;
-        follows = placed .0;
-        alone = judged .0;
-        linked = eqb-true _ 0 (links .0);
-        totalled = eqb-true _ 0 (sums .0);
+        carried = carries .check;
+        follows = placed .check;
+        alone = judged .check;
+        linked = eqb-true _ 0 (links .check);
+        totalled = eqb-true _ 0 (sums .check);
       }
 
   passed-out : Passed file s at b → turnOf file s at b ≡ turns.Good (typeOf b)
