@@ -4,9 +4,12 @@ use native.Mathlib.Omega.{arith}
 use mathlib.Core.Logic.{_⊎_, inl, inr}
 use mathlib.Core.Path.{_≡_, refl, sym, _∙_, subst}
 use mathlib.Core.List.{List, [], _∷_}
+use mathlib.Core.Bool.{true, false, _||_}
+use lib.Dec.{eqb}
 use lib.ListN.{length}
-use Rattle.kind.specs.Kinds.{checkDetail, returnRecord}
+use Rattle.kind.specs.Layout.{Kind}
 use Rattle.kind.specs.Alone.{typeOf}
+use Rattle.order.specs.Order.{isItem, isAddendum}
 use Rattle.framing.specs.Framed.{Body}
 use Rattle.framing.proofs.Figures.{is, newest, indicatorIn, presentIn}
 use Rattle.framing.proofs.Good.{Good, GoodAll}
@@ -14,10 +17,10 @@ use Rattle.arrangement.specs.Tree.{Addenda, ofCheck, ofReturn, Item}
 use Rattle.arrangement.specs.Written.{viewsThen, itemThen, itemsThen}
 use Rattle.arrangement.specs.Sound.{All, Right, layoutIn, layoutOf, indicator, E, I, F, SoundAddenda, SoundView, SoundItem}
 use Rattle.arrangement.specs.TypesInPlace.{OfType, TypedItem}
-use Rattle.arrangement.proofs.Rightness.{right-in, known-25, known-31}
+use Rattle.arrangement.proofs.Rightness.{right-in, known-25, known-31, Known}
 use Rattle.arrangement.proofs.After.{afterAddenda, afterItem, afterItems}
 use Rattle.arrangement.proofs.Quiet.{quiet-views}
-use Rattle.arrangement.proofs.Turns.{as-type, settled-in, viewed-check, viewed-return, viewed-control, Settled, Viewed, item-type-in}
+use Rattle.arrangement.proofs.Turns.{as-type, settled-in, Settled, Viewed, item-type-in, viewed-in}
 use Rattle.arrangement.proofs.InItem.{in-addenda}
 use Rattle.arrangement.proofs.OwnAddenda.{nextAddenda, nextStated, Short}
 use Rattle.arrangement.proofs.ItemFigures.{fresh, in-first, item-figures}
@@ -31,22 +34,29 @@ pub record First (a : Addenda) (d : Body) (past : List Body) : Type 0 where
   pub viewed : Viewed past
   pub item-type : (presentIn past ≡ 0) ⊎ (presentIn past ≡ layoutIn a .typeNumber)
 
+-- what the law below asks of the layout of a first record; at a layout written out each fact but the first is `refl`
+record Begins (k : Kind) : Type 0 where
+  known : Known k
+  item : isItem (k .typeNumber) ≡ true
+  no-addendum : isAddendum (k .typeNumber) ≡ false
+  no-bundle : eqb (k .typeNumber) 20 ≡ false
+  no-view : eqb (k .typeNumber) 50 ≡ false
+  closes : isItem (k .typeNumber) || eqb (k .typeNumber) 70 ≡ true
+
+begins : (a : Addenda) → Begins (layoutIn a)
+begins (ofCheck a b c) = record { known = known-25; item = refl; no-addendum = refl; no-bundle = refl; no-view = refl; closes = refl }
+begins (ofReturn a b c d) = record { known = known-31; item = refl; no-addendum = refl; no-bundle = refl; no-view = refl; closes = refl }
+
 first-sound : (a : Addenda) (d : Body) (past : List Body) → OfType (layoutIn a .typeNumber) d → Good past d → First a d past
-first-sound (ofCheck a b c) d past typed good =
-    let g = as-type 25 past d typed good in
+first-sound a d past typed good =
+    let t = layoutIn a .typeNumber in
+    let g = as-type t past d typed good in
+    let own = begins a in
     record {
-      right = right-in checkDetail d known-25 typed (g .alone);
-      settled = settled-in 25 past d g refl;
-      viewed = viewed-check past d g;
-      item-type = item-type-in 25 past d g refl;
-    }
-first-sound (ofReturn a b c e) d past typed good =
-    let g = as-type 31 past d typed good in
-    record {
-      right = right-in returnRecord d known-31 typed (g .alone);
-      settled = settled-in 31 past d g refl;
-      viewed = viewed-return past d g;
-      item-type = item-type-in 31 past d g refl;
+      right = right-in (layoutIn a) d (own .known) typed (g .alone);
+      settled = settled-in t past d g (own .no-addendum);
+      viewed = viewed-in past d t (own .no-bundle) (own .no-view) (own .closes) g;
+      item-type = item-type-in t past d g (own .item);
     }
 
 -- an item: all of it but what only the record behind it shows
@@ -112,7 +122,7 @@ module _ (letter header : Body) where
       → ItemsFound letter header type its past (c ∷ rest)
   items-sound type [] past c rest some-type typed ends letter-is header-is present good =
       let g = as-type 70 past c ends (good .first) in
-      record { settled = settled-in 70 past c g refl; viewed = viewed-control past c g; items = tt; one-item-type = tt; behind = good }
+      record { settled = settled-in 70 past c g refl; viewed = viewed-in past c 70 refl refl refl g; items = tt; one-item-type = tt; behind = good }
   items-sound type (i ∷ its) past c rest some-type typed ends letter-is header-is present good =
       let here = item-sound i past (itemsThen its (c ∷ rest)) (typed .0) letter-is header-is good in
       let f = item-figures i past (typed .0) in

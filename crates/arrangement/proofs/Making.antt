@@ -17,7 +17,7 @@ use Rattle.framing.specs.Framed.{Body}
 use Rattle.framing.proofs.Good.{Good}
 use Rattle.framing.proofs.Checks.{numberedAs}
 use Rattle.framing.proofs.Figures.{is, statedIn, addendaIn, shownIn, openedIn, indicatorIn, itemsSince, lastIn, presentIn}
-use Rattle.framing.proofs.Tests.{not-both, unless-test}
+use Rattle.framing.proofs.Tests.{not-both, refuted}
 use Rattle.framing.proofs.Totals.{BundleTotals, FileTotals, LetterTotals, Totalled, bundle-totalled, file-totalled, letter-totalled, not-totalled}
 use Rattle.framing.proofs.Links.{Linked, ViewLinked}
 use Rattle.framing.proofs.Opened.{among}
@@ -83,7 +83,7 @@ module _ (k : Kind) (known : Known k) (c : isCarried (k .typeNumber) ≡ true) (
         addenda = a;
         annex-b = simp (not-20, not-25, not-31, not-50, not-70, not-90);
         numbered = n;
-        view = unless-test (eqb t 52) not-52;
+        view = refuted (eqb t 52) not-52;
       })
       (not-totalled past b t not-70 not-90 not-99)
 
@@ -94,7 +94,7 @@ settled-kept t past n s = rw (n, le-leb (statedIn past) (addendaIn past) s) refl
 -- the links of a record that is no addendum and no 52
 plainly : (t : ℕ) (past : List Body) (b : Body) → isAddendum t ≡ false → eqb t 52 ≡ false → Settled past
     → annexB t (indicatorIn past) (openedIn past) (itemsSince (is 20) past) (shownIn past) ≡ true → numberedAs t past b ≡ true → Linked t past b
-plainly t past b a v s x n = record { addenda = settled-kept t past a s; annex-b = x; numbered = n; view = unless-test (eqb t 52) v }
+plainly t past b a v s x n = record { addenda = settled-kept t past a s; annex-b = x; numbered = n; view = refuted (eqb t 52) v }
 
 module _ (past : List Body) (b : Body) where
   pub made-20 : Right bundleHeader b → follows (lastIn past) 20 ≡ true → Settled past → (indicatorIn past ≡ N → ⊥) → Good past b

@@ -125,17 +125,11 @@ module _ (past : List Body) (b : Body) where
   unfolding annexB
   view-in g = unequal (indicatorIn past) E (both (not (eqb (indicatorIn past) E)) true (g .linked .annex-b) .0)
 
-  pub viewed-check : GoodAs 25 past b → Viewed past
+  -- at an item, and at a 70
+  pub viewed-in : (t : ℕ) → eqb t 20 ≡ false → eqb t 50 ≡ false → isItem t || eqb t 70 ≡ true → GoodAs t past b → Viewed past
   unfolding annexB
-  viewed-check g = seen-in (indicatorIn past) (itemsSince (is 20) past) (shownIn past) (both _ true (g .linked .annex-b) .0)
-
-  pub viewed-return : GoodAs 31 past b → Viewed past
-  unfolding annexB
-  viewed-return g = seen-in (indicatorIn past) (itemsSince (is 20) past) (shownIn past) (both _ true (g .linked .annex-b) .0)
-
-  pub viewed-control : GoodAs 70 past b → Viewed past
-  unfolding annexB
-  viewed-control g = seen-in (indicatorIn past) (itemsSince (is 20) past) (shownIn past) (both _ true (g .linked .annex-b) .0)
+  viewed-in t not-20 not-50 closes g =
+      seen-in (indicatorIn past) (itemsSince (is 20) past) (shownIn past) (both _ _ (rw (not-20, not-50, closes) at (g .linked .annex-b)) .0)
 
   pub letter-in : GoodAs 90 past b → (indicatorIn past ≡ N) ⊎ (1 ≤ openedIn past)
   unfolding annexB

@@ -13,8 +13,8 @@ use Rattle.agree.specs.Links.{same}
 pub not-both : false ≡ true → ⊥
 not-both e = let z : _≡_ {A = ℕ} 0 1 = cc in omega arith
 
-pub unless-test : {A : Type 0} (c : Bool) → c ≡ false → c ≡ true → A
-unless-test c f t = absurd (not-both (sym f ∙ t))
+pub refuted : {A : Type 0} (c : Bool) → c ≡ false → c ≡ true → A
+refuted c f t = absurd (not-both (sym f ∙ t))
 
 pub both : (a b : Bool) → a && b ≡ true → (a ≡ true) × (b ≡ true)
 both true b e = (refl, e)

@@ -14,7 +14,7 @@ use Rattle.kind.specs.Kinds.{bundleControl, cashLetterControl, fileControl}
 use Rattle.agree.specs.Links.{pickChecks}
 use Rattle.framing.specs.Framed.{Body, fieldOf}
 use Rattle.framing.proofs.Checks.{AllHold, bundleChecks, fileChecks, letterChecks, totalChecks, _and_, end}
-use Rattle.framing.proofs.Tests.{blank-in, blank-out, unless-test}
+use Rattle.framing.proofs.Tests.{blank-in, blank-out, refuted}
 use Rattle.framing.proofs.Figures.{debitSince, itemsSince, lettersIn, openedIn, viewsSince, is, micrIn, never}
 
 -- a 70
@@ -52,20 +52,20 @@ pub record Totalled (k : ℕ) (past : List Body) (b : Body) : Type 0 where
 -- of a control record, and of any other
 module _ (past : List Body) (b : Body) where
   pub bundle-totalled : BundleTotals past b → Totalled 70 past b
-  bundle-totalled t = record { bundle = λ e. t; letter = unless-test (eqb 70 90) refl; file = unless-test (eqb 70 99) refl }
+  bundle-totalled t = record { bundle = λ e. t; letter = refuted (eqb 70 90) refl; file = refuted (eqb 70 99) refl }
 
   pub letter-totalled : LetterTotals past b → Totalled 90 past b
-  letter-totalled t = record { bundle = unless-test (eqb 90 70) refl; letter = λ e. t; file = unless-test (eqb 90 99) refl }
+  letter-totalled t = record { bundle = refuted (eqb 90 70) refl; letter = λ e. t; file = refuted (eqb 90 99) refl }
 
   pub file-totalled : FileTotals past b → Totalled 99 past b
-  file-totalled t = record { bundle = unless-test (eqb 99 70) refl; letter = unless-test (eqb 99 90) refl; file = λ e. t }
+  file-totalled t = record { bundle = refuted (eqb 99 70) refl; letter = refuted (eqb 99 90) refl; file = λ e. t }
 
   pub not-totalled : (k : ℕ) → eqb k 70 ≡ false → eqb k 90 ≡ false → eqb k 99 ≡ false → Totalled k past b
   not-totalled k not-70 not-90 not-99 =
       record {
-        bundle = unless-test (eqb k 70) not-70;
-        letter = unless-test (eqb k 90) not-90;
-        file = unless-test (eqb k 99) not-99;
+        bundle = refuted (eqb k 70) not-70;
+        letter = refuted (eqb k 90) not-90;
+        file = refuted (eqb k 99) not-99;
       }
 
 bundle-in : (past : List Body) (b : Body) → AllHold (bundleChecks past b) → BundleTotals past b
