@@ -1,8 +1,8 @@
 // The picture call: a check's own picture from its own file.
 use frame::Cursor;
 use frame::Frame;
-use kind::ImageViewData;
-use kind::Judged;
+use judge::Judged;
+use layout::ImageViewData;
 ghost use mathlib.Core.Path.{_≡_};
 ghost use Prim.Native.Nat.{_+_, _≤_};
 ghost use lib.ListN.{length};
@@ -86,11 +86,11 @@ fn in_body(start: usize, body: &[u8]) -> Found
     if body.len() < 2 {
         return Found::LengthRefused;
     }
-    if kind::type_of(body) != ImageViewData::TYPE {
+    if judge::type_of(body) != ImageViewData::TYPE {
         return Found::TypeRefused;
     }
-    match ImageViewData::judge(body) {
-        Judged::Sound => Found::At(start + kind::image_start(body), kind::image_size(body)),
+    match judge::judge_image(body) {
+        Judged::Sound => Found::At(start + judge::image_start(body), judge::image_size(body)),
         Judged::WrongLength => Found::LengthRefused,
         Judged::UnknownType => Found::TypeRefused,
         Judged::WrongField(n) => Found::FieldRefused(n),

@@ -1,7 +1,7 @@
 // The two passes of the reader over a file in lent memory: the first decides, the second writes the rows.
 use frame::Cursor;
 use frame::Frame;
-use kind::Judged;
+use judge::Judged;
 use measure::Records;
 use measure::Sums;
 use standing::Standing;
@@ -10,6 +10,7 @@ ghost use mathlib.Core.List.{List, [], _∷_, _++_};
 ghost use Prim.Native.Nat.{ℕ, _+_, _*_, _<_, _≤_};
 ghost use lib.ListN.{length, drop};
 ghost use lib.Seq.{sets};
+ghost use Rattle.layout.specs.Packing.{Packed};
 ghost use Rattle.order.specs.Order.{pickNumber};
 ghost use Rattle.standing.specs.Standing.{Roomy};
 ghost use Rattle.reading.specs.Answers.{numberOf, fieldOf};
@@ -116,21 +117,27 @@ fn agrees(file: &[u8], s: Standing, at: usize, kind: u64) -> Turn
 }
 
 // The checks of one record in its place, in document 01's order.
-fn judge_next<'a>(file: &'a [u8], s: Standing, at: usize, body: &'a [u8]) -> Turn
-    requires { ⌜ Roomy s ⌝ }
+fn judge_next<'a>(
+    layouts: &'a [u64],
+    file: &'a [u8],
+    s: Standing,
+    at: usize,
+    body: &'a [u8],
+) -> Turn
+    requires { ⌜ Packed (now layouts) × Roomy s ⌝ }
     ensures { λ r. ⌜ r ≡ turnOf (now (file .entry)) s at (now (body .entry)) ⌝ }
 {
     if body.len() < 2 {
         return Turn::Faulty(Fault::Length);
     }
-    let kind = kind::type_of(body);
+    let kind = judge::type_of(body);
     if !order::is_carried(kind) {
         return Turn::Faulty(Fault::UnknownType);
     }
     if !order::may_follow(s.last, s.present, kind) {
         return Turn::Faulty(Fault::Place);
     }
-    match kind::judge_as(kind, body) {
+    match judge::judge_as(layouts, kind, body) {
         Judged::Sound => agrees(file, s, at, kind),
         Judged::WrongLength => Turn::Faulty(Fault::Length),
         Judged::UnknownType => Turn::Faulty(Fault::UnknownType),
@@ -138,8 +145,8 @@ fn judge_next<'a>(file: &'a [u8], s: Standing, at: usize, body: &'a [u8]) -> Tur
     }
 }
 
-fn record_at(file: &[u8], s: Standing, at: usize) -> Step
-    requires { ⌜ Roomy s ⌝ }
+fn record_at<'a>(layouts: &'a [u64], file: &'a [u8], s: Standing, at: usize) -> Step
+    requires { ⌜ Packed (now layouts) × Roomy s ⌝ }
     ensures { λ r. ⌜ r ≡ stepOf (now (file .entry)) s at ⌝ }
 {
     if s.last == 99 {
@@ -148,6 +155,7 @@ fn record_at(file: &[u8], s: Standing, at: usize) -> Step
     match Cursor::at(at).frame(file) {
         Frame::Cut => Step::Stop(Fault::Cut),
         Frame::Whole(start, size) => match judge_next(
+            layouts,
             file,
             s,
             at,
@@ -177,8 +185,9 @@ fn ended_at(s: Standing, at: usize) -> Answer
     Answer::Refused(Fault::Open, s.records.0 + 1, at)
 }
 
-// The first pass: the answer, whatever the table.
-pub fn survey(file: &[u8]) -> Answer
+// The first pass, by the layouts that the caller lends.
+fn survey_by<'a>(layouts: &'a [u64], file: &'a [u8]) -> Answer
+    requires { ⌜ Packed (now layouts) ⌝ }
     ensures { λ r. ⌜ (r ≡ surveyed (now (file .entry))) × Counted (now (file .entry)) r ⌝ }
 {
     if file.len() < 1 {
@@ -190,7 +199,7 @@ pub fn survey(file: &[u8]) -> Answer
     let mut s = Standing::start();
     let mut at: usize = 0;
     while at < file.len() {
-        match record_at(file, s, at) {
+        match record_at(layouts, file, s, at) {
             Step::Stop(fault) => {
                 return Answer::Refused(fault, s.records.0 + 1, at);
             }
@@ -201,6 +210,14 @@ pub fn survey(file: &[u8]) -> Answer
         }
     }
     ended_at(s, at)
+}
+
+// The first pass: the answer, whatever the table. The layouts are laid out once for the whole file.
+pub fn survey(file: &[u8]) -> Answer
+    ensures { λ r. ⌜ (r ≡ surveyed (now (file .entry))) × Counted (now (file .entry)) r ⌝ }
+{
+    let layouts = layout::table();
+    survey_by(&layouts, file)
 }
 
 fn pick(test: bool, yes: u64, other: u64) -> u64
@@ -269,7 +286,7 @@ pub fn fill(file: &[u8], table: &mut [u64])
                 return;
             }
             Frame::Whole(start, size) => {
-                let kind = kind::type_of(frame::part_of(file, start, size));
+                let kind = judge::type_of(frame::part_of(file, start, size));
                 s = standing::moved(file, s, kind, at);
                 put_row(table, base, file, s, kind, at, size);
                 base += 7;

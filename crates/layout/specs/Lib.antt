@@ -1,0 +1,4 @@
+pub mod Layout
+pub mod Layouts
+pub mod Laid
+pub mod Packing
