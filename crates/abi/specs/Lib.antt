@@ -1,2 +1,2 @@
-pub mod Answers
+pub mod Filled
 pub mod Outcomes

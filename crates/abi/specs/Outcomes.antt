@@ -3,15 +3,15 @@ use Prim.Native.Nat.{ℕ}
 use mathlib.Core.List.{List}
 use mathlib.Core.Path.{_≡_, sym, _∙_}
 use lib.ListN.{length}
-use Rattle.kind.specs.Alone as alone
 use Rattle.picture.specs.Picture.{pictureAt, bytesOf}
-use Rattle.picture.specs.Picture as picture
 use Rattle.picture.specs.declared.Found.{Found}
-use Rattle.reading.specs.Answers.{answerNumber, numbersOf}
-use Rattle.reading.specs.Reading.{answerOf, tableOf}
-use Rattle.reading.specs.declared.Answer.{Answer}
+use Rattle.passes.specs.Answers.{answerNumber, numbersOf}
+use Rattle.passes.specs.Reading.{answerOf, tableOf}
+use Rattle.passes.specs.declared.Answer.{Answer}
 use Rattle.arrangement.specs.Arranged.{Arranged}
-use Rattle.abi.specs.Answers.{placeOf, judgementOf}
+use Rattle.abi.specs.Filled.{placeOf, judgementOf}
+use Rattle.judge.specs.Alone as alone
+use Rattle.picture.specs.Picture as picture
 
 -- two things that are equal to a third
 one : {A : Type 0} {x y z : A} → x ≡ z → y ≡ z → x ≡ y

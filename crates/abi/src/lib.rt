@@ -1,5 +1,5 @@
 // The calls for C and Rust (include/x9180.h).
-use reading::Answer;
+use passes::Answer;
 ghost use Rattle.abi.specs.Outcomes.{Reading, Picturing, Judging};
 
 // The reading of a whole file: the number, in `table` the rows of an accepted file, and in `answer` number, record, field, offset, and

@@ -1,13 +1,12 @@
 -- One turn of the comparison, on plain lists. Assumes nothing.
 use mathlib.Core.Path.{_≡_, refl, ap, sym, _∙_}
-use mathlib.Core.Bool.{Bool, true, false, _&&_}
+use mathlib.Core.Bool.{Bool, true, false, _&&_, cond}
 use mathlib.Core.List.{List, [], _∷_}
 use Prim.Native.Nat.{ℕ, suc, _+_, _≤_, _<_}
 use native.Mathlib.Omega.{arith}
 use lib.Dec.{eqb}
 use lib.ListN.{length, getD, drop, drop-of-length-le}
 use Rattle.text.proofs.Laws.{rest}
-use Rattle.standing.specs.History.{pickLine}
 use Rattle.agree.specs.Links.{same}
 
 and-false : (b : Bool) → b && false ≡ false
@@ -32,6 +31,6 @@ module _ (a b : List ℕ) (i : ℕ) where
   same-ends h l = rw (drop-of-length-le a h, drop-of-length-le b l)
 
 -- a 25 and a 31 have their sequence number at the same positions
-pub either-way : (t : Bool) (xs : List ℕ) → pickLine t xs xs ≡ xs
+pub either-way : (t : Bool) (xs : List ℕ) → cond t xs xs ≡ xs
 either-way true xs = refl
 either-way false xs = refl

@@ -1,10 +1,10 @@
--- The types that may stand in a file are those of the kinds whose layouts there are.
+-- The types that may stand in a file are those of the layouts whose layouts there are.
 use Prim.Native.Nat.{ℕ}
 use mathlib.Core.List.{map}
 use mathlib.Core.Path.{_≡_, refl}
-use Rattle.kind.specs.Layout.{Kind}
-use Rattle.kind.specs.Kinds.{kinds}
-use Rattle.order.specs.Order.{carried}
+use Rattle.layout.specs.Layout.{Layout}
+use Rattle.layout.specs.Layouts.{layouts}
+use Rattle.order.specs.MayFollow.{carried}
 
-pub carried-kinds : map (λ (k : Kind). k .typeNumber) kinds ≡ carried
+pub carried-kinds : map (λ (k : Layout). k .typeNumber) layouts ≡ carried
 carried-kinds = refl

@@ -1,8 +1,7 @@
 -- A list of checks, each with the field that it faults, and the first that fails.
 use Prim.Native.Nat.{ℕ}
-use mathlib.Core.Bool.{Bool, true, false}
+use mathlib.Core.Bool.{Bool, true, false, cond}
 use mathlib.Core.List.{List, [], _∷_}
-use Rattle.order.specs.Order.{pickNumber}
 
 pub record Check : Type 0 where
   pub field : ℕ
@@ -14,4 +13,4 @@ check n test = record { field = n; holds = test }
 -- the field of the first check that fails, or 0
 abbrev pub firstFailing : List Check → ℕ
 firstFailing [] = 0
-firstFailing (c ∷ cs) = pickNumber (c .holds) (firstFailing cs) (c .field)
+firstFailing (c ∷ cs) = cond (c .holds) (firstFailing cs) (c .field)

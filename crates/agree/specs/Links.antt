@@ -1,15 +1,15 @@
 -- LINK (document 01): "a field or record disagrees with an earlier one". The checks of a record of type k whose length field stands at an
 -- offset of the file, against the figures s of the records before it, in the order of their fields.
 use Prim.Native.Nat.{ℕ, _+_}
-use mathlib.Core.Bool.{Bool, true, false, _&&_, _||_, not}
+use mathlib.Core.Bool.{Bool, true, false, _&&_, _||_, not, cond}
 use mathlib.Core.List.{List, [], _∷_}
 use lib.Dec.{leb, ltb, eqb}
 use Rattle.text.specs.Characters.{isBlank}
 use Rattle.text.specs.DataTypes.{every}
 use Rattle.text.specs.Number.{number}
-use Rattle.kind.specs.Kinds.{bundleHeader, checkDetail, checkDetailAddendumA, checkDetailAddendumC, returnRecord, returnAddendumA, returnAddendumD, imageViewData}
-use Rattle.order.specs.Order.{isItem, isAddendum, pickBool}
-use Rattle.standing.specs.History.{field, pickLine}
+use Rattle.layout.specs.Layouts.{bundleHeader, checkDetail, checkDetailAddendumA, checkDetailAddendumC, returnRecord, returnAddendumA, returnAddendumD, imageViewData}
+use Rattle.order.specs.MayFollow.{isItem, isAddendum}
+use Rattle.standing.specs.History.{field}
 use Rattle.standing.specs.declared.Standing.{Standing}
 use Rattle.agree.specs.Checks.{Check, check, firstFailing}
 
@@ -22,7 +22,7 @@ same (x ∷ xs) (y ∷ ys) = eqb x y && same xs ys
 
 -- "An addendum beyond the item's stated count, or another record while addenda are owed (field 1)"
 unfoldable pub addendaKept : ℕ → ℕ → ℕ → Bool
-addendaKept k stated read = pickBool (isAddendum k) (ltb read stated) (leb stated read)
+addendaKept k stated read = cond (isAddendum k) (ltb read stated) (leb stated read)
 
 -- "Cash letter field 8 (Annex B)", faulted at field 1: N with a 20; E with a 50; I or F and an item of the bundle without a view, at
 -- the next item or the 70; E, I or F without a bundle, at the 90
@@ -36,14 +36,14 @@ annexB k indicator opened items shown =
 -- "26 and 32: record numbers run from 1 in each item; 28 and 35 likewise, each on its own (field 2)"
 unfoldable pub numberedOn : List ℕ → ℕ → ℕ → ℕ → ℕ → Bool
 numberedOn file bofd endorser k offset =
-    pickBool (eqb k 26) (eqb (number (field checkDetailAddendumA 2 file offset)) (bofd + 1))
-    (pickBool (eqb k 32) (eqb (number (field returnAddendumA 2 file offset)) (bofd + 1))
-    (pickBool (eqb k 28) (eqb (number (field checkDetailAddendumC 2 file offset)) (endorser + 1))
-    (pickBool (eqb k 35) (eqb (number (field returnAddendumD 2 file offset)) (endorser + 1)) true)))
+    cond (eqb k 26) (eqb (number (field checkDetailAddendumA 2 file offset)) (bofd + 1))
+    (cond (eqb k 32) (eqb (number (field returnAddendumA 2 file offset)) (bofd + 1))
+    (cond (eqb k 28) (eqb (number (field checkDetailAddendumC 2 file offset)) (endorser + 1))
+    (cond (eqb k 35) (eqb (number (field returnAddendumD 2 file offset)) (endorser + 1)) true)))
 
 -- field 7 of the item, a 25 or a 31
 abbrev pub sequenceOfItem : List ℕ → ℕ → ℕ → List ℕ
-sequenceOfItem file present item = pickLine (eqb present 31) (field returnRecord 7 file item) (field checkDetail 7 file item)
+sequenceOfItem file present item = cond (eqb present 31) (field returnRecord 7 file item) (field checkDetail 7 file item)
 
 -- "Fields 7 and 8 are not blank if the 50's field 10 is 1"
 abbrev pub signed : ℕ → List ℕ → Bool
@@ -60,16 +60,12 @@ viewLinks file header item present signature offset =
     check 8 (signed signature (field imageViewData 8 file offset)) ∷
     []
 
-abbrev pub pickChecks : Bool → List Check → List Check → List Check
-pickChecks true a b = a
-pickChecks false a b = b
-
 abbrev pub linkChecks : List ℕ → Standing → ℕ → ℕ → List Check
 linkChecks file s k offset =
     check 1 (addendaKept k (s .stated) (s .addenda)) ∷
     check 1 (annexB k (s .indicator) (s .opened) (s .bundle .items .0) (s .shown)) ∷
     check 2 (numberedOn file (s .bofd) (s .endorser) k offset) ∷
-    pickChecks (eqb k 52) (viewLinks file (s .header) (s .item) (s .present) (s .signature) offset) []
+    cond (eqb k 52) (viewLinks file (s .header) (s .item) (s .present) (s .signature) offset) []
 
 -- "LINK by lowest field", or 0
 unfoldable pub linkFault : List ℕ → Standing → ℕ → ℕ → ℕ

@@ -1,22 +1,21 @@
 -- TOTAL (document 01): "a control field is not what its part adds up to". The checks of a control record, in the order of their fields.
 -- Sums are whole numbers, never cut to a field's width; without type 61 all credit fields are zero.
 use Prim.Native.Nat.{ℕ, _+_}
-use mathlib.Core.Bool.{Bool, _||_}
+use mathlib.Core.Bool.{Bool, _||_, cond}
 use mathlib.Core.List.{List, [], _∷_}
 use lib.Dec.{eqb}
 use Rattle.text.specs.Characters.{isBlank}
 use Rattle.text.specs.DataTypes.{every}
 use Rattle.text.specs.Number.{number}
-use Rattle.kind.specs.Layout.{Kind}
-use Rattle.kind.specs.Kinds.{bundleControl, cashLetterControl, fileControl}
+use Rattle.layout.specs.Layout.{Layout}
+use Rattle.layout.specs.Layouts.{bundleControl, cashLetterControl, fileControl}
 use Rattle.measure.specs.declared.Sums.{Sums}
 use Rattle.standing.specs.History.{field}
 use Rattle.standing.specs.declared.Standing.{Standing}
 use Rattle.agree.specs.Checks.{Check, check, firstFailing}
-use Rattle.agree.specs.Links.{pickChecks}
 
 -- field n of a control record states a number
-abbrev pub states : Kind → List ℕ → ℕ → ℕ → ℕ → Bool
+abbrev pub states : Layout → List ℕ → ℕ → ℕ → ℕ → Bool
 states k file offset n value = eqb (number (field k n file offset)) value
 
 -- clause 31: items, debit cents, cents of the 25s with a valid MICR line ("blank is not compared"), views, no credits
@@ -53,9 +52,9 @@ fileTotals file letters recordsBefore s offset =
 
 abbrev pub totalChecks : List ℕ → Standing → ℕ → ℕ → List Check
 totalChecks file s k offset =
-    pickChecks (eqb k 70) (bundleTotals file (s .bundle) (s .micr .0) offset)
-    (pickChecks (eqb k 90) (letterTotals file (s .opened) (s .letter) offset)
-    (pickChecks (eqb k 99) (fileTotals file (s .letters) (s .records .0) (s .whole) offset) []))
+    cond (eqb k 70) (bundleTotals file (s .bundle) (s .micr .0) offset)
+    (cond (eqb k 90) (letterTotals file (s .opened) (s .letter) offset)
+    (cond (eqb k 99) (fileTotals file (s .letters) (s .records .0) (s .whole) offset) []))
 
 -- "TOTAL by lowest field", or 0
 unfoldable pub totalFault : List ℕ → Standing → ℕ → ℕ → ℕ

@@ -9,14 +9,14 @@ use lib.Dec.{eqb}
 use lib.ListN.{length}
 use borrow.Author.Tests.{eq-eqb, lt-ltb}
 use Rattle.text.specs.DataTypes.{every}
-use Rattle.kind.specs.Layout.{Kind}
-use Rattle.kind.specs.Kinds.{checkDetailAddendumA, checkDetailAddendumB, checkDetailAddendumC, returnAddendumA, returnAddendumB, returnAddendumC, returnAddendumD}
-use Rattle.order.specs.Order.{isOneOf, isCarried, follows}
+use Rattle.layout.specs.Layout.{Layout}
+use Rattle.layout.specs.Layouts.{checkDetailAddendumA, checkDetailAddendumB, checkDetailAddendumC, returnAddendumA, returnAddendumB, returnAddendumC, returnAddendumD}
+use Rattle.order.specs.MayFollow.{isOneOf, isCarried, follows}
 use Rattle.agree.specs.Links.{addendaKept}
-use Rattle.framing.specs.Framed.{Body}
-use Rattle.framing.proofs.Figures.{value, statedIn, addendaIn, bofdIn, endorserIn, lastIn}
-use Rattle.framing.proofs.Good.{GoodAll, onto}
-use Rattle.framing.proofs.Checks.{numberedAs}
+use Rattle.file_as_records.specs.Framed.{Body}
+use Rattle.file_as_records.proofs.Figures.{value, statedIn, addendaIn, bofdIn, endorserIn, lastIn}
+use Rattle.file_as_records.proofs.Good.{GoodAll, onto}
+use Rattle.file_as_records.proofs.Checks.{numberedAs}
 use Rattle.arrangement.specs.Tree.{Addenda, ofCheck, ofReturn}
 use Rattle.arrangement.specs.Written.{optionalThen, addendaThen}
 use Rattle.arrangement.specs.Sound.{IfAny, Right, Numbered, stated, layoutIn, SoundAddenda}
@@ -40,7 +40,7 @@ pub record MayEnd (a : Addenda) (last : ℕ) : Type 0 where
   pub item : follows last (layoutIn a .typeNumber) ≡ true
   pub control : follows last 70 ≡ true
 
-module _ (k : Kind) (adds : Adds k) (c : isCarried (k .typeNumber) ≡ true) (o : isOneOf (k .typeNumber) checked ≡ false) where
+module _ (k : Layout) (adds : Adds k) (c : isCarried (k .typeNumber) ≡ true) (o : isOneOf (k .typeNumber) checked ≡ false) where
   one-good : (past : List Body) (b : Body) (owed rest : List Body) → Right k b → follows (lastIn past) (k .typeNumber) ≡ true
       → numberedAs (k .typeNumber) past b ≡ true → Owes past (b ∷ owed) → (Owes (b ∷ past) owed → GoodAll (b ∷ past) rest) → GoodAll past (b ∷ rest)
   unfolding addendaKept

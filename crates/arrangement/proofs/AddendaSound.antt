@@ -6,13 +6,13 @@ use mathlib.Core.Path.{_≡_, refl, sym, _∙_}
 use mathlib.Core.List.{List, [], _∷_, _++_}
 use lib.Dec.{eqb}
 use borrow.Author.Tests.{eqb-true}
-use Rattle.kind.specs.Layout.{Kind}
-use Rattle.kind.specs.Kinds.{checkDetailAddendumA, checkDetailAddendumB, checkDetailAddendumC, returnAddendumA, returnAddendumB, returnAddendumC, returnAddendumD}
-use Rattle.kind.specs.Alone.{typeOf}
-use Rattle.framing.specs.Framed.{Body}
-use Rattle.framing.proofs.Figures.{value, addendaIn, bofdIn, endorserIn}
-use Rattle.framing.proofs.Good.{Good, GoodAll, onto}
-use Rattle.framing.proofs.Checks.{numberedAs}
+use Rattle.layout.specs.Layout.{Layout}
+use Rattle.layout.specs.Layouts.{checkDetailAddendumA, checkDetailAddendumB, checkDetailAddendumC, returnAddendumA, returnAddendumB, returnAddendumC, returnAddendumD}
+use Rattle.judge.specs.Alone.{typeOf}
+use Rattle.file_as_records.specs.Framed.{Body}
+use Rattle.file_as_records.proofs.Figures.{value, addendaIn, bofdIn, endorserIn}
+use Rattle.file_as_records.proofs.Good.{Good, GoodAll, onto}
+use Rattle.file_as_records.proofs.Checks.{numberedAs}
 use Rattle.arrangement.specs.Tree.{Addenda, ofCheck, ofReturn}
 use Rattle.arrangement.specs.Written.{optionalThen, addendaThen}
 use Rattle.arrangement.specs.Sound.{All, IfAny, Right, Numbered, stated, SoundAddenda}
@@ -30,7 +30,7 @@ pub record AddendaFound (Part : Type 0) (past rest : List Body) : Type 0 where
   pub short : Short past
   pub behind : GoodAll past rest
 
-module _ (k : Kind) (adds : Adds k) where
+module _ (k : Layout) (adds : Adds k) where
   short-on : (past : List Body) (b : Body) → typeOf b ≡ k .typeNumber → Good past b → Short (b ∷ past)
   short-on past b typed good =
       omega (

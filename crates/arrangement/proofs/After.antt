@@ -5,8 +5,8 @@ use mathlib.Core.Path.{_≡_, refl, _∙_}
 use mathlib.Core.List.{List, [], _∷_, _++_}
 use mathlib.Core.Option.{Option, none, some}
 use lib.ListN.{length}
-use Rattle.framing.specs.Framed.{Body}
-use Rattle.framing.proofs.Good.{onto}
+use Rattle.file_as_records.specs.Framed.{Body}
+use Rattle.file_as_records.proofs.Good.{onto}
 use Rattle.arrangement.specs.Tree.{View, Addenda, ofCheck, ofReturn, Item, Bundle, CashLetter}
 use Rattle.arrangement.specs.Written.{optionalThen, viewsThen, addendaThen, itemThen, itemsThen, bundlesThen, lettersThen}
 use Rattle.arrangement.specs.Sound.{All, total}

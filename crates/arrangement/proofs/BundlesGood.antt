@@ -1,11 +1,11 @@
 -- The records of sound bundles are good, one after the other. Assumes nothing.
 use mathlib.Core.Path.{_≡_, refl, sym, _∙_}
 use mathlib.Core.List.{List, [], _∷_}
-use Rattle.order.specs.Order.{follows}
-use Rattle.framing.specs.Framed.{Body}
-use Rattle.framing.proofs.Figures.{indicatorIn, lastIn}
-use Rattle.framing.proofs.Good.{GoodAll}
-use Rattle.framing.proofs.Totals.{BundleTotals}
+use Rattle.order.specs.MayFollow.{follows}
+use Rattle.file_as_records.specs.Framed.{Body}
+use Rattle.file_as_records.proofs.Figures.{indicatorIn, lastIn}
+use Rattle.file_as_records.proofs.Good.{GoodAll}
+use Rattle.file_as_records.proofs.Totals.{BundleTotals}
 use Rattle.arrangement.specs.Tree.{Bundle}
 use Rattle.arrangement.specs.Written.{bundleThen, bundlesThen}
 use Rattle.arrangement.specs.Sound.{All, indicator, SoundBundle}

@@ -5,12 +5,12 @@ use mathlib.Core.Bool.{false}
 use mathlib.Core.Path.{_≡_, refl, _∙_}
 use mathlib.Core.List.{List, [], _∷_}
 use lib.ListN.{length}
-use Rattle.kind.specs.Kinds.{bundleControl, bundleHeader}
-use Rattle.kind.specs.Alone.{typeOf}
-use Rattle.order.specs.Order.{follows}
-use Rattle.framing.specs.Framed.{Body}
-use Rattle.framing.proofs.Figures.{indicatorIn}
-use Rattle.framing.proofs.Good.{GoodAll}
+use Rattle.layout.specs.Layouts.{bundleControl, bundleHeader}
+use Rattle.judge.specs.Alone.{typeOf}
+use Rattle.order.specs.MayFollow.{follows}
+use Rattle.file_as_records.specs.Framed.{Body}
+use Rattle.file_as_records.proofs.Figures.{indicatorIn}
+use Rattle.file_as_records.proofs.Good.{GoodAll}
 use Rattle.arrangement.specs.Tree.{Addenda, ofCheck, ofReturn, Item, Bundle}
 use Rattle.arrangement.specs.Written.{itemsThen, bundleThen, bundlesThen}
 use Rattle.arrangement.specs.Sound.{All, layoutIn, layoutOf, indicator, OneItemType, SoundItem, SoundBundle}

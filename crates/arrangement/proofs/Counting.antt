@@ -2,13 +2,12 @@
 use Prim.Native.Nat.{ℕ, _+_}
 use native.Mathlib.Omega.{arith}
 use mathlib.Core.Path.{_≡_, ap, _∙_}
-use mathlib.Core.Bool.{Bool}
+use mathlib.Core.Bool.{Bool, cond}
 use mathlib.Core.List.{List, [], _∷_}
 use lib.ListN.{length}
-use Rattle.order.specs.Order.{pickNumber}
-use Rattle.framing.specs.Framed.{Body}
-use Rattle.framing.proofs.Figures.{value}
-use Rattle.framing.proofs.Good.{onto}
+use Rattle.file_as_records.specs.Framed.{Body}
+use Rattle.file_as_records.proofs.Figures.{value}
+use Rattle.file_as_records.proofs.Good.{onto}
 use Rattle.arrangement.specs.Tree.{View, Bundle, CashLetter}
 use Rattle.arrangement.specs.Sound.{All}
 use Rattle.arrangement.specs.TypesInPlace.{OfType, TypedView, TypedItem, TypedBundle, TypedLetter}
@@ -17,7 +16,7 @@ use Rattle.arrangement.proofs.After.{afterBundle, afterBundles, afterIt
 
 -- how `sumSince begins measure` goes on: `sumSince begins measure past` is `value 0 (adding begins measure) past`
 abbrev pub adding : (ℕ → Bool) → (ℕ → Body → ℕ) → ℕ → Body → ℕ → ℕ
-adding begins measure t b x = pickNumber (begins t) 0 (measure t b + x)
+adding begins measure t b x = cond (begins t) 0 (measure t b + x)
 
 -- a type of which each record adds one
 abbrev pub Counts : (ℕ → Body → ℕ → ℕ) → ℕ → Type 0

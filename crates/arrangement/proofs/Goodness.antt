@@ -6,12 +6,12 @@ use mathlib.Core.Logic.{_⊎_, inl, inr}
 use mathlib.Core.Path.{_≡_, refl, sym, _∙_}
 use mathlib.Core.List.{List, [], _∷_}
 use lib.ListN.{length}
-use Rattle.kind.specs.Kinds.{fileHeader, cashLetterHeader}
-use Rattle.order.specs.Order.{isCarried, follows}
-use Rattle.framing.specs.Framed.{Body}
-use Rattle.framing.proofs.Figures.{lastIn}
-use Rattle.framing.proofs.Good.{GoodAll}
-use Rattle.framing.proofs.Totals.{FileTotals, LetterTotals}
+use Rattle.layout.specs.Layouts.{fileHeader, cashLetterHeader}
+use Rattle.order.specs.MayFollow.{isCarried, follows}
+use Rattle.file_as_records.specs.Framed.{Body}
+use Rattle.file_as_records.proofs.Figures.{lastIn}
+use Rattle.file_as_records.proofs.Good.{GoodAll}
+use Rattle.file_as_records.proofs.Totals.{FileTotals, LetterTotals}
 use Rattle.arrangement.specs.Tree.{CashLetter, File}
 use Rattle.arrangement.specs.Written.{letterThen, lettersThen, records}
 use Rattle.arrangement.specs.Sound.{All, N, SoundLetter, Sound}

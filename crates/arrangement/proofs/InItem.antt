@@ -1,15 +1,15 @@
 -- What the records before one within an item come to: its cash letter, its bundle, its first record. Assumes nothing.
+use mathlib.Core.Bool.{cond}
 use Prim.Native.Nat.{ℕ}
 use mathlib.Core.Option.{Option, none, some}
 use mathlib.Core.Path.{_≡_, refl, ap, _∙_}
 use mathlib.Core.List.{List, [], _∷_}
 use lib.Dec.{eqb}
-use Rattle.kind.specs.Alone.{typeOf}
-use Rattle.order.specs.Order.{isItem, pickNumber}
-use Rattle.standing.specs.History.{pickLine}
-use Rattle.framing.specs.Framed.{Body, fieldOf}
-use Rattle.framing.proofs.Figures.{is, newest, sequenceOf, signatureOf, indicatorIn, indicatorOf, presentIn}
-use Rattle.framing.proofs.Good.{onto}
+use Rattle.judge.specs.Alone.{typeOf}
+use Rattle.order.specs.MayFollow.{isItem}
+use Rattle.file_as_records.specs.Framed.{Body, fieldOf}
+use Rattle.file_as_records.proofs.Figures.{is, newest, sequenceOf, signatureOf, indicatorIn, indicatorOf, presentIn}
+use Rattle.file_as_records.proofs.Good.{onto}
 use Rattle.arrangement.specs.Tree.{View, Addenda, ofCheck, ofReturn, Item}
 use Rattle.arrangement.specs.Sound.{All, IfAny, layoutIn, layoutOf, sequence, indicator}
 use Rattle.arrangement.specs.TypesInPlace.{OfType, TypedView, TypedAddenda}
@@ -24,19 +24,19 @@ pub record InItem (letter header : Body) (i : Item) (past : List Body) : Type 0 
   pub present : presentIn past ≡ layoutOf i .typeNumber
 
 abbrev pub nextIndicator : ℕ → Body → ℕ → ℕ
-nextIndicator t b x = pickNumber (is 10 t) (indicatorOf b) x
+nextIndicator t b x = cond (is 10 t) (indicatorOf b) x
 
 abbrev pub nextHeader : ℕ → Body → Body → Body
-nextHeader t b x = pickLine (is 20 t) b x
+nextHeader t b x = cond (is 20 t) b x
 
 abbrev pub nextDetail : ℕ → Body → Body → Body
-nextDetail t b x = pickLine (isItem t) b x
+nextDetail t b x = cond (isItem t) b x
 
 abbrev pub nextPresent : ℕ → Body → ℕ → ℕ
-nextPresent t b x = pickNumber (eqb t 20) 0 (pickNumber (isItem t) t x)
+nextPresent t b x = cond (eqb t 20) 0 (cond (isItem t) t x)
 
 abbrev pub nextSignature : ℕ → Body → ℕ → ℕ
-nextSignature t b x = pickNumber (is 50 t) (signatureOf b) x
+nextSignature t b x = cond (is 50 t) (signatureOf b) x
 
 -- a type of record that stands within an item, but not first; `search` proves it of a numeral
 pub record Inner (t : ℕ) : Type 0 where

@@ -6,20 +6,20 @@ use mathlib.Core.Path.{_≡_, refl, sym, _∙_}
 use mathlib.Core.List.{List, [], _∷_}
 use lib.Dec.{eqb}
 use lib.ListN.{length}
-use Rattle.kind.specs.Alone.{typeOf}
-use Rattle.order.specs.Order.{isItem}
-use Rattle.framing.specs.Framed.{Body}
-use Rattle.framing.proofs.Figures.{value, is, newest, count, statedAs, indicatorIn, presentIn, statedIn, addendaIn, bofdIn, endorserIn, shownIn, itemsSince}
+use Rattle.judge.specs.Alone.{typeOf}
+use Rattle.order.specs.MayFollow.{isItem}
+use Rattle.file_as_records.specs.Framed.{Body}
+use Rattle.file_as_records.proofs.Figures.{value, is, newest, count, statedAs, indicatorIn, presentIn, statedIn, addendaIn, bofdIn, endorserIn, shownIn, itemsSince}
 use Rattle.arrangement.specs.Tree.{Addenda, ofCheck, ofReturn, Item}
 use Rattle.arrangement.specs.Written.{addendaThen}
 use Rattle.arrangement.specs.Sound.{layoutIn, layoutOf, statedAddenda, indicator}
 use Rattle.arrangement.specs.TypesInPlace.{OfType, TypedItem}
-use Rattle.arrangement.specs.Sound as sound
 use Rattle.arrangement.proofs.Quiet.{QuietAddenda, QuietBundles, quiet-views, quiet-addenda, QuietViews, step}
 use Rattle.arrangement.proofs.Counting.{count-views, adding}
 use Rattle.arrangement.proofs.After.{afterAddenda, afterItem}
 use Rattle.arrangement.proofs.InItem.{InItem, nextDetail, nextHeader, nextIndicator, nextPresent}
 use Rattle.arrangement.proofs.OwnAddenda.{addenda-count, nextAddenda, nextBofd, nextEndorser, nextStated}
+use Rattle.arrangement.specs.Sound as sound
 
 -- at an item's first record the figures of the item begin anew
 pub record Fresh (a : Addenda) (d : Body) (past : List Body) : Type 0 where

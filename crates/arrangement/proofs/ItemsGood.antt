@@ -6,11 +6,11 @@ use mathlib.Core.Logic.{_⊎_, inl, inr}
 use mathlib.Core.Path.{_≡_, refl, sym, _∙_, subst}
 use mathlib.Core.List.{List, [], _∷_}
 use lib.ListN.{length}
-use Rattle.kind.specs.Alone.{typeOf}
-use Rattle.order.specs.Order.{follows}
-use Rattle.framing.specs.Framed.{Body}
-use Rattle.framing.proofs.Figures.{is, newest, indicatorIn, presentIn, lastIn}
-use Rattle.framing.proofs.Good.{GoodAll}
+use Rattle.judge.specs.Alone.{typeOf}
+use Rattle.order.specs.MayFollow.{follows}
+use Rattle.file_as_records.specs.Framed.{Body}
+use Rattle.file_as_records.proofs.Figures.{is, newest, indicatorIn, presentIn, lastIn}
+use Rattle.file_as_records.proofs.Good.{GoodAll}
 use Rattle.arrangement.specs.Tree.{Addenda, ofCheck, ofReturn, Item}
 use Rattle.arrangement.specs.Written.{viewsThen, itemThen, itemsThen}
 use Rattle.arrangement.specs.Sound.{All, layoutIn, layoutOf, indicator, I, F, SoundItem, OneItemType}

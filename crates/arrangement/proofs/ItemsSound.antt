@@ -7,12 +7,12 @@ use mathlib.Core.List.{List, [], _∷_}
 use mathlib.Core.Bool.{true, false, _||_}
 use lib.Dec.{eqb}
 use lib.ListN.{length}
-use Rattle.kind.specs.Layout.{Kind}
-use Rattle.kind.specs.Alone.{typeOf}
-use Rattle.order.specs.Order.{isItem, isAddendum}
-use Rattle.framing.specs.Framed.{Body}
-use Rattle.framing.proofs.Figures.{is, newest, indicatorIn, presentIn}
-use Rattle.framing.proofs.Good.{Good, GoodAll}
+use Rattle.layout.specs.Layout.{Layout}
+use Rattle.judge.specs.Alone.{typeOf}
+use Rattle.order.specs.MayFollow.{isItem, isAddendum}
+use Rattle.file_as_records.specs.Framed.{Body}
+use Rattle.file_as_records.proofs.Figures.{is, newest, indicatorIn, presentIn}
+use Rattle.file_as_records.proofs.Good.{Good, GoodAll}
 use Rattle.arrangement.specs.Tree.{Addenda, ofCheck, ofReturn, Item}
 use Rattle.arrangement.specs.Written.{viewsThen, itemThen, itemsThen}
 use Rattle.arrangement.specs.Sound.{All, Right, layoutIn, layoutOf, indicator, E, I, F, SoundAddenda, SoundView, SoundItem}
@@ -35,7 +35,7 @@ pub record First (a : Addenda) (d : Body) (past : List Body) : Type 0 where
   pub item-type : (presentIn past ≡ 0) ⊎ (presentIn past ≡ layoutIn a .typeNumber)
 
 -- what the law below asks of the layout of a first record; at a layout written out each fact but the first is `refl`
-record Begins (k : Kind) : Type 0 where
+record Begins (k : Layout) : Type 0 where
   known : Known k
   item : isItem (k .typeNumber) ≡ true
   no-addendum : isAddendum (k .typeNumber) ≡ false

@@ -4,17 +4,17 @@ use native.Mathlib.Omega.{arith}
 use mathlib.Core.Path.{_≡_, ap}
 use mathlib.Core.List.{List, [], _∷_}
 use lib.ListN.{length}
-use Rattle.order.specs.Order.{isItem}
-use Rattle.framing.specs.Framed.{Body}
-use Rattle.framing.proofs.Figures.{count, is, never, amountAs, micrAs, lettersIn, openedIn, itemsSince, debitSince, viewsSince, micrIn}
+use Rattle.order.specs.MayFollow.{isItem}
+use Rattle.file_as_records.specs.Framed.{Body}
+use Rattle.file_as_records.proofs.Figures.{count, is, never, amountAs, micrAs, lettersIn, openedIn, itemsSince, debitSince, viewsSince, micrIn}
 use Rattle.arrangement.specs.Tree.{Bundle, CashLetter, File}
 use Rattle.arrangement.specs.Written.{records}
 use Rattle.arrangement.specs.Sound.{total, micr, viewsOf, debitOf, debitIn, itemsIn, viewsIn}
 use Rattle.arrangement.specs.TypesInPlace.{TypedBundle, TypedLetter, Typed}
-use Rattle.arrangement.specs.Sound as sound
 use Rattle.arrangement.proofs.Counting.{adding}
 use Rattle.arrangement.proofs.After.{afterItems, afterBundles, afterLetters, onto-letters, length-onto}
 use Rattle.arrangement.proofs.Sums.{items-sum, items-counted, items-views, bundles-sum, bundle-sum, letter-sum, letters-sum, amountIn, bundles-counted, file-sum-before, letters-counted}
+use Rattle.arrangement.specs.Sound as sound
 
 pub record BundleFigures (b : Bundle) (past : List Body) : Type 0 where
   pub items : itemsSince (is 20) (afterItems (b .header ∷ past) (b .items)) ≡ length (b .items)

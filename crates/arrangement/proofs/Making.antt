@@ -8,19 +8,19 @@ use mathlib.Core.List.{List, [], _∷_}
 use lib.Dec.{eqb}
 use borrow.Author.Tests.{le-leb, eq-eqb, ne-eqb}
 use Rattle.text.specs.DataTypes.{every}
-use Rattle.kind.specs.Layout.{Kind}
-use Rattle.kind.specs.Kinds.{bundleHeader, checkDetail, returnRecord, imageViewDetail, imageViewData, bundleControl, cashLetterControl, fileControl}
-use Rattle.kind.specs.Alone.{typeOf}
-use Rattle.order.specs.Order.{isItem, isAddendum, isOneOf, mayFollow, follows, oneKind, isCarried}
+use Rattle.layout.specs.Layout.{Layout}
+use Rattle.layout.specs.Layouts.{bundleHeader, checkDetail, returnRecord, imageViewDetail, imageViewData, bundleControl, cashLetterControl, fileControl}
+use Rattle.judge.specs.Alone.{typeOf}
+use Rattle.order.specs.MayFollow.{isItem, isAddendum, isOneOf, mayFollow, follows, oneItemType, isCarried}
 use Rattle.agree.specs.Links.{addendaKept, annexB}
-use Rattle.framing.specs.Framed.{Body}
-use Rattle.framing.proofs.Good.{Good}
-use Rattle.framing.proofs.Checks.{numberedAs}
-use Rattle.framing.proofs.Figures.{is, statedIn, addendaIn, shownIn, openedIn, indicatorIn, itemsSince, lastIn, presentIn}
-use Rattle.framing.proofs.Tests.{not-both, refuted}
-use Rattle.framing.proofs.Totals.{BundleTotals, FileTotals, LetterTotals, Totalled, bundle-totalled, file-totalled, letter-totalled, not-totalled}
-use Rattle.framing.proofs.Links.{Linked, ViewLinked}
-use Rattle.framing.proofs.Opened.{among}
+use Rattle.file_as_records.specs.Framed.{Body}
+use Rattle.file_as_records.proofs.Good.{Good}
+use Rattle.file_as_records.proofs.Checks.{numberedAs}
+use Rattle.file_as_records.proofs.Figures.{is, statedIn, addendaIn, shownIn, openedIn, indicatorIn, itemsSince, lastIn, presentIn}
+use Rattle.file_as_records.proofs.Tests.{not-both, refuted}
+use Rattle.file_as_records.proofs.Totals.{BundleTotals, FileTotals, LetterTotals, Totalled, bundle-totalled, file-totalled, letter-totalled, not-totalled}
+use Rattle.file_as_records.proofs.Links.{Linked, ViewLinked}
+use Rattle.file_as_records.proofs.Opened.{among}
 use Rattle.arrangement.specs.Sound.{N, E, Right, layoutIn}
 use Rattle.arrangement.specs.Tree.{Addenda, ofCheck, ofReturn}
 use Rattle.arrangement.proofs.Rightness.{Known, right-out, known-20, known-25, known-31, known-50, known-52, known-70, known-90, known-99}
@@ -47,9 +47,9 @@ pub allow-at : {last t : ℕ} (ts : List ℕ) → last ≡ t → every (follows 
 allow-at {last} ts e h = record { may = λ u o. among (follows last) u ts (rw e h) o }
 
 -- of any layout: at a layout written out, the checks compute to those of its type
-module _ (k : Kind) (known : Known k) (past : List Body) (b : Body) where
+module _ (k : Layout) (known : Known k) (past : List Body) (b : Body) where
   made : Right k b → isCarried (k .typeNumber) ≡ true → follows (lastIn past) (k .typeNumber) ≡ true
-      → oneKind (presentIn past) (k .typeNumber) ≡ true → Linked (k .typeNumber) past b → Totalled (k .typeNumber) past b → Good past b
+      → oneItemType (presentIn past) (k .typeNumber) ≡ true → Linked (k .typeNumber) past b → Totalled (k .typeNumber) past b → Good past b
   unfolding mayFollow
   made r c f o l s =
       of-type (k .typeNumber) past b (r .type)
@@ -63,7 +63,7 @@ unlike : (t n : ℕ) (us : List ℕ) → isOneOf t us ≡ false → isOneOf n us
 unlike t n us o m = ne-eqb t n (λ e. not-both (sym o ∙ ap (λ (u : ℕ). isOneOf u us) e ∙ m))
 
 -- of a layout without such checks, left open so that one law serves a run of any addenda; a layout written out has both facts by `refl`
-module _ (k : Kind) (known : Known k) (c : isCarried (k .typeNumber) ≡ true) (o : isOneOf (k .typeNumber) checked ≡ false)
+module _ (k : Layout) (known : Known k) (c : isCarried (k .typeNumber) ≡ true) (o : isOneOf (k .typeNumber) checked ≡ false)
     (past : List Body) (b : Body) where
   pub made-plain : Right k b → follows (lastIn past) (k .typeNumber) ≡ true → addendaKept (k .typeNumber) (statedIn past) (addendaIn past) ≡ true
       → numberedAs (k .typeNumber) past b ≡ true → Good past b

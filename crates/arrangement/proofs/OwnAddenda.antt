@@ -1,18 +1,18 @@
 -- The addenda of an item, counted against those that it states. Assumes nothing.
 use Prim.Native.Nat.{ℕ, _+_, _≤_}
 use native.Mathlib.Omega.{arith}
-use mathlib.Core.Bool.{true}
+use mathlib.Core.Bool.{true, cond}
 use mathlib.Core.Option.{Option, none, some}
 use mathlib.Core.Path.{_≡_, refl, _∙_}
 use mathlib.Core.List.{List, [], _∷_, _++_}
 use lib.ListN.{length, length-append}
-use Rattle.kind.specs.Layout.{Kind}
-use Rattle.kind.specs.Kinds.{checkDetailAddendumA, checkDetailAddendumB, checkDetailAddendumC, returnAddendumA, returnAddendumB, returnAddendumC, returnAddendumD}
-use Rattle.order.specs.Order.{isItem, isAddendum, pickNumber}
+use Rattle.layout.specs.Layout.{Layout}
+use Rattle.layout.specs.Layouts.{checkDetailAddendumA, checkDetailAddendumB, checkDetailAddendumC, returnAddendumA, returnAddendumB, returnAddendumC, returnAddendumD}
+use Rattle.order.specs.MayFollow.{isItem, isAddendum}
 use Rattle.standing.specs.History.{isBofdAddendum, isEndorserAddendum}
-use Rattle.framing.specs.Framed.{Body}
-use Rattle.framing.proofs.Figures.{value, count, statedAs, statedIn, addendaIn, endorserIn}
-use Rattle.framing.proofs.Good.{onto}
+use Rattle.file_as_records.specs.Framed.{Body}
+use Rattle.file_as_records.proofs.Figures.{value, count, statedAs, statedIn, addendaIn, endorserIn}
+use Rattle.file_as_records.proofs.Good.{onto}
 use Rattle.arrangement.specs.Tree.{Addenda, ofCheck, ofReturn}
 use Rattle.arrangement.specs.Written.{optionalThen, addendaThen}
 use Rattle.arrangement.specs.Sound.{IfAny}
@@ -26,7 +26,7 @@ abbrev pub nextAddenda : ℕ → Body → ℕ → ℕ
 nextAddenda t b x = adding isItem (count isAddendum) t b x
 
 abbrev pub nextStated : ℕ → Body → ℕ → ℕ
-nextStated t b x = pickNumber (isItem t) (statedAs t b) x
+nextStated t b x = cond (isItem t) (statedAs t b) x
 
 abbrev pub nextBofd : ℕ → Body → ℕ → ℕ
 nextBofd t b x = adding isItem (count isBofdAddendum) t b x
@@ -39,7 +39,7 @@ abbrev pub Short : List Body → Type 0
 Short past = addendaIn past ≤ statedIn past
 
 -- the layout of an addendum
-pub record Adds (k : Kind) : Type 0 where
+pub record Adds (k : Layout) : Type 0 where
   pub known : Known k
   pub addendum : isAddendum (k .typeNumber) ≡ true
   pub more : Counts nextAddenda (k .typeNumber)

@@ -2,21 +2,21 @@
 use Prim.Native.Nat.{ℕ}
 use native.Mathlib.Nat.{zero-add}
 use mathlib.Core.Path.{_≡_, ap, sym, subst, _∙_}
-use mathlib.Core.Bool.{false}
+use mathlib.Core.Bool.{false, cond}
 use mathlib.Core.List.{List, [], _∷_, _++_}
 use mathlib.Core.Option.{Option, none, some}
 use lib.Dec.{eqb}
-use Rattle.kind.specs.Alone.{typeOf}
-use Rattle.order.specs.Order.{isItem, pickNumber}
-use Rattle.reading.specs.Rows.{outsideLetter, outsideBundle, outsideItem}
-use Rattle.framing.specs.Framed.{Body}
-use Rattle.framing.proofs.Good.{onto, amountAfter, rowsAll}
-use Rattle.framing.proofs.Figures.{count, is, never, lettersIn, openedIn, itemsSince}
+use Rattle.judge.specs.Alone.{typeOf}
+use Rattle.order.specs.MayFollow.{isItem}
+use Rattle.passes.specs.Rows.{outsideLetter, outsideBundle, outsideItem}
+use Rattle.file_as_records.specs.Framed.{Body}
+use Rattle.file_as_records.proofs.Good.{onto, amountAfter, rowsAll}
+use Rattle.file_as_records.proofs.Figures.{count, is, never, lettersIn, openedIn, itemsSince}
 use Rattle.arrangement.specs.Tree.{View, Addenda, ofCheck, ofReturn}
 use Rattle.arrangement.specs.Written.{optionalThen, viewsThen, addendaThen}
 use Rattle.arrangement.specs.Sound.{All, IfAny, amount}
 use Rattle.arrangement.specs.TypesInPlace.{OfType, TypedView, TypedAddenda}
-use Rattle.arrangement.specs.Rows.{Placed, placed, alikeThen, rowsFrom}
+use Rattle.arrangement.specs.RowsAndTotals.{Placed, placed, alikeThen, rowsFrom}
 use Rattle.arrangement.proofs.After.{afterOptional, afterViews, afterAddenda}
 use Rattle.arrangement.proofs.Quiet.{step}
 use Rattle.arrangement.proofs.Counting.{adding}
@@ -37,9 +37,9 @@ pub record Agree (past bs : List Body) (ps : List Placed) : Type 0 where
 
 -- where past, with a record of type t as its newest, puts that record
 pub record Seated (t : ℕ) (past : List Body) (p : Placed) : Type 0 where
-  pub letter : pickNumber (outsideLetter t) 0 (lettersIn past) ≡ p .letter
-  pub bundle : pickNumber (outsideBundle t) 0 (openedIn past) ≡ p .bundle
-  pub item : pickNumber (outsideItem t) 0 (itemsSince (is 20) past) ≡ p .item
+  pub letter : cond (outsideLetter t) 0 (lettersIn past) ≡ p .letter
+  pub bundle : cond (outsideBundle t) 0 (openedIn past) ≡ p .bundle
+  pub item : cond (outsideItem t) 0 (itemsSince (is 20) past) ≡ p .item
   pub amount : amountAfter t past (p .body) ≡ p .amount
 
 same-row : (t at size l₁ l₂ o₁ o₂ i₁ i₂ n₁ n₂ : ℕ) (xs ys : List ℕ) → l₁ ≡ l₂ → o₁ ≡ o₂ → i₁ ≡ i₂ → n₁ ≡ n₂ → xs ≡ ys

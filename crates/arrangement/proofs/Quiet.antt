@@ -3,10 +3,10 @@ use Prim.Native.Nat.{ℕ}
 use mathlib.Core.Path.{_≡_, refl, ap, _∙_}
 use mathlib.Core.List.{List, [], _∷_}
 use mathlib.Core.Option.{Option, none, some}
-use Rattle.kind.specs.Alone.{typeOf}
-use Rattle.framing.specs.Framed.{Body}
-use Rattle.framing.proofs.Figures.{value}
-use Rattle.framing.proofs.Good.{onto}
+use Rattle.judge.specs.Alone.{typeOf}
+use Rattle.file_as_records.specs.Framed.{Body}
+use Rattle.file_as_records.proofs.Figures.{value}
+use Rattle.file_as_records.proofs.Good.{onto}
 use Rattle.arrangement.specs.Tree.{View, Addenda, ofCheck, ofReturn, Item, Bundle, CashLetter}
 use Rattle.arrangement.specs.Sound.{All, IfAny, layoutIn, layoutOf}
 use Rattle.arrangement.specs.TypesInPlace.{OfType, TypedView, TypedAddenda, TypedItem, TypedBundle, TypedLetter}

@@ -1,22 +1,22 @@
 -- A record of a layout is right exactly when the judgement of it alone finds it sound. Assumes nothing.
 use Prim.Native.Nat.{ℕ, _+_}
 use native.Mathlib.Omega.{arith}
-use mathlib.Core.Bool.{Bool, true, false, _&&_, _||_}
+use mathlib.Core.Bool.{Bool, true, false, _&&_, _||_, cond}
 use mathlib.Core.Path.{_≡_, refl, sym, _∙_}
 use mathlib.Core.List.{List, [], _∷_}
 use lib.Dec.{leb, eqb}
 use lib.ListN.{length, take, drop}
 use borrow.Author.Tests.{leb-true, le-leb, eqb-true, eq-eqb}
 use Rattle.text.specs.DataTypes.{ofType}
-use Rattle.kind.specs.Layout.{Line, Kind}
-use Rattle.kind.specs.Kinds.{fileHeader, cashLetterHeader, bundleHeader, checkDetail, checkDetailAddendumA, checkDetailAddendumB, checkDetailAddendumC, returnRecord, returnAddendumA, returnAddendumB, returnAddendumC, returnAddendumD, imageViewDetail, imageViewData, imageViewAnalysis, bundleControl, cashLetterControl, fileControl}
-use Rattle.kind.specs.declared.Judged.the-variants.{Sound}
-use Rattle.kind.specs.Alone.{typeOf, lineHolds, firstWrong, Sized, sizedParts, statedSize, statedSizes, firstWrongPart, isVariable, judged, alone, judgedAs}
-use Rattle.kind.specs.Alone as alone
-use Rattle.kind.proofs.Laws.{length-not-sound, field-not-sound, kept}
-use Rattle.framing.specs.Framed.{Body}
-use Rattle.framing.proofs.Tests.{both}
+use Rattle.layout.specs.Layout.{Line, Layout, Sized, sizedParts}
+use Rattle.layout.specs.Layouts.{fileHeader, cashLetterHeader, bundleHeader, checkDetail, checkDetailAddendumA, checkDetailAddendumB, checkDetailAddendumC, returnRecord, returnAddendumA, returnAddendumB, returnAddendumC, returnAddendumD, imageViewDetail, imageViewData, imageViewAnalysis, bundleControl, cashLetterControl, fileControl}
+use Rattle.judge.specs.declared.Judged.the-variants.{Sound}
+use Rattle.judge.specs.Alone.{typeOf, lineHolds, firstWrong, statedSize, statedSizes, firstWrongPart, isVariable, judged, alone, judgedAs}
+use Rattle.judge.proofs.Laws.{length-not-sound, field-not-sound, kept}
+use Rattle.file_as_records.specs.Framed.{Body}
+use Rattle.file_as_records.proofs.Tests.{both}
 use Rattle.arrangement.specs.Sound.{All, PartsRight, Right}
+use Rattle.judge.specs.Alone as alone
 
 -- fields are numbered from 1, so that 0 names none of them
 abbrev linesNumbered : List Line → Bool
@@ -27,7 +27,7 @@ abbrev partsNumbered : List Sized → Bool
 partsNumbered [] = true
 partsNumbered (s ∷ ss) = leb 1 (s .number) && partsNumbered ss
 
-picked-zero : (t : Bool) (x n : ℕ) → leb 1 n ≡ true → alone.pickNumber t x n ≡ 0 → (t ≡ true) × (x ≡ 0)
+picked-zero : (t : Bool) (x n : ℕ) → leb 1 n ≡ true → cond t x n ≡ 0 → (t ≡ true) × (x ≡ 0)
 picked-zero true x n l e = (refl, e)
 picked-zero false x n l e = absurd (omega (arith, leb-true 1 n l, e))
 
@@ -64,12 +64,12 @@ not-long [] b fixed e = le-leb (length b) fixed (omega (arith, e))
 not-long (s ∷ ss) b fixed e = refl
 
 -- what the judgement needs to know of a layout: all its fields are numbered, and it is the layout of its type
-pub record Known (k : Kind) : Type 0 where
+pub record Known (k : Layout) : Type 0 where
   pub lines : linesNumbered (k .lines) ≡ true
   pub parts : partsNumbered (sizedParts k) ≡ true
   pub judged : (b : Body) → judgedAs (k .typeNumber) b ≡ alone k b
 
-module _ (k : Kind) (b : Body) (known : Known k) where
+module _ (k : Layout) (b : Body) (known : Known k) where
   pub right-in : typeOf b ≡ k .typeNumber → judgedAs (k .typeNumber) b ≡ Sound → Right k b
   unfolding judged
   right-in t j =

@@ -3,14 +3,14 @@ use Prim.Native.Nat.{ℕ, _+_}
 use native.Mathlib.Omega.{arith}
 use mathlib.Core.Path.{_≡_, refl, ap, sym, _∙_}
 use mathlib.Core.List.{List, [], _∷_}
-use Rattle.framing.specs.Framed.{Body}
-use Rattle.framing.proofs.Good.{rowsAll}
-use Rattle.framing.proofs.Figures.{is, never, amountAs, lettersIn, openedIn, itemsSince, debitSince}
+use Rattle.file_as_records.specs.Framed.{Body}
+use Rattle.file_as_records.proofs.Good.{rowsAll}
+use Rattle.file_as_records.proofs.Figures.{is, never, amountAs, lettersIn, openedIn, itemsSince, debitSince}
 use Rattle.arrangement.specs.Tree.{Addenda, ofCheck, ofReturn, Item, Bundle, CashLetter, File}
 use Rattle.arrangement.specs.Written.{itemsThen, bundlesThen, lettersThen, records}
 use Rattle.arrangement.specs.Sound.{All, total, layoutIn, layoutOf, amount, debitOf, debitIn}
 use Rattle.arrangement.specs.TypesInPlace.{OfType, TypedItem, TypedBundle, TypedLetter, Typed}
-use Rattle.arrangement.specs.Rows.{Placed, placed, itemPlaces, bundlePlaces, letterPlaces, places, rows}
+use Rattle.arrangement.specs.RowsAndTotals.{Placed, placed, itemPlaces, bundlePlaces, letterPlaces, places, rows}
 use Rattle.arrangement.proofs.After.{afterItem, afterItems, afterBundle, afterBundles, afterLetter, afterLetters, onto-letters}
 use Rattle.arrangement.proofs.Quiet.{step, quiet-step, quiet-bundle}
 use Rattle.arrangement.proofs.Counting.{adding, count-bundle, count-letter}

@@ -4,12 +4,12 @@ use native.Mathlib.Omega.{arith}
 use mathlib.Core.Path.{_≡_, refl}
 use mathlib.Core.List.{List, [], _∷_, _++_}
 use mathlib.Core.Option.{none, some}
-use mathlib.Core.Bool.{Bool, true, false, _||_}
+use mathlib.Core.Bool.{Bool, true, false, _||_, cond}
 use lib.Dec.{eqb}
 use borrow.Author.Tests.{eqb-true}
-use Rattle.kind.specs.Alone.{typeOf}
-use Rattle.order.specs.Order.{After, table, follows, isOneOf, inTable, pickBool}
-use Rattle.framing.specs.Framed.{Body}
+use Rattle.judge.specs.Alone.{typeOf}
+use Rattle.order.specs.MayFollow.{After, table, follows, isOneOf, inTable}
+use Rattle.file_as_records.specs.Framed.{Body}
 use Rattle.arrangement.specs.Tree.{ofCheck, ofReturn, File}
 use Rattle.arrangement.specs.Written.{optionalThen, viewsThen, itemsThen, bundlesThen, lettersThen, records}
 use Rattle.arrangement.specs.Sound.{All, IfAny}
@@ -62,25 +62,21 @@ OfCheck = Several 26 (Perhaps 27 (Several 28 Views))
 abbrev OfReturn : Shape
 OfReturn = Several 32 (One 33 (Perhaps 34 (Several 35 Views)))
 
-abbrev pickShape : Bool → Shape → Shape → Shape
-pickShape true a b = a
-pickShape false a b = b
-
 -- the rest after a record of a type; 0 is the start
 abbrev Rest : ℕ → Shape
 Rest t =
-    pickShape (eqb t 0) (One 1 Letters)
-    (pickShape (isOneOf t (1 ∷ 90 ∷ [])) Letters
-    (pickShape (isOneOf t (10 ∷ 70 ∷ [])) Bundles
-    (pickShape (eqb t 20) Items
-    (pickShape (isOneOf t (25 ∷ 26 ∷ [])) OfCheck
-    (pickShape (isOneOf t (27 ∷ 28 ∷ [])) (Several 28 Views)
-    (pickShape (isOneOf t (31 ∷ 32 ∷ [])) OfReturn
-    (pickShape (eqb t 33) (Perhaps 34 (Several 35 Views))
-    (pickShape (isOneOf t (34 ∷ 35 ∷ [])) (Several 35 Views)
-    (pickShape (eqb t 50) Image
-    (pickShape (eqb t 52) (Perhaps 54 Views)
-    (pickShape (eqb t 54) Views Nothing)))))))))))
+    cond (eqb t 0) (One 1 Letters)
+    (cond (isOneOf t (1 ∷ 90 ∷ [])) Letters
+    (cond (isOneOf t (10 ∷ 70 ∷ [])) Bundles
+    (cond (eqb t 20) Items
+    (cond (isOneOf t (25 ∷ 26 ∷ [])) OfCheck
+    (cond (isOneOf t (27 ∷ 28 ∷ [])) (Several 28 Views)
+    (cond (isOneOf t (31 ∷ 32 ∷ [])) OfReturn
+    (cond (eqb t 33) (Perhaps 34 (Several 35 Views))
+    (cond (isOneOf t (34 ∷ 35 ∷ [])) (Several 35 Views)
+    (cond (eqb t 50) Image
+    (cond (eqb t 52) (Perhaps 54 Views)
+    (cond (eqb t 54) Views Nothing)))))))))))
 
 -- with a record of the type t before it, a P is a Q
 abbrev Before : ℕ → Shape → Shape → Type 0
@@ -152,7 +148,7 @@ or-picks : {R : Type 0} (c d : Bool) → c || d ≡ true → (c ≡ true → R) 
 or-picks true d f g h = g refl
 or-picks false d f g h = h f
 
-pick-picks : {R : Type 0} (c d e : Bool) → pickBool c d e ≡ true → (c ≡ true → d ≡ true → R) → (e ≡ true → R) → R
+pick-picks : {R : Type 0} (c d e : Bool) → cond c d e ≡ true → (c ≡ true → d ≡ true → R) → (e ≡ true → R) → R
 pick-picks true d e f g h = g refl f
 pick-picks false d e f g h = h f
 

@@ -2,9 +2,9 @@
 use Prim.Native.Nat.{ℕ, _+_}
 use mathlib.Core.Option.{Option, none, some}
 use mathlib.Core.List.{List, [], _∷_}
-use Rattle.kind.specs.Layout.{Kind}
-use Rattle.kind.specs.Kinds.{checkDetailAddendumA, checkDetailAddendumB, checkDetailAddendumC, returnAddendumA, returnAddendumC, returnAddendumD, imageViewAnalysis}
-use Rattle.framing.specs.Framed.{Body}
+use Rattle.layout.specs.Layout.{Layout}
+use Rattle.layout.specs.Layouts.{checkDetailAddendumA, checkDetailAddendumB, checkDetailAddendumC, returnAddendumA, returnAddendumC, returnAddendumD, imageViewAnalysis}
+use Rattle.file_as_records.specs.Framed.{Body}
 use Rattle.arrangement.specs.Tree.{View, Addenda, ofCheck, ofReturn, Item, Bundle, CashLetter, File}
 use Rattle.arrangement.specs.Sound.{All, IfAny, Right, Numbered, SoundAddenda, SoundView, SoundItem, SoundBundle, SoundLetter, Sound}
 use Rattle.arrangement.specs.TypesInPlace.{OfType, TypedView, TypedAddenda, TypedItem, TypedBundle, TypedLetter, Typed}
@@ -14,7 +14,7 @@ all-map : {A : Type 0} (P Q : A → Type 0) → ((x : A) → P x → Q x) → (x
 all-map P Q turn [] h = tt
 all-map P Q turn (x ∷ xs) h = (turn x (h .0), all-map P Q turn xs (h .1))
 
-module _ (k : Kind) where
+module _ (k : Layout) where
   any-typed : (o : Option Body) → IfAny (Right k) o → IfAny (OfType (k .typeNumber)) o
   any-typed none h = tt
   any-typed (some b) h = h .type

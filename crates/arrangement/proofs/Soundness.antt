@@ -6,12 +6,12 @@ use mathlib.Core.Logic.{_⊎_, inl, inr}
 use mathlib.Core.Path.{_≡_, refl, sym, _∙_}
 use mathlib.Core.List.{List, [], _∷_}
 use lib.ListN.{length}
-use Rattle.kind.specs.Kinds.{fileHeader, cashLetterHeader, cashLetterControl, fileControl}
-use Rattle.kind.specs.Alone.{typeOf}
-use Rattle.order.specs.Order.{follows}
-use Rattle.framing.specs.Framed.{Body}
-use Rattle.framing.proofs.Figures.{indicatorIn, openedIn}
-use Rattle.framing.proofs.Good.{GoodAll}
+use Rattle.layout.specs.Layouts.{fileHeader, cashLetterHeader, cashLetterControl, fileControl}
+use Rattle.judge.specs.Alone.{typeOf}
+use Rattle.order.specs.MayFollow.{follows}
+use Rattle.file_as_records.specs.Framed.{Body}
+use Rattle.file_as_records.proofs.Figures.{indicatorIn, openedIn}
+use Rattle.file_as_records.proofs.Good.{GoodAll}
 use Rattle.arrangement.specs.Tree.{CashLetter, File}
 use Rattle.arrangement.specs.Written.{letterThen, lettersThen, records}
 use Rattle.arrangement.specs.Sound.{All, indicator, N, SoundLetter, Sound}

@@ -5,9 +5,9 @@ use mathlib.Core.Path.{_≡_, ap, _∙_}
 use mathlib.Core.List.{List, [], _∷_}
 use mathlib.Core.Option.{Option}
 use lib.ListN.{length}
-use Rattle.framing.specs.Framed.{Body}
-use Rattle.framing.proofs.Figures.{value}
-use Rattle.framing.proofs.Good.{onto}
+use Rattle.file_as_records.specs.Framed.{Body}
+use Rattle.file_as_records.proofs.Figures.{value}
+use Rattle.file_as_records.proofs.Good.{onto}
 use Rattle.arrangement.specs.Tree.{Addenda, ofCheck, ofReturn, Item, Bundle, CashLetter, File}
 use Rattle.arrangement.specs.Written.{records}
 use Rattle.arrangement.specs.Sound.{All, total, layoutIn, stated, viewsOf}

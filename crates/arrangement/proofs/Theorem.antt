@@ -1,31 +1,31 @@
 -- Demand 3, proved: the reading accepts exactly the files that have an arrangement, and gives its rows and totals. Assumes nothing.
 use Prim.Native.Nat.{ℕ, _*_, _/_, _≤_, _<_}
 use native.Mathlib.Omega.{arith}
-use mathlib.Core.Bool.{Bool, true, false}
+use mathlib.Core.Bool.{Bool, true, false, cond}
 use mathlib.Core.Path.{_≡_, refl, sym, ap, _∙_, subst}
 use mathlib.Core.List.{List, [], _∷_, _++_}
 use lib.Dec.{leb}
 use lib.ListN.{length, drop}
 use borrow.Author.Tests.{leb-true, le-leb, lt-leb}
-use Rattle.kind.specs.Alone.{typeOf}
-use Rattle.reading.specs.declared.Fault.{Fault}
-use Rattle.reading.specs.declared.Fault.the-variants.{Room}
-use Rattle.reading.specs.declared.Totals.{Totals}
-use Rattle.reading.specs.declared.Answer.{Answer}
-use Rattle.reading.specs.declared.Answer.the-variants.{Accepted, Refused}
-use Rattle.reading.specs.Rows.{rowsOf}
-use Rattle.reading.specs.Reading.{pickAnswer, surveyed, inRoom, answerOf, tableAfter, tableOf}
-use Rattle.reading.proofs.Passes.{accepted-small}
-use Rattle.framing.specs.Framed.{Body, framed}
-use Rattle.framing.proofs.Good.{GoodAll}
-use Rattle.framing.proofs.Figures.{lastIn}
-use Rattle.framing.proofs.LengthFields.{Bytes, one-framing}
-use Rattle.framing.proofs.Accepted.{accepted-records}
-use Rattle.framing.proofs.ReadThrough.{records-accepted}
+use Rattle.judge.specs.Alone.{typeOf}
+use Rattle.passes.specs.declared.Fault.{Fault}
+use Rattle.passes.specs.declared.Fault.the-variants.{Room}
+use Rattle.passes.specs.declared.Totals.{Totals}
+use Rattle.passes.specs.declared.Answer.{Answer}
+use Rattle.passes.specs.declared.Answer.the-variants.{Accepted, Refused}
+use Rattle.passes.specs.Rows.{rowsOf}
+use Rattle.passes.specs.Reading.{surveyed, inRoom, answerOf, tableAfter, tableOf}
+use Rattle.passes.proofs.Passes.{accepted-small}
+use Rattle.file_as_records.specs.Framed.{Body, framed}
+use Rattle.file_as_records.proofs.Good.{GoodAll}
+use Rattle.file_as_records.proofs.Figures.{lastIn}
+use Rattle.file_as_records.proofs.LengthFields.{Bytes, one-framing}
+use Rattle.file_as_records.proofs.Accepted.{accepted-records}
+use Rattle.file_as_records.proofs.ReadThrough.{records-accepted}
 use Rattle.arrangement.specs.Tree.{File}
 use Rattle.arrangement.specs.Written.{records, written}
 use Rattle.arrangement.specs.TypesInPlace.{Typed}
-use Rattle.arrangement.specs.Rows.{rows, totals}
+use Rattle.arrangement.specs.RowsAndTotals.{rows, totals}
 use Rattle.arrangement.specs.Arranged.{Arranges, HasRoom, Arranged}
 use Rattle.arrangement.proofs.Turns.{follows-in}
 use Rattle.arrangement.proofs.RowsAgree.{rows-of}
@@ -44,7 +44,7 @@ refused-not : (fault : Fault) (n o : ℕ) (t : Totals) → Refused fault n o ≡
 refused-not fault n o t e = let z : _≡_ {A = ℕ} 0 1 = cc in omega arith
 
 -- accepted with room: accepted by the survey, and rows for all
-picked-room : (b : Bool) (u t : Totals) (n : ℕ) → pickAnswer b (Accepted u) (Refused Room n 0) ≡ Accepted t → b ≡ true
+picked-room : (b : Bool) (u t : Totals) (n : ℕ) → cond b (Accepted u) (Refused Room n 0) ≡ Accepted t → b ≡ true
 picked-room true u t n e = refl
 picked-room false u t n e = absurd (refused-not Room n 0 t e)
 

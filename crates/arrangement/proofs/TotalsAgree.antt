@@ -5,15 +5,15 @@ use native.Mathlib.Omega.{arith}
 use mathlib.Core.Path.{_≡_}
 use mathlib.Core.List.{[]}
 use lib.ListN.{length}
-use Rattle.order.specs.Order.{isItem}
-use Rattle.framing.specs.Framed.{Body}
-use Rattle.framing.proofs.Good.{onto, totalsAfter}
-use Rattle.framing.proofs.Figures.{count, is, never, amountAs, lettersIn, bundlesIn, itemsSince, debitSince, viewsSince}
+use Rattle.order.specs.MayFollow.{isItem}
+use Rattle.file_as_records.specs.Framed.{Body}
+use Rattle.file_as_records.proofs.Good.{onto, totalsAfter}
+use Rattle.file_as_records.proofs.Figures.{count, is, never, amountAs, lettersIn, bundlesIn, itemsSince, debitSince, viewsSince}
 use Rattle.arrangement.specs.Tree.{CashLetter, File}
 use Rattle.arrangement.specs.Written.{records}
 use Rattle.arrangement.specs.Sound.{total, viewsOf, debitOf, debitIn, itemsIn, viewsIn}
 use Rattle.arrangement.specs.TypesInPlace.{Typed}
-use Rattle.arrangement.specs.Rows.{totals}
+use Rattle.arrangement.specs.RowsAndTotals.{totals}
 use Rattle.arrangement.proofs.After.{length-onto}
 use Rattle.arrangement.proofs.Counting.{adding}
 use Rattle.arrangement.proofs.Sums.{items-sum, items-counted, items-views, file-sum, file-sum-by-letters, file-sum-by-bundles, amountIn, bundles-counted, letters-counted}

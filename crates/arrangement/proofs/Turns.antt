@@ -7,13 +7,13 @@ use mathlib.Core.Path.{ap, _∙_, _≡_, refl, sym, subst}
 use mathlib.Core.List.{List, _∷_}
 use lib.Dec.{leb, eqb}
 use borrow.Author.Tests.{leb-true, le-leb, ltb-true, eqb-true, eq-eqb, ne-eqb, eqb-false}
-use Rattle.kind.specs.Alone.{typeOf}
-use Rattle.order.specs.Order.{isItem, isAddendum, mayFollow, follows, oneKind}
+use Rattle.judge.specs.Alone.{typeOf}
+use Rattle.order.specs.MayFollow.{isItem, isAddendum, mayFollow, follows, oneItemType}
 use Rattle.agree.specs.Links.{addendaKept, annexB}
-use Rattle.framing.specs.Framed.{Body}
-use Rattle.framing.proofs.Good.{Good, GoodAs, GoodAll}
-use Rattle.framing.proofs.Figures.{is, statedIn, addendaIn, shownIn, openedIn, indicatorIn, itemsSince, lastIn, presentIn}
-use Rattle.framing.proofs.Tests.{both, not-both}
+use Rattle.file_as_records.specs.Framed.{Body}
+use Rattle.file_as_records.proofs.Good.{Good, GoodAs, GoodAll}
+use Rattle.file_as_records.proofs.Figures.{is, statedIn, addendaIn, shownIn, openedIn, indicatorIn, itemsSince, lastIn, presentIn}
+use Rattle.file_as_records.proofs.Tests.{both, not-both}
 use Rattle.arrangement.specs.Sound.{N, E, I, F}
 
 -- tests of Annex B
@@ -114,7 +114,7 @@ module _ (t : ℕ) (past : List Body) (b : Body) (g : GoodAs t past b) where
 
   pub follows-in : follows (lastIn past) t ≡ true
   unfolding mayFollow
-  follows-in = both (follows (lastIn past) t) (oneKind (presentIn past) t) (g .follows) .0
+  follows-in = both (follows (lastIn past) t) (oneItemType (presentIn past) t) (g .follows) .0
 
 module _ (past : List Body) (b : Body) where
   pub bundle-in : GoodAs 20 past b → indicatorIn past ≡ N → ⊥
@@ -140,7 +140,7 @@ module _ (t : ℕ) (past : List Body) (b : Body) (g : GoodAs t past b) where
   pub item-type-in : isItem t ≡ true → (presentIn past ≡ 0) ⊎ (presentIn past ≡ t)
   unfolding mayFollow
   item-type-in h =
-      let same = both (follows (lastIn past) t) (oneKind (presentIn past) t) (g .follows) .1 in
+      let same = both (follows (lastIn past) t) (oneItemType (presentIn past) t) (g .follows) .1 in
       turn (either-in (eqb (presentIn past) 0) (eqb (presentIn past) t) (rw h at same))
     where
       turn : (eqb (presentIn past) 0 ≡ true) ⊎ (eqb (presentIn past) t ≡ true) → (presentIn past ≡ 0) ⊎ (presentIn past ≡ t)

@@ -1,13 +1,14 @@
 -- No list of records is two arrangements: after a part that may go on stand only records of a later turn than its own. Assumes nothing.
+use mathlib.Core.Bool.{cond}
 use Prim.Native.Nat.{ℕ, _+_, _≤_}
 use native.Mathlib.Omega.{arith}
 use mathlib.Core.Path.{_≡_, refl, sym, ap, _∙_}
 use mathlib.Core.List.{List, [], _∷_, _++_}
 use mathlib.Core.Option.{Option, none, some}
 use lib.Dec.{eqb}
-use Rattle.kind.specs.Alone.{typeOf}
-use Rattle.order.specs.Order.{pickNumber, isItem}
-use Rattle.framing.specs.Framed.{Body}
+use Rattle.judge.specs.Alone.{typeOf}
+use Rattle.order.specs.MayFollow.{isItem}
+use Rattle.file_as_records.specs.Framed.{Body}
 use Rattle.arrangement.specs.Tree.{View, Addenda, ofCheck, ofReturn, Item, Bundle, CashLetter, File}
 use Rattle.arrangement.specs.Written.{optionalThen, viewThen, viewsThen, itemThen, itemsThen, bundleThen, bundlesThen, letterThen, lettersThen, records}
 use Rattle.arrangement.specs.Sound.{All, IfAny, layoutIn}
@@ -15,7 +16,7 @@ use Rattle.arrangement.specs.TypesInPlace.{OfType, TypedView, TypedItem,
 
 -- the turn of a type: its number, but a 50 after a 54, an item after its views, a 20 after a 70 and a 10 after a 90
 abbrev turn : ℕ → ℕ
-turn t = pickNumber (eqb t 50) 55 (pickNumber (isItem t) 60 (pickNumber (eqb t 20) 80 (pickNumber (eqb t 10) 95 t)))
+turn t = cond (eqb t 50) 55 (cond (isItem t) 60 (cond (eqb t 20) 80 (cond (eqb t 10) 95 t)))
 
 -- the turn of the record that comes next
 abbrev next : List Body → ℕ

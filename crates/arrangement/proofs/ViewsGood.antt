@@ -6,12 +6,12 @@ use mathlib.Core.Option.{Option, none, some}
 use mathlib.Core.Path.{_≡_, refl, sym, ap, _∙_, subst}
 use mathlib.Core.List.{List, [], _∷_}
 use lib.ListN.{length}
-use Rattle.kind.specs.Kinds.{bundleHeader, imageViewAnalysis}
-use Rattle.order.specs.Order.{isCarried, follows}
-use Rattle.framing.specs.Framed.{Body, fieldOf}
-use Rattle.framing.proofs.Figures.{is, newest, lastIn}
-use Rattle.framing.proofs.Good.{GoodAll}
-use Rattle.framing.proofs.Links.{ViewLinked}
+use Rattle.layout.specs.Layouts.{bundleHeader, imageViewAnalysis}
+use Rattle.order.specs.MayFollow.{isCarried, follows}
+use Rattle.file_as_records.specs.Framed.{Body, fieldOf}
+use Rattle.file_as_records.proofs.Figures.{is, newest, lastIn}
+use Rattle.file_as_records.proofs.Good.{GoodAll}
+use Rattle.file_as_records.proofs.Links.{ViewLinked}
 use Rattle.arrangement.specs.Tree.{View, Addenda, ofCheck, ofReturn, Item}
 use Rattle.arrangement.specs.Written.{optionalThen, viewThen, viewsThen}
 use Rattle.arrangement.specs.Sound.{All, IfAny, Right, indicator, E, SoundView}

@@ -4,10 +4,10 @@ use mathlib.Core.Option.{Option, none, some}
 use mathlib.Core.Path.{_≡_, refl, ap, _∙_}
 use mathlib.Core.List.{List, [], _∷_}
 use lib.ListN.{length}
-use Rattle.kind.specs.Kinds.{bundleHeader, imageViewDetail, imageViewData, imageViewAnalysis}
-use Rattle.framing.specs.Framed.{Body, fieldOf}
-use Rattle.framing.proofs.Figures.{is, newest}
-use Rattle.framing.proofs.Good.{GoodAll}
+use Rattle.layout.specs.Layouts.{bundleHeader, imageViewDetail, imageViewData, imageViewAnalysis}
+use Rattle.file_as_records.specs.Framed.{Body, fieldOf}
+use Rattle.file_as_records.proofs.Figures.{is, newest}
+use Rattle.file_as_records.proofs.Good.{GoodAll}
 use Rattle.arrangement.specs.Tree.{View, Item}
 use Rattle.arrangement.specs.Written.{optionalThen, viewThen, viewsThen}
 use Rattle.arrangement.specs.Sound.{All, IfAny, Right, indicator, E, SoundView}

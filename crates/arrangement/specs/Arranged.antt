@@ -5,15 +5,15 @@ use mathlib.Core.Logic.{_↔_}
 use mathlib.Core.Path.{_≡_}
 use mathlib.Core.List.{List, _++_}
 use lib.ListN.{length, drop}
-use Rattle.kind.specs.Kinds.{fileControl}
-use Rattle.reading.specs.declared.Fault.the-variants.{Room}
-use Rattle.reading.specs.declared.Totals.{Totals}
-use Rattle.reading.specs.declared.Answer.{Answer}
-use Rattle.reading.specs.declared.Answer.the-variants.{Accepted, Refused}
+use Rattle.layout.specs.Layouts.{fileControl}
+use Rattle.passes.specs.declared.Fault.the-variants.{Room}
+use Rattle.passes.specs.declared.Totals.{Totals}
+use Rattle.passes.specs.declared.Answer.{Answer}
+use Rattle.passes.specs.declared.Answer.the-variants.{Accepted, Refused}
 use Rattle.arrangement.specs.Tree.{File}
 use Rattle.arrangement.specs.Written.{records, written}
 use Rattle.arrangement.specs.Sound.{stated, Sound}
-use Rattle.arrangement.specs.Rows.{rows, totals}
+use Rattle.arrangement.specs.RowsAndTotals.{rows, totals}
 
 -- an arrangement of a file within the size limit: sound, and written out it is the file
 pub record Arranges (file : List ℕ) (x : File) : Type 0 where

@@ -2,5 +2,5 @@ pub mod Tree
 pub mod Written
 pub mod Sound
 pub mod TypesInPlace
-pub mod Rows
+pub mod RowsAndTotals
 pub mod Arranged

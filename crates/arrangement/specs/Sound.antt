@@ -1,6 +1,6 @@
 -- What is right about an arrangement, from document 01's "Fields, links and sums" and the clauses beside each line.
 use Prim.Native.Nat.{ℕ, _+_, _≤_}
-use mathlib.Core.Bool.{true, false}
+use mathlib.Core.Bool.{true, false, cond}
 use mathlib.Core.Logic.{_⊎_}
 use mathlib.Core.Path.{_≡_}
 use mathlib.Core.List.{List, [], _∷_}
@@ -10,11 +10,10 @@ use lib.ListN.{length, getD, take, drop}
 use Rattle.text.specs.Characters.{isBlank, capital}
 use Rattle.text.specs.DataTypes.{every, ofType}
 use Rattle.text.specs.Number.{number}
-use Rattle.kind.specs.Layout.{Line, Kind}
-use Rattle.kind.specs.Kinds.{fileHeader, cashLetterHeader, bundleHeader, checkDetail, checkDetailAddendumA, checkDetailAddendumB, checkDetailAddendumC, returnRecord, returnAddendumA, returnAddendumB, returnAddendumC, returnAddendumD, imageViewDetail, imageViewData, imageViewAnalysis, bundleControl, cashLetterControl, fileControl}
-use Rattle.kind.specs.Alone.{typeOf, lineHolds, Sized, sizedParts, statedSize, statedSizes}
-use Rattle.order.specs.Order.{pickNumber}
-use Rattle.framing.specs.Framed.{Body, fieldOf}
+use Rattle.layout.specs.Layout.{Line, Layout, Sized, sizedParts}
+use Rattle.layout.specs.Layouts.{fileHeader, cashLetterHeader, bundleHeader, checkDetail, checkDetailAddendumA, checkDetailAddendumB, checkDetailAddendumC, returnRecord, returnAddendumA, returnAddendumB, returnAddendumC, returnAddendumD, imageViewDetail, imageViewData, imageViewAnalysis, bundleControl, cashLetterControl, fileControl}
+use Rattle.judge.specs.Alone.{typeOf, lineHolds, statedSize, statedSizes}
+use Rattle.file_as_records.specs.Framed.{Body, fieldOf}
 use Rattle.arrangement.specs.Tree.{View, Addenda, ofCheck, ofReturn, Item, Bundle, CashLetter, File}
 use Rattle.arrangement.specs.Written.{addendaThen, records}
 
@@ -37,32 +36,32 @@ PartsRight [] b rest = Unit {0}
 PartsRight (s ∷ ss) b rest = (ofType (s .dataType) (take (statedSize s b) rest) ≡ true) × PartsRight ss b (drop (statedSize s b) rest)
 
 -- a record of a layout, alone: its type, its length, each of its fields
-pub record Right (k : Kind) (b : Body) : Type 0 where
+pub record Right (k : Layout) (b : Body) : Type 0 where
   pub type : typeOf b ≡ k .typeNumber
   pub long : length b ≡ k .fixedLength + statedSizes (sizedParts k) b
   pub fields : All (λ (l : Line). lineHolds l b ≡ true) (k .lines)
   pub parts : PartsRight (sizedParts k) b (drop (k .fixedLength) b)
 
 -- the number that a field states
-abbrev pub stated : Kind → ℕ → Body → ℕ
+abbrev pub stated : Layout → ℕ → Body → ℕ
 stated k n b = number (fieldOf k n b)
 
 -- a record of a layout whose record number, field 2, is n; and records whose numbers run on from n
-pub record RightAt (k : Kind) (n : ℕ) (b : Body) : Type 0 where
+pub record RightAt (k : Layout) (n : ℕ) (b : Body) : Type 0 where
   pub right : Right k b
   pub number : stated k 2 b ≡ n
 
-abbrev pub Numbered : Kind → ℕ → List Body → Type 0
+abbrev pub Numbered : Layout → ℕ → List Body → Type 0
 Numbered k n [] = Unit {0}
 Numbered k n (b ∷ bs) = RightAt k n b × Numbered k (n + 1) bs
 
 -- what an item is and says: its type, its amount (field 6), its sequence number (field 7), and how many addenda it has (field 12 of a 25,
 -- field 8 of a 31)
-abbrev pub layoutIn : Addenda → Kind
+abbrev pub layoutIn : Addenda → Layout
 layoutIn (ofCheck a b c) = checkDetail
 layoutIn (ofReturn a b c d) = returnRecord
 
-abbrev pub layoutOf : Item → Kind
+abbrev pub layoutOf : Item → Layout
 layoutOf i = layoutIn (i .addenda)
 
 abbrev pub amount : Item → ℕ
@@ -80,7 +79,7 @@ statedAddenda i = statedIn (i .addenda) (i .detail)
 
 -- "cents of the 25s whose MICR Valid Indicator is 1": field 10
 abbrev pub micrIn : Addenda → Body → ℕ
-micrIn (ofCheck a b c) detail = pickNumber (eqb (stated checkDetail 10 detail) 1) (stated checkDetail 6 detail) 0
+micrIn (ofCheck a b c) detail = cond (eqb (stated checkDetail 10 detail) 1) (stated checkDetail 6 detail) 0
 micrIn (ofReturn a b c d) detail = 0
 
 abbrev pub micr : Item → ℕ

@@ -1,7 +1,7 @@
 -- What a file consists of (clause 6 and Figures 1 and 2): each record is the list of its bytes.
 use mathlib.Core.List.{List}
 use mathlib.Core.Option.{Option}
-use Rattle.framing.specs.Framed.{Body}
+use Rattle.file_as_records.specs.Framed.{Body}
 
 -- a view: its 50, its 52, and perhaps a 54
 pub record View : Type 0 where

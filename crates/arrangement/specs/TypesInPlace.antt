@@ -3,8 +3,8 @@ use mathlib.Core.Path.{_≡_}
 use mathlib.Core.List.{List}
 use mathlib.Core.Option.{Option}
 use Prim.Native.Nat.{ℕ}
-use Rattle.kind.specs.Alone.{typeOf}
-use Rattle.framing.specs.Framed.{Body}
+use Rattle.judge.specs.Alone.{typeOf}
+use Rattle.file_as_records.specs.Framed.{Body}
 use Rattle.arrangement.specs.Tree.{View, Addenda, ofCheck, ofReturn, Item, Bundle, CashLetter, File}
 use Rattle.arrangement.specs.Sound.{All, IfAny, layoutOf}
 

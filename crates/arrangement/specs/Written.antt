@@ -2,7 +2,7 @@
 use Prim.Native.Nat.{ℕ}
 use mathlib.Core.List.{List, [], _∷_, _++_}
 use mathlib.Core.Option.{Option, none, some}
-use Rattle.framing.specs.Framed.{Body, framed}
+use Rattle.file_as_records.specs.Framed.{Body, framed}
 use Rattle.arrangement.specs.Tree.{View, Addenda, ofCheck, ofReturn, Item, Bundle, CashLetter, File}
 
 -- Each of these gives the records of a part, and then `rest`, those that follow it.

@@ -9,8 +9,9 @@ use lib.Dec.{leb}
 use mathlib.Core.Bool.{Bool, true, false}
 use lib.ListN.{length, take, drop, drop-of-length-le, length-drop}
 use lib.Seq.{take-all, take-nil}
-use Rattle.frame.specs.Frames.{part, lengthIn, lengthAt, frameAt, unlessFrame}
+use Rattle.frame.specs.Frames.{part, lengthIn, lengthAt, frameAt}
 use Rattle.frame.specs.declared.Frame.the-variants.{Cut, Whole}
+use Rattle.frame.specs.Unless.{unless}
 
 module _ (xs : List ℕ) (start size : ℕ) where
   -- nothing stands past the end
@@ -42,7 +43,7 @@ module _ (file : List ℕ) (offset : ℕ) where
   unfolding frameAt
   whole l = rw (le-leb (offset + 4) (length file) (omega arith), le-leb _ _ l)
 
-both-tests : (t u : Bool) {start size s n : ℕ} → unlessFrame t Cut (unlessFrame u Cut (Whole start size)) ≡ Whole s n
+both-tests : (t u : Bool) {start size s n : ℕ} → unless t Cut (unless u Cut (Whole start size)) ≡ Whole s n
     → (u ≡ true) × (start ≡ s) × (size ≡ n)
 both-tests true true e = (refl, (cc), (cc))
 both-tests true false e = ((cc), (cc), (cc))

@@ -6,6 +6,7 @@ use lib.Dec.{leb}
 use lib.ListN.{length, getD, take, drop}
 use Rattle.frame.specs.declared.Frame.{Frame}
 use Rattle.frame.specs.declared.Frame.the-variants.{Cut, Whole}
+use Rattle.frame.specs.Unless.{unless}
 
 -- bytes of a list from a place on, as far as there are any
 abbrev pub part : ℕ → ℕ → List ℕ → List ℕ
@@ -19,13 +20,9 @@ lengthIn xs = getD xs 0 0 * 0x100_0000 + getD xs 1 0 * 0x1_0000 + getD xs 2 0 * 
 abbrev pub lengthAt : List ℕ → ℕ → ℕ
 lengthAt file offset = lengthIn (drop offset file)
 
-abbrev pub unlessFrame : Bool → Frame → Frame → Frame
-unlessFrame true otherwise frame = frame
-unlessFrame false otherwise frame = otherwise
-
 -- The record whose length stands at an offset. CUT (document 01): "fewer than 4 bytes left, or fewer left than the length says".
 -- Else where its body starts, and how long it is.
 unfoldable pub frameAt : List ℕ → ℕ → Frame
 frameAt file offset =
-    unlessFrame (leb (offset + 4) (length file)) Cut
-    (unlessFrame (leb (offset + 4 + lengthAt file offset) (length file)) Cut (Whole (offset + 4) (lengthAt file offset)))
+    unless (leb (offset + 4) (length file)) Cut
+    (unless (leb (offset + 4 + lengthAt file offset) (length file)) Cut (Whole (offset + 4) (lengthAt file offset)))

@@ -16,14 +16,14 @@ use Rattle.field.specs.declared.Usage.{Usage}
 use Rattle.field.specs.declared.Usage.the-variants.{Mandatory, Conditional}
 use Rattle.field.specs.declared.Rule.{Rule}
 use Rattle.field.specs.Rules.{follows, meets, leftBlank, holds}
-use Rattle.layout.specs.Layout.{Sized, sizedParts}
-use Rattle.judge.specs.Alone.{lineHolds, firstWrong, statedSize, statedSizes, firstWrongPart, isVariable, unless, judged, alone}
+use Rattle.layout.specs.Layout.{Sized, sizedParts, Line}
+use Rattle.judge.specs.Alone.{lineHolds, firstWrong, statedSize, statedSizes, firstWrongPart, isVariable, judged, alone}
 use Rattle.layout.specs.Layouts.{imageViewData}
 use Rattle.judge.specs.Image.{imageStart, imageSize}
-use Rattle.layout.specs.Layout.{Line}
 use Rattle.judge.specs.declared.Judged.{Judged}
 use Rattle.judge.specs.declared.Judged.the-variants.{Sound, WrongLength, WrongField}
 use Rattle.layout.specs.Packing.{lineOf, linesFrom, liesWithin, sizedOf, sizedFrom}
+use Rattle.frame.specs.Unless.{unless}
 
 pub both-true : (a b : Bool) → a && b ≡ true → (a ≡ true) × (b ≡ true)
 both-true true b e = (refl, e)

@@ -14,6 +14,7 @@ use Rattle.layout.specs.Layout.{Line, Layout, Sized, sizedParts}
 use Rattle.layout.specs.Layouts.{layouts}
 use Rattle.judge.specs.declared.Judged.{Judged}
 use Rattle.judge.specs.declared.Judged.the-variants.{Sound, WrongLength, UnknownType, WrongField}
+use Rattle.frame.specs.Unless.{unless}
 
 -- document 01's number of each answer, and its field
 abbrev pub numberOf : Judged → ℕ
@@ -59,10 +60,6 @@ firstWrongPart (s ∷ ss) body rest =
 abbrev pub isVariable : List Sized → Bool
 isVariable [] = false
 isVariable (s ∷ ss) = true
-
-abbrev pub unless : Bool → Judged → Judged → Judged
-unless true otherwise judged = judged
-unless false otherwise judged = otherwise
 
 abbrev pub unlessField : ℕ → Judged → Judged
 unlessField n judged = unless (eqb n 0) (WrongField n) judged

@@ -30,10 +30,6 @@ noSums = sums 0 0 0
 abbrev pub together : Sums → Sums → Sums
 together a b = sums (a .items .0 + b .items .0) (a .debit .0 + b .debit .0) (a .views .0 + b .views .0)
 
-abbrev pub pickSums : Bool → Sums → Sums → Sums
-pickSums true a b = a
-pickSums false a b = b
-
 -- sums that leave room in 64 bits for as much again
 pub record Small (s : Sums) : Type 0 where
   pub items : s .items .0 < 0x4000_0000_0000_0000

@@ -1,7 +1,8 @@
 // Cents, items, views and records: each a measure of its own, so that no sum can blend them.
+ghost use mathlib.Core.Bool.{cond};
 ghost use mathlib.Core.Path.{_≡_};
 ghost use Prim.Native.Nat.{_+_, _<_};
-ghost use Rattle.measure.specs.Measures.{cents, items, views, noSums, together, pickSums, Small};
+ghost use Rattle.measure.specs.Measures.{cents, items, views, noSums, together, Small};
 
 pub struct Cents(pub u64);
 
@@ -59,7 +60,7 @@ impl Sums {
     // These sums with what one record adds, or none where the record begins the level anew.
     pub fn since(self, begins: bool, added: Sums) -> Sums
         requires { ⌜ Small self × Small added ⌝ }
-        ensures { λ r. ⌜ r ≡ pickSums begins noSums (together added self) ⌝ }
+        ensures { λ r. ⌜ r ≡ cond begins noSums (together added self) ⌝ }
     {
         if begins {
             return Self::none();

@@ -1,6 +1,6 @@
 // Which record may follow.
 ghost use mathlib.Core.Path.{_≡_};
-ghost use Rattle.order.specs.Order.{isCarried, follows, isItem, isAddendum, mayFollow};
+ghost use Rattle.order.specs.MayFollow.{isCarried, follows, isItem, isAddendum, mayFollow};
 
 pub fn is_item(kind: u64) -> bool
     ensures { λ r. ⌜ r ≡ isItem kind ⌝ }

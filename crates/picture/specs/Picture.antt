@@ -7,13 +7,14 @@ use lib.ListN.{length}
 use Rattle.frame.specs.declared.Frame.{Frame}
 use Rattle.frame.specs.declared.Frame.the-variants.{Cut, Whole}
 use Rattle.frame.specs.Frames.{part, frameAt}
-use Rattle.kind.specs.declared.Judged.{Judged}
-use Rattle.kind.specs.declared.Judged.the-variants.{Sound, WrongLength, UnknownType, WrongField}
-use Rattle.kind.specs.Kinds.{imageViewData}
-use Rattle.kind.specs.Alone.{typeOf, alone}
-use Rattle.kind.specs.Image.{imageStart, imageSize}
+use Rattle.judge.specs.declared.Judged.{Judged}
+use Rattle.judge.specs.declared.Judged.the-variants.{Sound, WrongLength, UnknownType, WrongField}
+use Rattle.layout.specs.Layouts.{imageViewData}
+use Rattle.judge.specs.Alone.{typeOf, alone}
+use Rattle.judge.specs.Image.{imageStart, imageSize}
 use Rattle.picture.specs.declared.Found.{Found}
 use Rattle.picture.specs.declared.Found.the-variants.{At, SizeRefused, CutRefused, LengthRefused, TypeRefused, FieldRefused}
+use Rattle.frame.specs.Unless.{unless}
 
 -- document 01's number of each answer, and its field ("0 unless FIELD")
 abbrev pub numberOf : Found → ℕ
@@ -57,10 +58,6 @@ bytesOf file CutRefused = []
 bytesOf file LengthRefused = []
 bytesOf file TypeRefused = []
 bytesOf file (FieldRefused n) = []
-
-abbrev pub unless : Bool → Found → Found → Found
-unless true otherwise picture = picture
-unless false otherwise picture = otherwise
 
 -- "File: 1 to 268,435,456 bytes"
 abbrev pub sizeAllowed : List ℕ → Bool

@@ -4,14 +4,14 @@ use mathlib.Core.Path.{_≡_, sym, _∙_}
 use mathlib.Core.List.{List, _++_}
 use lib.ListN.{length, drop}
 use borrow.Author.Tests.{le-leb, lt-leb}
-use Rattle.reading.specs.declared.Fault.{Fault}
-use Rattle.reading.specs.declared.Fault.the-variants.{Room}
-use Rattle.reading.specs.declared.Totals.{Totals}
-use Rattle.reading.specs.declared.Answer.{Answer}
-use Rattle.reading.specs.declared.Answer.the-variants.{Accepted, Refused}
-use Rattle.reading.specs.Rows.{rowsOf}
-use Rattle.reading.specs.Reading.{surveyed, answerOf, tableOf}
-use Rattle.framing.proofs.LengthFields.{Bytes}
+use Rattle.passes.specs.declared.Fault.{Fault}
+use Rattle.passes.specs.declared.Fault.the-variants.{Room}
+use Rattle.passes.specs.declared.Totals.{Totals}
+use Rattle.passes.specs.declared.Answer.{Answer}
+use Rattle.passes.specs.declared.Answer.the-variants.{Accepted, Refused}
+use Rattle.passes.specs.Rows.{rowsOf}
+use Rattle.passes.specs.Reading.{surveyed, answerOf, tableOf}
+use Rattle.file_as_records.proofs.LengthFields.{Bytes}
 use Rattle.arrangement.specs.Arranged.{Arranged}
 use Rattle.arrangement.proofs.Theorem.{arranged}
 

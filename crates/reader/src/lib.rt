@@ -1,9 +1,9 @@
 // The reader: the answer to a file, and in the lent table the rows of an accepted one.
-use reading::Answer;
-use reading::Fault;
+use passes::Answer;
+use passes::Fault;
 ghost use mathlib.Core.Path.{_≡_};
 ghost use lib.ListN.{length};
-ghost use Rattle.reading.specs.Reading.{answerOf, tableOf};
+ghost use Rattle.passes.specs.Reading.{answerOf, tableOf};
 ghost use Rattle.arrangement.specs.Arranged.{Arranged};
 
 // The answer to a file, and in the lent table the rows of an accepted one.
@@ -12,14 +12,14 @@ pub fn read(file: &[u8], table: &mut [u64]) -> Answer
     ensures rows { λ _. ⌜ now (table .exit) ≡ tableOf (now (file .entry)) (now (table .entry)) ⌝ }
     ensures arranged { λ r. ⌜ Arranged (now (file .entry)) (now (table .entry)) r (now (table .exit)) ⌝ }
 {
-    let answer = reading::survey(file);
+    let answer = passes::survey(file);
     match answer {
         Answer::Accepted(totals) => {
             let needed = totals.records.0;
             if (table.len() as u64) / 7 < needed {
                 return Answer::Refused(Fault::Room, needed, 0);
             }
-            reading::fill(file, table);
+            passes::fill(file, table);
             answer
         }
         Answer::Refused(_, _, _) => answer,

@@ -1,6 +1,6 @@
 -- Document 01, "Samples at the edges": those marked P, one table with one proof.
 use Prim.Native.Nat.{ℕ, _+_}
-use mathlib.Core.Bool.{Bool, true, false, _&&_, not}
+use mathlib.Core.Bool.{Bool, true, false, _&&_, not, cond}
 use mathlib.Core.List.{List, [], _∷_, _++_, map}
 use mathlib.Core.Path.{_≡_, refl}
 use lib.Dec.{eqb}
@@ -11,11 +11,10 @@ use Rattle.field.specs.Values.{isCode}
 use Rattle.field.specs.Formats.{isDate, isRoutingNumber, isHoursMinutes, isHoursMinutesSeconds}
 use Rattle.field.specs.Rules.{follows, meets, holds}
 use Rattle.frame.specs.Frames.{lengthIn}
-use Rattle.kind.specs.Layout.{Kind}
-use Rattle.kind.specs.Kinds.{checkDetailAddendumB, imageViewData}
-use Rattle.kind.specs.Alone.{numberOf, alone, judged, lineHolds, firstWrong, firstWrongPart, statedSizes}
-use Rattle.order.specs.Order.{pickNumber, lastOf, kindInBundle, mayFollow}
-use Rattle.order.specs.Order.{follows as follows-last}
+use Rattle.layout.specs.Layout.{Layout}
+use Rattle.layout.specs.Layouts.{checkDetailAddendumB, imageViewData}
+use Rattle.judge.specs.Alone.{numberOf, alone, judged, lineHolds, firstWrong, firstWrongPart, statedSizes}
+use Rattle.order.specs.MayFollow.{lastOf, itemTypeInBundle, mayFollow, follows as follows-last}
 
 -- numeric characters
 abbrev pub digits : List ℕ → List ℕ
@@ -28,7 +27,7 @@ abbrev pub blanks : ℕ → List ℕ
 blanks n = replicate n 0x20
 
 -- a record alone is sound as it stands, and has a wrong LENGTH with a byte more
-abbrev pub endsThere : Kind → List ℕ → Bool
+abbrev pub endsThere : Layout → List ℕ → Bool
 endsThere k body = eqb (numberOf (alone k body)) 0 && eqb (numberOf (alone k (body ++ 0x20 ∷ []))) 4
 
 -- the fixed part of a 52 with 1,000 image bytes and no other part: type, routing number, date, blank fields 4 to 8, clipping origin
@@ -47,7 +46,7 @@ addendumB = digits (2 ∷ 7 ∷ []) ++ blanks 49 ++ digits (0 ∷ 0 ∷ 3 ∷ 4 
 abbrev pub misplacedAfter : List ℕ → ℕ → List ℕ → ℕ
 misplacedAfter past n [] = 0
 misplacedAfter past n (t ∷ ts) =
-    pickNumber (mayFollow (lastOf past) (kindInBundle past) t) (misplacedAfter (t ∷ past) (n + 1) ts) n
+    cond (mayFollow (lastOf past) (itemTypeInBundle past) t) (misplacedAfter (t ∷ past) (n + 1) ts) n
 
 abbrev pub misplaced : List ℕ → ℕ
 misplaced types = misplacedAfter [] 1 types

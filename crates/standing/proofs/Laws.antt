@@ -1,14 +1,14 @@
 -- Numbers of fields are small, and so are sums over few records. Assumes nothing.
 use mathlib.Core.Path.{_≡_, refl, sym, _∙_}
 use mathlib.Core.List.{List, [], _∷_}
-use mathlib.Core.Bool.{Bool, true, false, _&&_}
+use mathlib.Core.Bool.{Bool, true, false, _&&_, cond}
 use lib.Dec.{eqb}
-use Rattle.kind.specs.Kinds.{checkDetail}
-use Rattle.measure.specs.Measures.{noSums, together, pickSums, Small}
+use Rattle.layout.specs.Layouts.{checkDetail}
+use Rattle.measure.specs.Measures.{noSums, together, Small}
 use Rattle.measure.specs.declared.Sums.{Sums}
 use Rattle.measure.specs.declared.Cents.{Cents}
 use Rattle.measure.specs.declared.Records.{Records}
-use Rattle.order.specs.Order.{pickNumber, isItem, isAddendum}
+use Rattle.order.specs.MayFollow.{isItem, isAddendum}
 use Rattle.standing.specs.declared.Standing.{Standing}
 use Prim.Native.Nat.{ℕ, _+_, _-_, _*_, _^_, _≤_, _<_}
 use native.Mathlib.Omega.{arith}
@@ -25,13 +25,13 @@ ten-digits file offset first =
     number-below (characters file offset first 10) 10 (omega (arith, length-take 10 (drop (offset + 4 + (first - 1)) file)))
 
 -- a figure moved on, with its parts replaced by equals
-pub since-moves : {r m m′ o o′ : ℕ} {b b′ : Bool} → r ≡ pickNumber b 0 (m + o) → b ≡ b′ → m ≡ m′ → o ≡ o′ → r ≡ pickNumber b′ 0 (m′ + o′)
+pub since-moves : {r m m′ o o′ : ℕ} {b b′ : Bool} → r ≡ cond b 0 (m + o) → b ≡ b′ → m ≡ m′ → o ≡ o′ → r ≡ cond b′ 0 (m′ + o′)
 since-moves e b m o = rw (sym b, sym m, sym o) e
 
-pub newest-moves : {r v v′ o o′ : ℕ} {b b′ : Bool} → r ≡ pickNumber b v o → b ≡ b′ → v ≡ v′ → o ≡ o′ → r ≡ pickNumber b′ v′ o′
+pub newest-moves : {r v v′ o o′ : ℕ} {b b′ : Bool} → r ≡ cond b v o → b ≡ b′ → v ≡ v′ → o ≡ o′ → r ≡ cond b′ v′ o′
 newest-moves e b v o = rw (sym b, sym v, sym o) e
 
-pub sums-move : (b : Bool) {r a a′ o o′ : Sums} → r ≡ pickSums b noSums (together a o) → a ≡ a′ → o ≡ o′ → r ≡ pickSums b noSums (together a′ o′)
+pub sums-move : (b : Bool) {r a a′ o o′ : Sums} → r ≡ cond b noSums (together a o) → a ≡ a′ → o ≡ o′ → r ≡ cond b noSums (together a′ o′)
 sums-move b e a o = rw (sym a, sym o) e
 
 -- figures that are equal one by one
@@ -47,7 +47,7 @@ unfolding standing
 standing-records file past = refl
 
 -- sums over few records are small
-picked : (t : Bool) {x m : ℕ} → x ≤ m → pickNumber t 0 x ≤ m
+picked : (t : Bool) {x m : ℕ} → x ≤ m → cond t 0 x ≤ m
 picked true h = omega arith
 picked false h = h
 
@@ -60,7 +60,7 @@ one-small : (t : Bool) → one t ≤ 1
 one-small true = omega arith
 one-small false = omega arith
 
-amount-pick : (a b : Bool) {x y : ℕ} → x < 10_000_000_000 → y < 10_000_000_000 → pickNumber a x (pickNumber b y 0) ≤ 10_000_000_000
+amount-pick : (a b : Bool) {x y : ℕ} → x < 10_000_000_000 → y < 10_000_000_000 → cond a x (cond b y 0) ≤ 10_000_000_000
 amount-pick true b h l = omega arith
 amount-pick false true h l = omega arith
 amount-pick false false h l = omega arith
@@ -68,7 +68,7 @@ amount-pick false false h l = omega arith
 amount-small : (file : List ℕ) (t offset : ℕ) → amountOf file t offset ≤ 10_000_000_000
 amount-small file t offset = amount-pick (eqb t 25) (eqb t 31) (ten-digits file offset 48) (ten-digits file offset 48)
 
-micr-pick : (t : Bool) {x : ℕ} → x ≤ 10_000_000_000 → pickNumber t x 0 ≤ 10_000_000_000
+micr-pick : (t : Bool) {x : ℕ} → x ≤ 10_000_000_000 → cond t x 0 ≤ 10_000_000_000
 micr-pick true h = h
 micr-pick false h = omega arith
 
@@ -80,7 +80,7 @@ pub record Below (s : Sums) (n : ℕ) : Type 0 where
   pub debit : s .debit .0 ≤ n * 10_000_000_000
   pub views : s .views .0 ≤ n
 
-below-pick : (t : Bool) (s : Sums) (n : ℕ) → Below s n → Below (pickSums t noSums s) n
+below-pick : (t : Bool) (s : Sums) (n : ℕ) → Below s n → Below (cond t noSums s) n
 below-pick true s n h = record { items = omega arith; debit = omega arith; views = omega arith }
 below-pick false s n h = h
 

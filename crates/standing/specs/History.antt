@@ -1,17 +1,17 @@
 -- What a record has before it: the records read so far, the newest first, and what they come to.
 use Prim.Native.Nat.{ℕ, _+_, _-_}
-use mathlib.Core.Bool.{Bool, true, false, _&&_, _||_}
+use mathlib.Core.Bool.{Bool, true, false, _&&_, _||_, cond}
 use mathlib.Core.List.{List, [], _∷_, map}
 use lib.Dec.{eqb}
 use lib.ListN.{length, getD}
 use Rattle.text.specs.Characters.{capital}
 use Rattle.text.specs.Number.{number}
 use Rattle.frame.specs.Frames.{part}
-use Rattle.kind.specs.Layout.{Line, Kind}
-use Rattle.kind.specs.Kinds.{cashLetterHeader, checkDetail, returnRecord, imageViewDetail}
-use Rattle.measure.specs.Measures.{sums, noSums, together, pickSums}
+use Rattle.layout.specs.Layout.{Line, Layout}
+use Rattle.layout.specs.Layouts.{cashLetterHeader, checkDetail, returnRecord, imageViewDetail}
+use Rattle.measure.specs.Measures.{sums, noSums, together}
 use Rattle.measure.specs.declared.Sums.{Sums}
-use Rattle.order.specs.Order.{isItem, isAddendum, pickNumber}
+use Rattle.order.specs.MayFollow.{isItem, isAddendum}
 
 -- a record of the file: its type, the offset of its length field, and its size as the length field says it
 pub record Entry : Type 0 where
@@ -26,33 +26,29 @@ entry t o n = record { type = t; offset = o; size = n }
 abbrev pub characters : List ℕ → ℕ → ℕ → ℕ → List ℕ
 characters file offset first size = part (offset + 4 + (first - 1)) size file
 
-abbrev pub pickLine : Bool → List ℕ → List ℕ → List ℕ
-pickLine true a b = a
-pickLine false a b = b
-
 abbrev pub fieldIn : List Line → ℕ → List ℕ → ℕ → List ℕ
 fieldIn [] n file offset = []
-fieldIn (l ∷ ls) n file offset = pickLine (eqb (l .number) n) (characters file offset (l .first) (l .size)) (fieldIn ls n file offset)
+fieldIn (l ∷ ls) n file offset = cond (eqb (l .number) n) (characters file offset (l .first) (l .size)) (fieldIn ls n file offset)
 
 -- field n, by the kind's layout
-abbrev pub field : Kind → ℕ → List ℕ → ℕ → List ℕ
+abbrev pub field : Layout → ℕ → List ℕ → ℕ → List ℕ
 field k n file offset = fieldIn (k .lines) n file offset
 
 -- the amount of an item, in cents: field 6 of a 25 or a 31
 abbrev pub amountOf : List ℕ → ℕ → ℕ → ℕ
 amountOf file t offset =
-    pickNumber (eqb t 25) (number (field checkDetail 6 file offset))
-    (pickNumber (eqb t 31) (number (field returnRecord 6 file offset)) 0)
+    cond (eqb t 25) (number (field checkDetail 6 file offset))
+    (cond (eqb t 31) (number (field returnRecord 6 file offset)) 0)
 
 -- "cents of the 25s whose MICR Valid Indicator is 1": field 10
 abbrev pub micrOf : List ℕ → ℕ → ℕ → ℕ
-micrOf file t offset = pickNumber (eqb t 25 && eqb (number (field checkDetail 10 file offset)) 1) (amountOf file t offset) 0
+micrOf file t offset = cond (eqb t 25 && eqb (number (field checkDetail 10 file offset)) 1) (amountOf file t offset) 0
 
 -- the addenda that an item states: field 12 of a 25, field 8 of a 31
 abbrev pub statedBy : List ℕ → ℕ → ℕ → ℕ
 statedBy file t offset =
-    pickNumber (eqb t 25) (number (field checkDetail 12 file offset))
-    (pickNumber (eqb t 31) (number (field returnRecord 8 file offset)) 0)
+    cond (eqb t 25) (number (field checkDetail 12 file offset))
+    (cond (eqb t 31) (number (field returnRecord 8 file offset)) 0)
 
 -- field 8 of a cash letter header (N, E, I or F, in either case), and field 10 of an image view detail
 abbrev pub indicatorIn : List ℕ → ℕ → ℕ
@@ -72,16 +68,16 @@ adds file t offset = sums (one (isItem t)) (amountOf file t offset) (one (eqb t 
 -- a measure added up over the records after the newest at which a level begins
 abbrev pub sumSince : (Entry → Bool) → (Entry → ℕ) → List Entry → ℕ
 sumSince begins measure [] = 0
-sumSince begins measure (r ∷ rs) = pickNumber (begins r) 0 (measure r + sumSince begins measure rs)
+sumSince begins measure (r ∷ rs) = cond (begins r) 0 (measure r + sumSince begins measure rs)
 
 abbrev pub sumsSince : (Entry → Bool) → List ℕ → List Entry → Sums
 sumsSince begins file [] = noSums
-sumsSince begins file (r ∷ rs) = pickSums (begins r) noSums (together (adds file (r .type) (r .offset)) (sumsSince begins file rs))
+sumsSince begins file (r ∷ rs) = cond (begins r) noSums (together (adds file (r .type) (r .offset)) (sumsSince begins file rs))
 
 -- a figure of the newest record that passes a test, 0 where there is none
 abbrev pub atNewest : (Entry → Bool) → (Entry → ℕ) → List Entry → ℕ
 atNewest test figure [] = 0
-atNewest test figure (r ∷ rs) = pickNumber (test r) (figure r) (atNewest test figure rs)
+atNewest test figure (r ∷ rs) = cond (test r) (figure r) (atNewest test figure rs)
 
 -- where levels begin: never, in the file; at a 10, in a cash letter; at a 20, in a bundle; at a 25 or 31, in an item
 abbrev pub never : Entry → Bool

@@ -4,7 +4,7 @@ use mathlib.Core.List.{List, map}
 use lib.Dec.{eqb}
 use lib.ListN.{length}
 use Rattle.measure.specs.Measures.{cents, records, Small}
-use Rattle.order.specs.Order.{isItem, isAddendum, lastOf, kindInBundle}
+use Rattle.order.specs.MayFollow.{isItem, isAddendum, lastOf, itemTypeInBundle}
 use Rattle.standing.specs.History.{Entry, micrOf, statedBy, indicatorIn, signatureIn, sumSince, sumsSince, atNewest, never, is, isItemEntry, countSince, isBofdAddendum, isEndorserAddendum}
 use Rattle.standing.specs.declared.Standing.{Standing}
 
@@ -12,7 +12,7 @@ unfoldable pub standing : List ℕ → List Entry → Standing
 standing file past =
     record {
       last = lastOf (map (λ (r : Entry). r .type) past);
-      present = kindInBundle (map (λ (r : Entry). r .type) past);
+      present = itemTypeInBundle (map (λ (r : Entry). r .type) past);
       records = records (length past);
       letters = countSince never (λ t. eqb t 10) past;
       bundles = countSince never (λ t. eqb t 20) past;

@@ -5,14 +5,14 @@ use measure::Records;
 use measure::Sums;
 use measure::Views;
 ghost use mathlib.Core.Path.{_≡_};
-ghost use mathlib.Core.Bool.{_&&_};
+ghost use mathlib.Core.Bool.{_&&_, cond};
 ghost use mathlib.Core.List.{List, [], _∷_};
 ghost use Prim.Native.Nat.{ℕ, _+_, _-_, _<_, _≤_};
 ghost use lib.Dec.{eqb};
 ghost use lib.ListN.{getD};
 ghost use Rattle.text.specs.Number.{number};
 ghost use Rattle.measure.specs.Measures.{Small};
-ghost use Rattle.order.specs.Order.{pickNumber, isItem};
+ghost use Rattle.order.specs.MayFollow.{isItem};
 ghost use Rattle.standing.specs.History.{Entry, entry, characters, amountOf, micrOf, statedBy, indicatorIn, signatureIn, adds, one, isBofdAddendum, isEndorserAddendum};
 ghost use Rattle.standing.specs.Standing.{standing, Roomy};
 
@@ -179,7 +179,7 @@ pub fn one_if(test: bool) -> u64
 // A sum with what one record adds, or none where the record begins the level anew.
 fn since(begins: bool, more: u64, sum: u64) -> u64
     requires { ⌜ (more < 0x4000_0000_0000_0000) × (sum < 0x4000_0000_0000_0000) ⌝ }
-    ensures { λ r. ⌜ r ≡ pickNumber begins 0 (more + sum) ⌝ }
+    ensures { λ r. ⌜ r ≡ cond begins 0 (more + sum) ⌝ }
 {
     if begins {
         return 0;
@@ -189,7 +189,7 @@ fn since(begins: bool, more: u64, sum: u64) -> u64
 
 // The newest record's figure where it is one of a sort, else the older figure.
 fn newest(found: bool, figure: u64, older: u64) -> u64
-    ensures { λ r. ⌜ r ≡ pickNumber found figure older ⌝ }
+    ensures { λ r. ⌜ r ≡ cond found figure older ⌝ }
 {
     if found { figure } else { older }
 }
@@ -218,7 +218,7 @@ fn added_at(file: &[u8], kind: u64, offset: usize) -> Sums
 
 // Field 8 of the newest cash letter header, and field 10 of the newest image view detail (position 29).
 fn indicator_after(file: &[u8], kind: u64, offset: usize, older: u8) -> u8
-    ensures { λ r. ⌜ r ≡ pickNumber (eqb kind 10) (indicatorIn (now (file .entry)) offset) older ⌝ }
+    ensures { λ r. ⌜ r ≡ cond (eqb kind 10) (indicatorIn (now (file .entry)) offset) older ⌝ }
 {
     if kind == 10 {
         return indicator_at(file, offset);
@@ -227,7 +227,7 @@ fn indicator_after(file: &[u8], kind: u64, offset: usize, older: u8) -> u8
 }
 
 fn signature_after(file: &[u8], kind: u64, offset: usize, older: u64) -> u64
-    ensures { λ r. ⌜ r ≡ pickNumber (eqb kind 50) (signatureIn (now (file .entry)) offset) older ⌝ }
+    ensures { λ r. ⌜ r ≡ cond (eqb kind 50) (signatureIn (now (file .entry)) offset) older ⌝ }
 {
     if kind == 50 {
         return number_at(file, offset, 29, 1);
@@ -236,7 +236,7 @@ fn signature_after(file: &[u8], kind: u64, offset: usize, older: u64) -> u64
 }
 
 fn present_after(kind: u64, older: u64) -> u64
-    ensures { λ r. ⌜ r ≡ pickNumber (eqb kind 20) 0 (pickNumber (isItem kind) kind older) ⌝ }
+    ensures { λ r. ⌜ r ≡ cond (eqb kind 20) 0 (cond (isItem kind) kind older) ⌝ }
 {
     if kind == 20 {
         return 0;

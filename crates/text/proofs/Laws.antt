@@ -1,6 +1,6 @@
 -- One turn of each loop, on plain lists. Assumes nothing.
 use mathlib.Core.Path.{_≡_, refl, ap, sym, _∙_}
-use mathlib.Core.Bool.{Bool, true, false, _&&_, _||_, not}
+use mathlib.Core.Bool.{Bool, true, false, _&&_, _||_, not, cond}
 use mathlib.Core.List.{List, [], _∷_}
 use Prim.Native.Nat.{ℕ, suc, _+_, _-_, _*_, _^_, _≤_, _<_}
 use native.Mathlib.Numerals.{add-one}
@@ -10,7 +10,7 @@ use borrow.Author.Tests.{leb-true}
 use lib.Dec.{leb}
 use lib.ListN.{length, getD, take, drop, drop-of-length-le, length-take}
 use lib.Seq.{drop-cons}
-use Rattle.text.specs.Characters.{isBlank, isNumeric, pickCharacter}
+use Rattle.text.specs.Characters.{isBlank, isNumeric}
 use Rattle.text.specs.declared.DataType.{DataType}
 use Rattle.text.specs.declared.DataType.the-variants.{Binary}
 use Rattle.text.specs.DataTypes.{every, some, blankAfter, blankEmbedded, admits, keepsDigitsTogether, ofType}
@@ -119,7 +119,7 @@ module _ (t known : DataType) (xs : List ℕ) (e : t ≡ known) where
   apart k = rw (e, k) (sym (and-true (every (admits known) xs)))
 
 -- a digit is at most 9, and a run of k digits has a number below the k-th power of ten
-digit-test : (a b : Bool) (x : ℕ) → (b ≡ true → x ≤ 0x39) → pickCharacter (a && b) (x - 0x30) 0 ≤ 9
+digit-test : (a b : Bool) (x : ℕ) → (b ≡ true → x ≤ 0x39) → cond (a && b) (x - 0x30) 0 ≤ 9
 digit-test true true x h = omega (arith, h refl)
 digit-test true false x h = omega arith
 digit-test false b x h = omega arith

@@ -1,7 +1,7 @@
 -- Clauses 5.1 and 5.2, Table 1: the basic character types, each as the ranges and single characters that the clause prints.
 -- The codes are the ASCII column of Table 1 (document 01: "Characters are ASCII").
 use Prim.Native.Nat.{ℕ, _-_}
-use mathlib.Core.Bool.{Bool, true, false, _&&_, _||_}
+use mathlib.Core.Bool.{Bool, true, false, _&&_, _||_, cond}
 use lib.Dec.{leb, eqb}
 
 -- a character from low through high
@@ -48,10 +48,6 @@ isOnUsSymbol x = eqb x 0x2F
 abbrev pub isTransitSymbol : ℕ → Bool
 isTransitSymbol x = eqb x 0x23
 
-abbrev pub pickCharacter : Bool → ℕ → ℕ → ℕ
-pickCharacter true a b = a
-pickCharacter false a b = b
-
 -- 5.1.1: a lower case letter has the meaning of its upper case letter
 abbrev pub capital : ℕ → ℕ
-capital x = pickCharacter (within 0x61 0x7A x) (x - 0x20) x
+capital x = cond (within 0x61 0x7A x) (x - 0x20) x

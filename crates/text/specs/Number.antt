@@ -1,13 +1,13 @@
 -- The value of a run of digits, highest first.
 use Prim.Native.Nat.{ℕ, _+_, _-_, _*_}
-use mathlib.Core.Bool.{Bool, true, false}
+use mathlib.Core.Bool.{Bool, true, false, cond}
 use mathlib.Core.List.{List, [], _∷_}
 use lib.ListN.{take}
-use Rattle.text.specs.Characters.{isNumeric, pickCharacter}
+use Rattle.text.specs.Characters.{isNumeric}
 
 -- 5.1.3: the number that a numeric character stands for; no other character adds anything
 abbrev pub digit : ℕ → ℕ
-digit x = pickCharacter (isNumeric x) (x - 0x30) 0
+digit x = cond (isNumeric x) (x - 0x30) 0
 
 -- the value of the digits after those that came to `sum`
 abbrev pub valueAfter : ℕ → List ℕ → ℕ

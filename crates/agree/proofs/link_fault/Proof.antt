@@ -1,4 +1,4 @@
-use Rattle.agree.specs.Links.{linkFault}
+use Rattle.agree.specs.Links.{linkFault, same, addendaKept, annexB, numberedOn}
 use mathlib.Core.Path.{_≡_, refl, sym, _∙_, ap}
 use denote.Ref.{now}
 use Prim.Native.Nat.{ℕ, _+_, _-_, _≤_, _<_}
@@ -7,7 +7,6 @@ use lib.Dec.{eqb}
 use lib.ListN.{length, drop}
 use borrow.Author.Tests.{eq-eqb, ne-eqb, not-true, not-false, lt-leb, le-leb}
 use Rattle.standing.specs.History.{characters}
-use Rattle.agree.specs.Links.{same, addendaKept, annexB, numberedOn}
 use Rattle.agree.proofs.Laws.{same-lengths, same-differs, same-goes-on, same-ends, either-way}
 use borrow.Author.Needs.{needs}
 use Rattle.agree.proofs.link_fault.Statement.{statement}

@@ -8,8 +8,7 @@ use borrow.Author.Tests.{eq-eqb, ne-eqb, not-true, not-false, lt-leb, le-leb}
 use Rattle.text.specs.DataTypes.{ofType}
 use Rattle.judge.specs.Alone.{lineHolds, firstWrong, statedSize, statedSizes, firstWrongPart, typeOf}
 use Rattle.layout.specs.Packing.{lineOf, linesFrom, sizedOf, sizedFrom}
-use Rattle.judge.proofs.Laws.{wrong-here, wrong-later, wrong-none, eqb-sub, sizes-more, sizes-none, part-wrong, part-right, part-none, past-part}
-use Rattle.judge.proofs.Laws.{sizes-suc, sizes-within, sound-fills, renumbered}
+use Rattle.judge.proofs.Laws.{wrong-here, wrong-later, wrong-none, eqb-sub, sizes-more, sizes-none, part-wrong, part-right, part-none, past-part, sizes-suc, sizes-within, sound-fills, renumbered}
 use borrow.Author.Needs.{needs}
 use Rattle.judge.proofs.image_size.Statement.{statement}
 use Rattle.judge.proofs.image_size.Tie as tie

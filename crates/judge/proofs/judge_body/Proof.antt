@@ -6,12 +6,10 @@ use lib.Dec.{eqb}
 use lib.ListN.{length, getD, take, drop}
 use borrow.Author.Tests.{eq-eqb, ne-eqb, not-true, not-false, lt-leb, le-leb}
 use Rattle.text.specs.DataTypes.{ofType}
-use Rattle.judge.specs.Alone.{lineHolds, firstWrong, statedSize, statedSizes, firstWrongPart, typeOf}
+use Rattle.judge.specs.Alone.{lineHolds, firstWrong, statedSize, statedSizes, firstWrongPart, typeOf, judged}
 use Rattle.layout.specs.Packing.{lineOf, linesFrom, sizedOf, sizedFrom}
-use Rattle.judge.proofs.Laws.{wrong-here, wrong-later, wrong-none, eqb-sub, sizes-more, sizes-none, part-wrong, part-right, part-none, past-part}
+use Rattle.judge.proofs.Laws.{wrong-here, wrong-later, wrong-none, eqb-sub, sizes-more, sizes-none, part-wrong, part-right, part-none, past-part, within-longer, length-allowed}
 use mathlib.Core.Bool.{not}
-use Rattle.judge.specs.Alone.{judged}
-use Rattle.judge.proofs.Laws.{within-longer, length-allowed}
 use borrow.Author.Needs.{needs}
 use Rattle.judge.proofs.judge_body.Statement.{statement}
 use Rattle.judge.proofs.judge_body.Tie as tie

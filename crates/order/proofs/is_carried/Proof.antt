@@ -1,4 +1,4 @@
-use Rattle.order.specs.Order.{isCarried}
+use Rattle.order.specs.MayFollow.{isCarried}
 use Rattle.order.proofs.Laws.{or-false}
 use Rattle.order.proofs.is_carried.Statement.{statement}
 use Rattle.order.proofs.is_carried.Tie as tie

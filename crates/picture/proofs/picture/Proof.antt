@@ -6,8 +6,8 @@ use lib.Dec.{eqb}
 use lib.ListN.{length}
 use borrow.Author.Tests.{eq-eqb, ne-eqb, lt-leb, le-leb}
 use Rattle.frame.specs.Frames.{frameAt}
-use Rattle.kind.specs.Alone.{typeOf}
-use Rattle.kind.proofs.Laws.{image-within}
+use Rattle.judge.specs.Alone.{typeOf}
+use Rattle.judge.proofs.Laws.{image-within}
 use Rattle.picture.specs.Picture.{inBody, pictureAt, startOf, sizeOf, bytesOf, whenSound}
 use Rattle.picture.proofs.Laws.{body-fits, part-found}
 use borrow.Author.Needs.{needs}

@@ -2,7 +2,7 @@ use mathlib.Core.Path.{sym, _∙_}
 use denote.Ref.{now}
 use Prim.Native.Nat.{_-_}
 use native.Mathlib.Omega.{arith}
-use Rattle.reading.proofs.Passes.{accepted-small}
+use Rattle.passes.proofs.Passes.{accepted-small}
 use Rattle.reader.proofs.Laws.{no-room, rows-filled, refused}
 use borrow.Author.Needs.{needs}
 use Rattle.reader.proofs.read.Statement.{statement}

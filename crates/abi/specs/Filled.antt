@@ -1,0 +1,15 @@
+-- The numbers that the C calls fill in.
+use Prim.Native.Nat.{ℕ}
+use mathlib.Core.List.{List, [], _∷_}
+use Rattle.judge.specs.declared.Judged.{Judged}
+use Rattle.picture.specs.declared.Found.{Found}
+use Rattle.judge.specs.Alone as alone
+use Rattle.picture.specs.Picture as picture
+
+-- x9_picture: number, field, start and length of the Image Data part within the file
+abbrev pub placeOf : Found → List ℕ
+placeOf found = picture.numberOf found ∷ picture.fieldOf found ∷ picture.startOf found ∷ picture.sizeOf found ∷ []
+
+-- x9_record: number, field
+abbrev pub judgementOf : Judged → List ℕ
+judgementOf judged = alone.numberOf judged ∷ alone.fieldOf judged ∷ []

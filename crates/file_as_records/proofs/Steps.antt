@@ -1,0 +1,213 @@
+-- One turn of the reading, by the bodies before a record: it goes on exactly where the record is good. Assumes nothing.
+use Prim.Native.Nat.{ℕ, _+_}
+use mathlib.Core.Bool.{Bool, true, false, _&&_, not, cond}
+use mathlib.Core.Path.{_≡_, refl, sym, ap, ap₂, _∙_}
+use mathlib.Core.List.{List, [], _∷_, _++_}
+use lib.Dec.{leb, eqb}
+use lib.ListN.{length, drop, take}
+use borrow.Author.Tests.{eqb-true, eq-eqb}
+use Rattle.text.specs.Characters.{isNumeric}
+use Rattle.text.specs.DataTypes.{every}
+use Rattle.text.specs.Number.{number}
+use Rattle.layout.specs.Layouts.{bundleHeader, checkDetail, checkDetailAddendumA, checkDetailAddendumC, returnRecord, returnAddendumA, returnAddendumD, imageViewData, bundleControl, cashLetterControl, fileControl}
+use Rattle.judge.specs.declared.Judged.{Judged}
+use Rattle.judge.specs.declared.Judged.the-variants.{Sound, WrongLength, WrongField}
+use Rattle.judge.specs.Alone.{typeOf, judgedAs, alone}
+use Rattle.order.specs.MayFollow.{isItem, isOneOf, carried, isCarried, mayFollow}
+use Rattle.standing.specs.History.{field}
+use Rattle.standing.specs.declared.Standing.{Standing}
+use Rattle.agree.specs.Checks.{Check, check, firstFailing}
+use Rattle.agree.specs.Links.{addendaKept, annexB, numberedOn, sequenceOfItem, viewLinks, linkFault}
+use Rattle.agree.specs.Totals.{totalFault}
+use Rattle.passes.specs.declared.Fault.{Fault}
+use Rattle.passes.specs.declared.Fault.the-variants.{Length, UnknownType, Place, Link, Total}
+use Rattle.passes.specs.declared.Turn.{Turn}
+use Rattle.passes.specs.CheckOrder.{unlessAlone, agreement, turnOf}
+use Rattle.file_as_records.specs.Framed.{Body, fieldOf}
+use Rattle.file_as_records.proofs.Figures.{newest, is, presentIn, bofdIn, endorserIn, signatureIn, statedIn, addendaIn, indicatorIn, openedIn, itemsSince, shownIn, sequenceOf, value}
+use Rattle.file_as_records.proofs.Checks.{numberedAs, viewChecks, linkChecks, bundleChecks, letterChecks, fileChecks, totalChecks, AllHold, _and_, end}
+use Rattle.file_as_records.proofs.Good.{Good}
+use Rattle.file_as_records.proofs.Held.{HeldAt, Held, under, fields-held, fields-at, item-long, newestAt, over}
+use Rattle.file_as_records.proofs.Tests.{both}
+use Rattle.file_as_records.proofs.Opened.{AllOpened, all-opened, has, newest-passes}
+use Rattle.file_as_records.proofs.Links.{links-out, links-in}
+use Rattle.file_as_records.proofs.Totals.{totals-out, totals-in}
+use Rattle.frame.specs.Unless.{unless}
+use Rattle.judge.specs.declared.Judged.the-variants as judgements
+use Rattle.judge.specs.Alone as kinds
+use Rattle.agree.specs.Links as links
+use Rattle.agree.specs.Totals as totals
+use Rattle.passes.specs.declared.Turn.the-variants as turns
+
+-- the first failing check is none exactly where all of them hold: no check faults a field 0
+abbrev numbered : List Check → Bool
+numbered [] = true
+numbered (c ∷ cs) = not (eqb (c .field) 0) && numbered cs
+
+none-fails : (cs : List Check) → AllHold cs → firstFailing cs ≡ 0
+none-fails [] end = refl
+none-fails (c ∷ cs) (here and others) = ap (λ (t : Bool). cond t (firstFailing cs) (c .field)) here ∙ none-fails cs others
+
+all-hold : (cs : List Check) → numbered cs ≡ true → firstFailing cs ≡ 0 → AllHold cs
+all-hold [] n e = end
+all-hold (c ∷ cs) n e =
+    let tests = both (not (eqb (c .field) 0)) (numbered cs) n in
+    let here = holds-here (c .holds) (c .field) (firstFailing cs) (tests .0) e in
+    here .0 and all-hold cs (tests .1) (here .1)
+  where
+    holds-here : (t : Bool) (field later : ℕ) → not (eqb field 0) ≡ true → cond t later field ≡ 0 → (t ≡ true) × (later ≡ 0)
+    holds-here true field later n e = (refl, e)
+    holds-here false field later n e = let z = eq-eqb field 0 e in ((cc), (cc))
+
+links-numbered : (k : ℕ) (past : List Body) (b : Body) → numbered (linkChecks k past b) ≡ true
+links-numbered k past b = cases (eqb k 52)
+  where
+    cases : (c : Bool) → numbered (cond c (viewChecks past b) []) ≡ true
+    cases true = refl
+    cases false = refl
+
+totals-numbered : (k : ℕ) (past : List Body) (b : Body) → numbered (totalChecks k past b) ≡ true
+totals-numbered k past b = cases (eqb k 70) (eqb k 90) (eqb k 99)
+  where
+    cases : (c d e : Bool)
+        → numbered (cond c (bundleChecks past b) (cond d (letterChecks past b) (cond e (fileChecks past b) []))) ≡ true
+    cases true d e = refl
+    cases false true e = refl
+    cases false false true = refl
+    cases false false false = refl
+
+module _ {file : List ℕ} {at : ℕ} {b : Body} (past : List Body) (older : Held file past) (h : HeldAt file at b) where
+  -- the checks of the record at an offset are those of its body
+  numbered-same : numberedOn file (bofdIn past) (endorserIn past) (typeOf b) at ≡ numberedAs (typeOf b) past b
+  unfolding numberedOn judgedAs
+  numbered-same =
+      under cond (eqb (typeOf b) 26) (λ e. ap (states (bofdIn past + 1)) (fields-at h checkDetailAddendumA (λ c. refl) refl e 2))
+      (under cond (eqb (typeOf b) 32) (λ e. ap (states (bofdIn past + 1)) (fields-at h returnAddendumA (λ c. refl) refl e 2))
+      (under cond (eqb (typeOf b) 28) (λ e. ap (states (endorserIn past + 1)) (fields-at h checkDetailAddendumC (λ c. refl) refl e 2))
+      (under cond (eqb (typeOf b) 35) (λ e. ap (states (endorserIn past + 1)) (fields-at h returnAddendumD (λ c. refl) refl e 2))
+      refl (λ z. refl)) (λ z. refl)) (λ z. refl)) (λ z. refl)
+    where
+      states : ℕ → List ℕ → Bool
+      states value characters = eqb (number characters) value
+
+  views-same : AllOpened (b ∷ past) → eqb (typeOf b) 52 ≡ true
+      → viewLinks file (newestAt (is 20) past) (newestAt isItem past) (presentIn past) (signatureIn past) at ≡ viewChecks past b
+  unfolding judgedAs
+  views-same opened e =
+      let t = eqb-true (typeOf b) 52 e in
+      let bundle : has (is 20) past ≡ true = rw t at (opened .bundle (rw t)) in
+      let item : has isItem past ≡ true = rw t at (opened .item (rw t)) in
+      let header = newest-passes file (is 20) past older bundle in
+      let there = newest-passes file isItem past older item in
+      let above : (n : ℕ) → field bundleHeader n file (newestAt (is 20) past) ≡ fieldOf bundleHeader n (newest (is 20) past) =
+      fields-at (header .held) bundleHeader (λ c. refl) refl (header .passes) in
+      let long = item-long (there .held) (there .passes) in
+      let own : (n : ℕ) → field imageViewData n file at ≡ fieldOf imageViewData n b = fields-at h imageViewData (λ c. refl) refl e in
+      let sequence : sequenceOfItem file (presentIn past) (newestAt isItem past) ≡ sequenceOf (presentIn past) (newest isItem past) =
+      ap₂ (cond (eqb (presentIn past) 31)) (fields-held (there .held) returnRecord refl long 7) (fields-held (there .held) checkDetail refl long 7) in
+      rw (own 2, own 3, own 4, own 5, own 7, own 8, above 4, above 5, above 9, sequence)
+
+  links-same : AllOpened (b ∷ past) → links.linkChecks file (over past) (typeOf b) at ≡ linkChecks (typeOf b) past b
+  links-same opened =
+      ap₂
+      (λ (inOrder : Bool) (view : List Check).
+      check 1 (addendaKept (typeOf b) (statedIn past) (addendaIn past))
+      ∷ check 1 (annexB (typeOf b) (indicatorIn past) (openedIn past) (itemsSince (is 20) past) (shownIn past)) ∷ check 2 inOrder ∷ view)
+      numbered-same (under cond (eqb (typeOf b) 52) (views-same opened) refl (λ z. refl))
+
+  totals-same : totals.totalChecks file (over past) (typeOf b) at ≡ totalChecks (typeOf b) past b
+  unfolding judgedAs
+  totals-same =
+      under cond (eqb (typeOf b) 70)
+      (λ e. let own = fields-at h bundleControl (λ c. refl) refl e in rw (own 2, own 3, own 4, own 5, own 6, own 7))
+      (under cond (eqb (typeOf b) 90)
+      (λ e. let own = fields-at h cashLetterControl (λ c. refl) refl e in rw (own 2, own 3, own 4, own 5, own 8, own 9))
+      (under cond (eqb (typeOf b) 99)
+      (λ e. let own = fields-at h fileControl (λ c. refl) refl e in rw (own 2, own 3, own 4, own 5, own 8))
+      refl (λ z. refl)) (λ z. refl)) (λ z. refl)
+
+-- a turn that goes on passed each check, and the other way
+record Passed (file : List ℕ) (s : Standing) (at : ℕ) (b : Body) : Type 0 where
+  carried : isCarried (typeOf b) ≡ true
+  follows : mayFollow (s .last) (s .present) (typeOf b) ≡ true
+  alone : judgedAs (typeOf b) b ≡ Sound
+  linked : firstFailing (links.linkChecks file s (typeOf b) at) ≡ 0
+  totalled : firstFailing (totals.totalChecks file s (typeOf b) at) ≡ 0
+
+-- one check passed, and the turn that goes on behind it
+record Through (Check : Type 0) (next : Turn) (t : ℕ) : Type 0 where
+  check : Check
+  on : next ≡ turns.Good t
+
+through : (c : Bool) (fault : Fault) (next : Turn) {t : ℕ} → unless c (turns.Faulty fault) next ≡ turns.Good t → Through (c ≡ true) next t
+through true fault next e = record { check = refl; on = e }
+through false fault next e = record { check = cc; on = cc }
+
+through-alone : (j : Judged) (next : Turn) {t : ℕ} → unlessAlone j next ≡ turns.Good t → Through (j ≡ Sound) next t
+through-alone Sound next e = record { check = refl; on = e }
+through-alone WrongLength next e = record { check = cc; on = cc }
+through-alone judgements.UnknownType next e = record { check = cc; on = cc }
+through-alone (WrongField n) next e = record { check = cc; on = cc }
+
+two-long : (b : Body) → isCarried (typeOf b) ≡ true → leb 2 (length b) ≡ true
+unfolding typeOf isCarried
+two-long b e = cases (leb 2 (length b)) e
+  where
+    cases : (c : Bool) → isOneOf (cond (c && every isNumeric (take 2 b)) (number (take 2 b)) 0) carried ≡ true → c ≡ true
+    cases true e = refl
+    cases false e = cc
+
+module _ {file : List ℕ} {s : Standing} {at : ℕ} {b : Body} where
+  passed-in : {t : ℕ} → turnOf file s at b ≡ turns.Good t → Passed file s at b
+  unfolding turnOf agreement linkFault totalFault
+  passed-in e =
+      let long = through (leb 2 (length b)) Length _ e in
+      let carries = through (isCarried (typeOf b)) UnknownType _ (long .on) in
+      let placed = through (mayFollow (s .last) (s .present) (typeOf b)) Place _ (carries .on) in
+      let judged = through-alone (judgedAs (typeOf b) b) _ (placed .on) in
+      let links = through (eqb (linkFault file s (typeOf b) at) 0) (Link (linkFault file s (typeOf b) at)) _ (judged .on) in
+      let sums = through (eqb (totalFault file s (typeOf b) at) 0) (Total (totalFault file s (typeOf b) at)) _ (links .on) in
+      record {
+        carried = carries .check;
+        follows = placed .check;
+        alone = judged .check;
+        linked = eqb-true _ 0 (links .check);
+        totalled = eqb-true _ 0 (sums .check);
+      }
+
+  passed-out : Passed file s at b → turnOf file s at b ≡ turns.Good (typeOf b)
+  unfolding turnOf agreement linkFault totalFault
+  passed-out p = rw (two-long b (p .carried), p .carried, p .follows, p .alone, p .linked, p .totalled)
+
+module _ (file : List ℕ) (past : List Body) (older : Held file past) (opened : AllOpened past) (at : ℕ) (b : Body) where
+  -- the record at an offset, whose body is b: a turn goes on exactly where it is good
+  pub turn-good : (rest : List ℕ) → drop (at + 4) file ≡ b ++ rest → {t : ℕ} → turnOf file (over past) at b ≡ turns.Good t → Good past b
+  turn-good rest body e =
+      let p = passed-in e in
+      let h : HeldAt file at b = record { rest = rest; body = body; sound = p .alone } in
+      let now = all-opened b past opened (p .follows) in
+      record {
+        carried = p .carried;
+        follows = p .follows;
+        alone = p .alone;
+        linked =
+            links-in (typeOf b) past b
+            (all-hold (linkChecks (typeOf b) past b) (links-numbered (typeOf b) past b)
+            (ap firstFailing (sym (links-same past older h now)) ∙ p .linked));
+        totalled =
+            totals-in (typeOf b) past b
+            (all-hold (totalChecks (typeOf b) past b) (totals-numbered (typeOf b) past b)
+            (ap firstFailing (sym (totals-same past older h)) ∙ p .totalled));
+      }
+
+  pub good-turn : HeldAt file at b → Good past b → turnOf file (over past) at b ≡ turns.Good (typeOf b)
+  good-turn h g =
+      let now = all-opened b past opened (g .follows) in
+      passed-out
+      (record {
+        carried = g .carried;
+        follows = g .follows;
+        alone = g .alone;
+        linked = ap firstFailing (links-same past older h now) ∙ none-fails (linkChecks (typeOf b) past b) (links-out (typeOf b) past b (g .linked));
+        totalled = ap firstFailing (totals-same past older h) ∙ none-fails (totalChecks (typeOf b) past b) (totals-out (typeOf b) past b (g .totalled));
+      })

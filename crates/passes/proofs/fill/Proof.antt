@@ -1,0 +1,101 @@
+use mathlib.Core.Path.{_≡_, refl, sym, _∙_, ap}
+use denote.Ref.{now}
+use Prim.Native.Nat.{ℕ, _+_, _-_, _≤_, _<_}
+use native.Mathlib.Omega.{arith}
+use lib.Dec.{eqb}
+use lib.ListN.{length, drop, length-set}
+use borrow.Author.Tests.{eq-eqb, ne-eqb, not-true, not-false, lt-leb, le-leb}
+use Rattle.frame.specs.Frames.{frameAt}
+use Rattle.passes.specs.CheckOrder.{agreement, turnOf}
+use Rattle.passes.specs.Reading.{stepOf, endedWith, surveyed, answerOf, tableOf}
+use Rattle.frame.proofs.Laws.{whole-start, whole-within}
+use Rattle.judge.specs.Alone.{typeOf}
+use Rattle.passes.proofs.Passes.{Fill, fill-first, fill-room, fill-on, fill-cut, fill-end, place-roomy}
+use borrow.Author.Needs.{needs}
+use Rattle.passes.proofs.fill.Statement.{statement}
+use Rattle.passes.proofs.fill.Tie as tie
+
+abbrev Inv-loop : tie.InvT-loop
+Inv-loop file table₀ s₀ at₀ base₀ table s at base = Fill file table₀ at s base table
+
+abbrev μ-loop : tie.MeasureT-loop
+μ-loop file table₀ s₀ at₀ base₀ table s at base = length file - at
+
+start-requires : tie.Need-start-requires Inv-loop μ-loop
+start-requires c κs = search needs
+
+loop-holds : tie.Need-loop-holds Inv-loop μ-loop
+loop-holds c = fill-first (now (c .before .before .before .args .file)) (now (c .before .before .before .args .table)) (c .start .result) (c .before .before .before .pre .0) (c .before .before .before .pre .1) (c .start .ensures (now (c .before .before .before .args .file)))
+
+at-requires : tie.Need-at-requires Inv-loop μ-loop
+at-requires c κs = search needs
+
+frame-requires : tie.Need-frame-requires Inv-loop μ-loop
+frame-requires c κs = search needs
+
+enum-told : tie.Need-enum-told Inv-loop μ-loop
+enum-told c = search needs
+
+same-length : tie.Need-same-length Inv-loop μ-loop
+same-length c = c .before .before .before .before .before .loop .inv .long
+
+returns : tie.Need-returns Inv-loop μ-loop
+returns c = fill-cut (now (c .before .before .before .before .before .before .before .before .before .args .file)) (now (c .before .before .before .before .before .before .before .before .before .args .table)) (c .before .before .before .before .before .loop .at) (c .before .before .before .before .before .loop .s) (c .before .before .before .before .before .loop .base) (c .before .before .before .before .before .loop .table) (c .before .before .before .before .before .loop .inv) (c .before .before .before .before .loop-test .taken) (ap (frameAt (now (c .before .before .before .before .before .before .before .before .before .args .file))) (sym (c .before .before .before .at .ensures)) ∙ sym (c .before .before .frame .ensures) ∙ c .enum-told .given .1)
+
+enum-known-start : tie.Need-enum-known-start Inv-loop μ-loop
+enum-known-start c = search needs
+
+part-of-requires : tie.Need-part-of-requires Inv-loop μ-loop
+part-of-requires c κs = search needs
+
+type-of-requires : tie.Need-type-of-requires Inv-loop μ-loop
+type-of-requires c κs = search needs
+
+moved-requires : tie.Need-moved-requires Inv-loop μ-loop
+moved-requires c κs = place-roomy (now (c .before .before .before .before .before .before .before .before .before .before .before .before .args .file)) (c .before .before .before .before .before .before .before .before .loop .at) (c .before .before .before .before .before .before .before .before .loop .s) (c .before .before .before .before .before .before .before .before .loop .inv .place)
+
+put-row-requires : tie.Need-put-row-requires Inv-loop μ-loop
+put-row-requires c κs = fill-room (now (c .before .before .before .before .before .before .before .before .before .before .before .before .before .before .args .file)) (now (c .before .before .before .before .before .before .before .before .before .before .before .before .before .before .args .table)) (c .before .before .before .before .before .before .before .before .before .before .loop .at) (c .before .before .before .before .before .before .before .before .before .before .loop .s) (c .before .before .before .before .before .before .before .before .before .before .loop .base) (c .before .before .before .before .before .before .before .before .before .before .loop .table) (c .before .before .before .before .before .before .before .before .before .before .loop .inv) (c .before .before .before .before .before .before .before .before .before .loop-test .taken) _ _ (c .before .before .type-of .result) (ap (frameAt (now (c .before .before .before .before .before .before .before .before .before .before .before .before .before .before .args .file))) (sym (c .before .before .before .before .before .before .before .before .at .ensures)) ∙ sym (c .before .before .before .before .before .before .before .frame .ensures) ∙ c .before .before .before .before .before .start2 .given .1) (ap typeOf (sym (c .before .before .before .part-of .ensures)) ∙ sym (c .before .before .type-of .ensures))
+
+add-base : tie.Need-add-base Inv-loop μ-loop
+add-base c = let g = fill-room (now (c .before .before .before .before .before .before .before .before .before .before .before .before .before .before .before .before .before .args .file)) (now (c .before .before .before .before .before .before .before .before .before .before .before .before .before .before .before .before .before .args .table)) (c .before .before .before .before .before .before .before .before .before .before .before .before .before .loop .at) (c .before .before .before .before .before .before .before .before .before .before .before .before .before .loop .s) (c .before .before .before .before .before .before .before .before .before .before .before .before .before .loop .base) (c .before .before .before .before .before .before .before .before .before .before .before .before .before .loop .table) (c .before .before .before .before .before .before .before .before .before .before .before .before .before .loop .inv) (c .before .before .before .before .before .before .before .before .before .before .before .before .loop-test .taken) _ _ (c .before .before .before .before .before .type-of .result) (ap (frameAt (now (c .before .before .before .before .before .before .before .before .before .before .before .before .before .before .before .before .before .args .file))) (sym (c .before .before .before .before .before .before .before .before .before .before .before .at .ensures)) ∙ sym (c .before .before .before .before .before .before .before .before .before .before .frame .ensures) ∙ c .before .before .before .before .before .before .before .before .start2 .given .1) (ap typeOf (sym (c .before .before .before .before .before .before .part-of .ensures)) ∙ sym (c .before .before .before .before .before .type-of .ensures)) in omega (arith, g, c .before .before .before .before .before .before .before .before .before .before .before .before .before .loop .inv .long, c .before .before .before .before .before .before .before .before .before .before .before .before .before .before .before .before .before .good)
+
+add-at : tie.Need-add-at Inv-loop μ-loop
+add-at c = let b = whole-start (now (c .before .before .before .before .before .before .before .before .before .before .before .before .before .before .before .before .before .args .file)) (c .before .before .before .before .before .before .before .before .before .before .before .before .before .loop .at) _ _ (ap (frameAt (now (c .before .before .before .before .before .before .before .before .before .before .before .before .before .before .before .before .before .args .file))) (sym (c .before .before .before .before .before .before .before .before .before .before .before .at .ensures)) ∙ sym (c .before .before .before .before .before .before .before .before .before .before .frame .ensures) ∙ c .before .before .before .before .before .before .before .before .start2 .given .1) in let w = whole-within (now (c .before .before .before .before .before .before .before .before .before .before .before .before .before .before .before .before .before .args .file)) (c .before .before .before .before .before .before .before .before .before .before .before .before .before .loop .at) _ _ (ap (frameAt (now (c .before .before .before .before .before .before .before .before .before .before .before .before .before .before .before .before .before .args .file))) (sym (c .before .before .before .before .before .before .before .before .before .before .before .at .ensures)) ∙ sym (c .before .before .before .before .before .before .before .before .before .before .frame .ensures) ∙ c .before .before .before .before .before .before .before .before .start2 .given .1) in omega (arith, w, c .before .before .before .before .before .before .before .before .before .before .before .before .before .loop .inv .place .limit)
+
+loop-less : tie.Need-loop-less Inv-loop μ-loop
+loop-less c = let b = whole-start (now (c .before .before .before .before .before .before .before .before .before .before .before .before .before .before .before .before .before .args .file)) (c .before .before .before .before .before .before .before .before .before .before .before .before .before .loop .at) _ _ (ap (frameAt (now (c .before .before .before .before .before .before .before .before .before .before .before .before .before .before .before .before .before .args .file))) (sym (c .before .before .before .before .before .before .before .before .before .before .before .at .ensures)) ∙ sym (c .before .before .before .before .before .before .before .before .before .before .frame .ensures) ∙ c .before .before .before .before .before .before .before .before .start2 .given .1) in let w = whole-within (now (c .before .before .before .before .before .before .before .before .before .before .before .before .before .before .before .before .before .args .file)) (c .before .before .before .before .before .before .before .before .before .before .before .before .before .loop .at) _ _ (ap (frameAt (now (c .before .before .before .before .before .before .before .before .before .before .before .before .before .before .before .before .before .args .file))) (sym (c .before .before .before .before .before .before .before .before .before .before .before .at .ensures)) ∙ sym (c .before .before .before .before .before .before .before .before .before .before .frame .ensures) ∙ c .before .before .before .before .before .before .before .before .start2 .given .1) in omega (arith, w, b)
+
+loop-again : tie.Need-loop-again Inv-loop μ-loop
+loop-again c = fill-on (now (c .before .before .before .before .before .before .before .before .before .before .before .before .before .before .before .before .before .args .file)) (now (c .before .before .before .before .before .before .before .before .before .before .before .before .before .before .before .before .before .args .table)) (c .before .before .before .before .before .before .before .before .before .before .before .before .before .loop .at) (c .before .before .before .before .before .before .before .before .before .before .before .before .before .loop .s) (c .before .before .before .before .before .before .before .before .before .before .before .before .before .loop .base) (c .before .before .before .before .before .before .before .before .before .before .before .before .before .loop .table) (c .before .before .before .before .before .before .before .before .before .before .before .before .before .loop .inv) (c .before .before .before .before .before .before .before .before .before .before .before .before .loop-test .taken) _ _ (c .before .before .before .before .before .type-of .result) (ap (frameAt (now (c .before .before .before .before .before .before .before .before .before .before .before .before .before .before .before .before .before .args .file))) (sym (c .before .before .before .before .before .before .before .before .before .before .before .at .ensures)) ∙ sym (c .before .before .before .before .before .before .before .before .before .before .frame .ensures) ∙ c .before .before .before .before .before .before .before .before .start2 .given .1) (ap typeOf (sym (c .before .before .before .before .before .before .part-of .ensures)) ∙ sym (c .before .before .before .before .before .type-of .ensures)) (c .before .before .before .before .moved .result) _ (c .before .before .before .before .moved .ensures) (c .before .before .put-row .ensures)
+
+same-length-2 : tie.Need-same-length-2 Inv-loop μ-loop
+same-length-2 c = c .before .loop .inv .long
+
+returns-2 : tie.Need-returns-2 Inv-loop μ-loop
+returns-2 c = fill-end (now (c .before .before .before .before .before .args .file)) (now (c .before .before .before .before .before .args .table)) (c .before .loop .at) (c .before .loop .s) (c .before .loop .base) (c .before .loop .table) (c .before .loop .inv) (c .loop-test .left)
+
+pub fill-spec : {M : Type 1} → statement M
+fill-spec =
+    tie.close
+    (tie.spec
+    Inv-loop
+    μ-loop
+    start-requires
+    loop-holds
+    at-requires
+    frame-requires
+    enum-told
+    same-length
+    returns
+    enum-known-start
+    part-of-requires
+    type-of-requires
+    moved-requires
+    put-row-requires
+    add-base
+    add-at
+    loop-less
+    loop-again
+    same-length-2
+    returns-2)

@@ -1,0 +1,4 @@
+pub mod Answers
+pub mod CheckOrder
+pub mod Rows
+pub mod Reading

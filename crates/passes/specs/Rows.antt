@@ -1,0 +1,51 @@
+-- The rows (document 01, "Numbers that bind"): a row for each record that the lengths of the file frame.
+use Prim.Native.Nat.{ℕ, zero, suc, _+_}
+use mathlib.Core.Bool.{Bool, true, false, _||_, cond}
+use mathlib.Core.List.{List, [], _∷_, _++_}
+use lib.Dec.{leb, eqb}
+use lib.ListN.{length}
+use Rattle.frame.specs.declared.Frame.{Frame}
+use Rattle.frame.specs.declared.Frame.the-variants.{Cut, Whole}
+use Rattle.frame.specs.Frames.{part, frameAt}
+use Rattle.judge.specs.Alone.{typeOf}
+use Rattle.order.specs.MayFollow.{isItem}
+use Rattle.standing.specs.History.{Entry, entry, amountOf}
+use Rattle.standing.specs.Standing.{standing}
+use Rattle.standing.specs.declared.Standing.{Standing}
+
+-- outside a cash letter; outside a bundle; outside an item
+abbrev pub outsideLetter : ℕ → Bool
+outsideLetter t = eqb t 1 || eqb t 99
+
+abbrev pub outsideBundle : ℕ → Bool
+outsideBundle t = outsideLetter t || (eqb t 10 || eqb t 90)
+
+abbrev pub outsideItem : ℕ → Bool
+outsideItem t = outsideBundle t || (eqb t 20 || eqb t 70)
+
+-- "Amount: item amount for 25 and 31, debit cents as added up for 70, 90 and 99, otherwise 0"
+abbrev pub amountIn : List ℕ → Standing → ℕ → ℕ → ℕ
+amountIn file s t offset =
+    cond (eqb t 70) (s .bundle .debit .0)
+    (cond (eqb t 90) (s .letter .debit .0) (cond (eqb t 99) (s .whole .debit .0) (amountOf file t offset)))
+
+-- a record's row, where s stands after the record: type, offset, length, and the ordinals, "0 where the record lies outside that level"
+abbrev pub rowOf : List ℕ → Standing → ℕ → ℕ → ℕ → List ℕ
+rowOf file s t offset size =
+    t ∷ offset ∷ size ∷ cond (outsideLetter t) 0 (s .letters) ∷ cond (outsideBundle t) 0 (s .opened)
+    ∷ cond (outsideItem t) 0 (s .bundle .items .0) ∷ amountIn file s t offset ∷ []
+
+abbrev pub rowAnd : List ℕ → ℕ → List Entry → Frame → (ℕ → List Entry → List ℕ) → List ℕ
+rowAnd file at past Cut others = []
+rowAnd file at past (Whole start size) others =
+    rowOf file (standing file (entry (typeOf (part start size file)) at size ∷ past)) (typeOf (part start size file)) at size
+    ++ others (start + size) (entry (typeOf (part start size file)) at size ∷ past)
+
+-- the rows from an offset on, of n records at most
+unfoldable pub rowsFrom : ℕ → List ℕ → ℕ → List Entry → List ℕ
+rowsFrom zero file at past = []
+rowsFrom (suc n) file at past =
+    cond (leb (length file) at) [] (rowAnd file at past (frameAt file at) (λ next newer. rowsFrom n file next newer))
+
+abbrev pub rowsOf : List ℕ → List ℕ
+rowsOf file = rowsFrom (length file) file 0 []
