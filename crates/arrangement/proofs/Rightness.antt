@@ -1,4 +1,4 @@
--- A record of a kind is right exactly when the judgement of it alone finds it sound. Assumes nothing.
+-- A record of a layout is right exactly when the judgement of it alone finds it sound. Assumes nothing.
 use Prim.Native.Nat.{ℕ, _+_}
 use native.Mathlib.Omega.{arith}
 use mathlib.Core.Bool.{Bool, true, false, _&&_, _||_, cond}
@@ -10,12 +10,11 @@ use borrow.Author.Tests.{leb-true, le-leb, eqb-true, eq-eqb}
 use Rattle.text.specs.DataTypes.{ofType}
 use Rattle.layout.specs.Layout.{Line, Layout, Sized, sizedParts}
 use Rattle.layout.specs.Layouts.{fileHeader, cashLetterHeader, bundleHeader, checkDetail, checkDetailAddendumA, checkDetailAddendumB, checkDetailAddendumC, returnRecord, returnAddendumA, returnAddendumB, returnAddendumC, returnAddendumD, imageViewDetail, imageViewData, imageViewAnalysis, bundleControl, cashLetterControl, fileControl}
-use Rattle.judge.specs.declared.Judged.{Judged}
-use Rattle.judge.specs.declared.Judged.the-variants.{Sound, WrongLength, WrongField}
+use Rattle.judge.specs.declared.Judged.the-variants.{Sound}
 use Rattle.judge.specs.Alone.{typeOf, lineHolds, firstWrong, statedSize, statedSizes, firstWrongPart, isVariable, judged, alone, judgedAs}
 use Rattle.judge.proofs.Laws.{length-not-sound, field-not-sound, kept}
 use Rattle.file_as_records.specs.Framed.{Body}
-use Rattle.file_as_records.proofs.Held.{both}
+use Rattle.file_as_records.proofs.Tests.{both}
 use Rattle.arrangement.specs.Sound.{All, PartsRight, Right}
 use Rattle.judge.specs.Alone as alone
 
@@ -64,7 +63,7 @@ unfolding statedSizes
 not-long [] b fixed e = le-leb (length b) fixed (omega (arith, e))
 not-long (s ∷ ss) b fixed e = refl
 
--- what the judgement needs to know of a kind: all its fields are numbered, and it is the kind of its type
+-- what the judgement needs to know of a layout: all its fields are numbered, and it is the layout of its type
 pub record Known (k : Layout) : Type 0 where
   pub lines : linesNumbered (k .lines) ≡ true
   pub parts : partsNumbered (sizedParts k) ≡ true
@@ -104,7 +103,7 @@ module _ (k : Layout) (b : Body) (known : Known k) where
         no-part-wrong ss b (drop fixed b) (r .parts),
       )
 
--- the kinds, each found by its type
+-- the layouts, each found by its type
 pub known-01 : Known fileHeader
 unfolding judgedAs
 known-01 = record { lines = refl; parts = refl; judged = λ b. refl }

@@ -13,7 +13,7 @@ use Rattle.file_as_records.specs.Framed.{Body}
 use Rattle.arrangement.specs.Tree.{ofCheck, ofReturn, File}
 use Rattle.arrangement.specs.Written.{optionalThen, viewsThen, itemsThen, bundlesThen, lettersThen, records}
 use Rattle.arrangement.specs.Sound.{All, IfAny}
-use Rattle.arrangement.specs.Kinds.{OfType, KindsView, KindsItem, KindsBundle, KindsLetter, Kinds}
+use Rattle.arrangement.specs.TypesInPlace.{OfType, TypedView, TypedItem, TypedBundle, TypedLetter, Typed}
 pub use Rattle.arrangement.proofs.Unique.{one-shape}
 
 -- types that follow one another, to the 99
@@ -42,16 +42,16 @@ abbrev Nothing : Shape
 Nothing bs = bs ≡ []
 
 abbrev Letters : Shape
-Letters = Then (All KindsLetter) lettersThen (One 99 Nothing)
+Letters = Then (All TypedLetter) lettersThen (One 99 Nothing)
 
 abbrev Bundles : Shape
-Bundles = Then (All KindsBundle) bundlesThen (One 90 Letters)
+Bundles = Then (All TypedBundle) bundlesThen (One 90 Letters)
 
 abbrev Items : Shape
-Items = Then (All KindsItem) itemsThen (One 70 Bundles)
+Items = Then (All TypedItem) itemsThen (One 70 Bundles)
 
 abbrev Views : Shape
-Views = Then (All KindsView) viewsThen Items
+Views = Then (All TypedView) viewsThen Items
 
 abbrev Image : Shape
 Image = One 52 (Perhaps 54 Views)
@@ -102,21 +102,26 @@ no-view : (bs : List Body) → Items bs → Views bs
 no-view bs x = then [] bs tt x
 
 view : Before 50 Image Views
-view b bs h (then i _ hi (then a _ ha (then vs r hs x))) = then (record { detail = b; image = i; analysis = a } ∷ vs) r ((h, hi, ha), hs) x
+view b bs h (then i _ hi (then a _ ha (then vs r hs x))) =
+    then (record { detail = b; image = i; analysis = a } ∷ vs) r (record { detail = h; image = hi; analysis = ha }, hs) x
 
 check : Before 25 OfCheck Items
 check b bs h (then xs _ hx (then o _ ho (then cs _ hc (then vs _ hv (then is r hs x))))) =
-    then (record { detail = b; addenda = ofCheck xs o cs; views = vs } ∷ is) r ((h, (hx, ho, hc), hv), hs) x
+    then (record { detail = b; addenda = ofCheck xs o cs; views = vs } ∷ is) r
+    (record { detail = h; addenda = record { addenda-a = hx; addendum-b = ho; addenda-c = hc }; views = hv }, hs) x
 
 return : Before 31 OfReturn Items
 return b bs h (then xs _ hx (then s _ hb (then o _ ho (then ds _ hd (then vs _ hv (then is r hs x)))))) =
-    then (record { detail = b; addenda = ofReturn xs s o ds; views = vs } ∷ is) r ((h, (hx, hb, ho, hd), hv), hs) x
+    then (record { detail = b; addenda = ofReturn xs s o ds; views = vs } ∷ is) r
+    (record { detail = h; addenda = record { addenda-a = hx; addendum-b = hb; addendum-c = ho; addenda-d = hd }; views = hv }, hs) x
 
 bundle : Before 20 Items Bundles
-bundle b bs h (then is _ hi (then c _ hc (then us r hs x))) = then (record { header = b; items = is; control = c } ∷ us) r ((h, hi, hc), hs) x
+bundle b bs h (then is _ hi (then c _ hc (then us r hs x))) =
+    then (record { header = b; items = is; control = c } ∷ us) r (record { header = h; items = hi; control = hc }, hs) x
 
 letter : Before 10 Bundles Letters
-letter b bs h (then us _ hu (then c _ hc (then ls r hs x))) = then (record { header = b; bundles = us; control = c } ∷ ls) r ((h, hu, hc), hs) x
+letter b bs h (then us _ hu (then c _ hc (then ls r hs x))) =
+    then (record { header = b; bundles = us; control = c } ∷ ls) r (record { header = h; bundles = hu; control = hc }, hs) x
 
 bundle-end : Before 70 Bundles Items
 bundle-end b bs h x = then [] (b ∷ bs) tt (then b bs h x)
@@ -164,9 +169,20 @@ rest (b ∷ bs) last c =
     of-table (λ (l t : ℕ). OfType t b → Rest t bs → Rest l (b ∷ bs)) last (typeOf b) table (table-kept b bs) (c .0)
     refl (rest bs (typeOf b) (c .1))
 
-whole : (bs : List Body) → One 1 Letters bs → (x : File) × (records x ≡ bs) × Kinds x
-whole bs (then h _ hh (then ls _ hl (then c r hc e))) = (record { header = h; letters = ls; control = c }, rw e refl, (hh, hl, hc))
+-- an arrangement of records, of the types of their places
+pub record Shaped (bs : List Body) : Type 0 where
+  pub file : File
+  pub written-out : records file ≡ bs
+  pub typed : Typed file
+
+whole : (bs : List Body) → One 1 Letters bs → Shaped bs
+whole bs (then h _ hh (then ls _ hl (then c r hc e))) =
+    record {
+      file = record { header = h; letters = ls; control = c };
+      written-out = rw e refl;
+      typed = record { header = hh; letters = hl; control = hc };
+    }
 
 -- records whose types follow one another are an arrangement, written out
-pub shape-of : (bs : List Body) → Chain 0 bs → (x : File) × (records x ≡ bs) × Kinds x
+pub shape-of : (bs : List Body) → Chain 0 bs → Shaped bs
 shape-of bs c = whole bs (rest bs 0 c)

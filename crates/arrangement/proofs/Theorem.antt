@@ -17,22 +17,28 @@ use Rattle.passes.specs.Rows.{rowsOf}
 use Rattle.passes.specs.Reading.{surveyed, inRoom, answerOf, tableAfter, tableOf}
 use Rattle.passes.proofs.Passes.{accepted-small}
 use Rattle.file_as_records.specs.Framed.{Body, framed}
-use Rattle.file_as_records.proofs.Good.{GoodAll, lastIn}
-use Rattle.file_as_records.proofs.Accepted.{Bytes, accepted-records, records-accepted, one-framing}
+use Rattle.file_as_records.proofs.Good.{GoodAll}
+use Rattle.file_as_records.proofs.Figures.{lastIn}
+use Rattle.file_as_records.proofs.LengthFields.{Bytes, one-framing}
+use Rattle.file_as_records.proofs.Accepted.{accepted-records}
+use Rattle.file_as_records.proofs.ReadThrough.{records-accepted}
 use Rattle.arrangement.specs.Tree.{File}
 use Rattle.arrangement.specs.Written.{records, written}
-use Rattle.arrangement.specs.Kinds.{Kinds}
+use Rattle.arrangement.specs.TypesInPlace.{Typed}
 use Rattle.arrangement.specs.RowsAndTotals.{rows, totals}
 use Rattle.arrangement.specs.Arranged.{Arranges, HasRoom, Arranged}
 use Rattle.arrangement.proofs.Turns.{follows-in}
-use Rattle.arrangement.proofs.Places.{rows-of, totals-of}
-use Rattle.arrangement.proofs.Shape.{Chain, shape-of, one-shape}
+use Rattle.arrangement.proofs.RowsAgree.{rows-of}
+use Rattle.arrangement.proofs.TotalsAgree.{totals-of}
+use Rattle.arrangement.proofs.Shape.{Chain, shape-of}
+use Rattle.arrangement.proofs.Unique.{one-shape}
 use Rattle.arrangement.proofs.Soundness.{good-sound}
-use Rattle.arrangement.proofs.Goodness.{sound-kinds, sound-good}
+use Rattle.arrangement.proofs.SoundTyped.{sound-typed}
+use Rattle.arrangement.proofs.Goodness.{sound-good}
 
 good-chain : (past bs : List Body) → GoodAll past bs → Chain (lastIn past) bs
 good-chain past [] g = g
-good-chain past (b ∷ bs) g = (follows-in (typeOf b) past b (g .0), good-chain (b ∷ past) bs (g .1))
+good-chain past (b ∷ bs) g = (follows-in (typeOf b) past b (g .first), good-chain (b ∷ past) bs (g .rest))
 
 refused-not : (fault : Fault) (n o : ℕ) (t : Totals) → Refused fault n o ≡ Accepted t → ⊥
 refused-not fault n o t e = let z : _≡_ {A = ℕ} 0 1 = cc in omega arith
@@ -42,41 +48,56 @@ picked-room : (b : Bool) (u t : Totals) (n : ℕ) → cond b (Accepted u) (Refus
 picked-room true u t n e = refl
 picked-room false u t n e = absurd (refused-not Room n 0 t e)
 
-in-room : (rows : ℕ) (a : Answer) (t : Totals) → inRoom rows a ≡ Accepted t → (u : Totals) × (a ≡ Accepted u) × (u .records .0 ≤ rows)
+record Roomed (rows : ℕ) (a : Answer) : Type 0 where
+  totals-are : Totals
+  accepted : a ≡ Accepted totals-are
+  room : totals-are .records .0 ≤ rows
+
+in-room : (rows : ℕ) (a : Answer) (t : Totals) → inRoom rows a ≡ Accepted t → Roomed rows a
 in-room rows (Accepted u) t e =
-    (u, refl, leb-true (u .records .0) rows (picked-room (leb (u .records .0) rows) u t (u .records .0) e))
+    record {
+      totals-are = u;
+      accepted = refl;
+      room = leb-true (u .records .0) rows (picked-room (leb (u .records .0) rows) u t (u .records .0) e);
+    }
 in-room rows (Refused fault n o) t e = absurd (refused-not fault n o t e)
 
 -- an arrangement makes the file accepted, with its totals and its rows
-pub arranged-accepted : (file : List ℕ) (x : File) → Arranges file x → (surveyed file ≡ Accepted (totals x)) × (rowsOf file ≡ rows x)
+pub record Read (file : List ℕ) (x : File) : Type 0 where
+  pub answer : surveyed file ≡ Accepted (totals x)
+  pub its-rows : rowsOf file ≡ rows x
+
+pub arranged-accepted : (file : List ℕ) (x : File) → Arranges file x → Read file x
 arranged-accepted file x a =
-    let k = sound-kinds x (a .sound) in
+    let k = sound-typed x (a .sound) in
     let r = records-accepted file (records x) (a .size) (a .bytes) (sound-good x (a .sound)) in
-    (r .0 ∙ ap Accepted (totals-of x k), r .1 ∙ rows-of x k)
+    record { answer = r .answer ∙ ap Accepted (totals-of x k); its-rows = r .rows ∙ rows-of x k }
 
 -- an accepted file has an arrangement
 pub accepted-arranged : (file : List ℕ) (t : Totals) → Bytes file → surveyed file ≡ Accepted t → (x : File) × Arranges file x
 accepted-arranged file t b e =
     let r = accepted-records file t b e in
     let s = shape-of (r .bodies) (good-chain [] (r .bodies) (r .good)) in
-    let g = subst (λ (bs : List Body). GoodAll [] bs) (sym (s .1)) (r .good) in
-    (s .0, record { sound = good-sound (s .0) (s .2) g; bytes = ap framed (s .1) ∙ r .bytes; size = accepted-small file t e })
+    let g = subst (λ (bs : List Body). GoodAll [] bs) (sym (s .written-out)) (r .good) in (
+      s .file,
+      record { sound = good-sound (s .file) (s .typed) g; bytes = ap framed (s .written-out) ∙ r .bytes; size = accepted-small file t e },
+    )
 
 -- never two, sound or not, with records of the types of their places
-pub one-arrangement : (x y : File) → Kinds x → Kinds y → written x ≡ written y → length (written x) ≤ 268_435_456 → x ≡ y
+pub one-arrangement : (x y : File) → Typed x → Typed y → written x ≡ written y → length (written x) ≤ 268_435_456 → x ≡ y
 one-arrangement x y k l e n = one-shape x y k l (one-framing (records x) (records y) e n)
 
 module _ (file table : List ℕ) (x : File) (a : Arranges file x) where
   accepted-answer : HasRoom table x → answerOf file (length table) ≡ Accepted (totals x)
   unfolding answerOf
-  accepted-answer h = rw (arranged-accepted file x a .0) (rw (le-leb (length (records x)) (length table / 7) (omega (arith, h))))
+  accepted-answer h = rw (arranged-accepted file x a .answer) (rw (le-leb (length (records x)) (length table / 7) (omega (arith, h))))
 
   room-answer : length table < 7 * length (records x) → answerOf file (length table) ≡ Refused Room (length (records x)) 0
   unfolding answerOf
-  room-answer h = rw (arranged-accepted file x a .0) (rw (lt-leb (length (records x)) (length table / 7) (omega (arith, h))))
+  room-answer h = rw (arranged-accepted file x a .answer) (rw (lt-leb (length (records x)) (length table / 7) (omega (arith, h))))
 
 answer-accepted : (file table : List ℕ) (t : Totals) → answerOf file (length table) ≡ Accepted t
-    → (u : Totals) × (surveyed file ≡ Accepted u) × (u .records .0 ≤ length table / 7)
+    → Roomed (length table / 7) (surveyed file)
 unfolding answerOf
 answer-accepted file table t e = in-room (length table / 7) (surveyed file) t e
 
@@ -86,8 +107,8 @@ same-totals u v e = cc
 has-room : (file table : List ℕ) (x : File) (t : Totals) → Arranges file x → answerOf file (length table) ≡ Accepted t → HasRoom table x
 has-room file table x t a e =
     let r = answer-accepted file table t e in
-    let u = same-totals (r .0) (totals x) (sym (r .1) ∙ arranged-accepted file x a .0) in
-    omega (arith, r .2, ap (λ (v : Totals). v .records .0) u)
+    let u = same-totals (r .totals-are) (totals x) (sym (r .accepted) ∙ arranged-accepted file x a .answer) in
+    omega (arith, r .room, ap (λ (v : Totals). v .records .0) u)
 
 pub theorem : (file table : List ℕ) → Bytes file → Arranged file table (answerOf file (length table)) (tableOf file table)
 unfolding tableOf
@@ -95,17 +116,19 @@ theorem file table b =
     record {
       exact = (
         λ acc.
-            let r = answer-accepted file table (acc .0) (acc .1) in
-            let y = accepted-arranged file (r .0) b (r .1) in
-            (y .0, y .1, has-room file table (y .0) (acc .0) (y .1) (acc .1)),
-        λ y. (totals (y .0), accepted-answer file table (y .0) (y .1) (y .2)),
+            let (t, e) = acc in
+            let r = answer-accepted file table t e in
+            let (x, a) = accepted-arranged file (r .totals-are) b (r .accepted) in
+            (x, a, has-room file table x t a e),
+        λ y. let (x, a, room) = y in (totals x, accepted-answer file table x a room),
       );
-      alone = λ x y a c. one-arrangement x y (sound-kinds x (a .sound)) (sound-kinds y (c .sound)) (a .bytes ∙ sym (c .bytes))
+      alone = λ x y a c. one-arrangement x y (sound-typed x (a .sound)) (sound-typed y (c .sound)) (a .bytes ∙ sym (c .bytes))
           (omega (arith, ap length (a .bytes), a .size));
-      its-totals = λ x a acc. accepted-answer file table x a (has-room file table x (acc .0) a (acc .1));
+      its-totals = λ x a acc. let (t, e) = acc in accepted-answer file table x a (has-room file table x t a e);
       its-rows = λ x a acc.
-          ap (λ (answer : Answer). tableAfter answer (rowsOf file) table) (accepted-answer file table x a (has-room file table x (acc .0) a (acc .1)))
-          ∙ ap (λ (r : List ℕ). r ++ drop (length r) table) (arranged-accepted file x a .1);
+          let (t, e) = acc in
+          ap (λ (answer : Answer). tableAfter answer (rowsOf file) table) (accepted-answer file table x a (has-room file table x t a e))
+          ∙ ap (λ (r : List ℕ). r ++ drop (length r) table) (arranged-accepted file x a .its-rows);
       its-control =
           λ x t a e.
           let u = same-totals t (totals x) (sym e ∙ accepted-answer file table x a (has-room file table x t a e)) in (

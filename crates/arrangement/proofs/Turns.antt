@@ -3,56 +3,20 @@ use Prim.Native.Nat.{ℕ, _≤_, _<_}
 use native.Mathlib.Omega.{arith}
 use mathlib.Core.Bool.{Bool, true, false, _&&_, _||_, not}
 use mathlib.Core.Logic.{_⊎_, inl, inr}
-use mathlib.Core.Path.{_≡_, refl, sym, subst}
-use mathlib.Core.List.{List, [], _∷_}
+use mathlib.Core.Path.{ap, _∙_, _≡_, refl, sym, subst}
+use mathlib.Core.List.{List, _∷_}
 use lib.Dec.{leb, eqb}
 use borrow.Author.Tests.{leb-true, le-leb, ltb-true, eqb-true, eq-eqb, ne-eqb, eqb-false}
 use Rattle.judge.specs.Alone.{typeOf}
 use Rattle.order.specs.MayFollow.{isItem, isAddendum, mayFollow, follows, oneItemType}
-use Rattle.agree.specs.Links.{same, addendaKept, annexB}
+use Rattle.agree.specs.Links.{addendaKept, annexB}
 use Rattle.file_as_records.specs.Framed.{Body}
-use Rattle.file_as_records.proofs.Good.{Good, GoodAs, is, statedIn, addendaIn, shownIn, openedIn, indicatorIn, itemsSince, lastIn, presentIn}
+use Rattle.file_as_records.proofs.Good.{Good, GoodAs, GoodAll}
+use Rattle.file_as_records.proofs.Figures.{is, statedIn, addendaIn, shownIn, openedIn, indicatorIn, itemsSince, lastIn, presentIn}
+use Rattle.file_as_records.proofs.Tests.{both, not-both}
 use Rattle.arrangement.specs.Sound.{N, E, I, F}
-use Rattle.file_as_records.proofs.Held.{both}
-
--- byte by byte
-pub same-in : (xs ys : List ℕ) → same xs ys ≡ true → xs ≡ ys
-same-in [] [] e = refl
-same-in [] (y ∷ ys) e = cc
-same-in (x ∷ xs) [] e = cc
-same-in (x ∷ xs) (y ∷ ys) e =
-    let p = both (eqb x y) (same xs ys) e in
-    let h = eqb-true x y (p .0) in
-    let t = same-in xs ys (p .1) in
-    cc
-
-pub same-self : (xs : List ℕ) → same xs xs ≡ true
-same-self [] = refl
-same-self (x ∷ xs) = rw (eq-eqb x x refl) (same-self xs)
-
-pub same-out : (xs ys : List ℕ) → xs ≡ ys → same xs ys ≡ true
-same-out xs ys e = subst (λ (zs : List ℕ). same xs zs ≡ true) e (same-self xs)
-
--- "not blank if .. is 1"
-signed-bools : (a b : Bool) → not a || not b ≡ true → a ≡ true → b ≡ false
-signed-bools true true e h = sym e
-signed-bools true false e h = refl
-signed-bools false b e h = cc
-
-pub signed-in : (n : ℕ) (blank : Bool) → not (eqb n 1) || not blank ≡ true → n ≡ 1 → blank ≡ false
-signed-in n blank e h = signed-bools (eqb n 1) blank e (eq-eqb n 1 h)
-
-signed-cases : (a b : Bool) → (a ≡ true → b ≡ false) → not a || not b ≡ true
-signed-cases true b h = rw (h refl)
-signed-cases false b h = refl
-
-pub signed-out : (n : ℕ) (blank : Bool) → (n ≡ 1 → blank ≡ false) → not (eqb n 1) || not blank ≡ true
-signed-out n blank h = signed-cases (eqb n 1) blank (λ e. h (eqb-true n 1 e))
 
 -- tests of Annex B
-pub not-both : false ≡ true → ⊥
-not-both e = let z : _≡_ {A = ℕ} 0 1 = cc in omega arith
-
 pub unequal : (x y : ℕ) → not (eqb x y) ≡ true → x ≡ y → ⊥
 unequal x y e h = not-both (rw (eq-eqb x y h) at e)
 
@@ -142,11 +106,11 @@ of-type t past b e g = subst (λ (u : ℕ). GoodAs u past b) (sym e) g
 module _ (t : ℕ) (past : List Body) (b : Body) (g : GoodAs t past b) where
   pub settled-in : isAddendum t ≡ false → Settled past
   unfolding addendaKept
-  settled-in h = leb-true (statedIn past) (addendaIn past) (rw h at (g .links .0))
+  settled-in h = leb-true (statedIn past) (addendaIn past) (rw h at (g .linked .addenda))
 
   pub short-in : isAddendum t ≡ true → addendaIn past < statedIn past
   unfolding addendaKept
-  short-in h = ltb-true (addendaIn past) (statedIn past) (rw h at (g .links .0))
+  short-in h = ltb-true (addendaIn past) (statedIn past) (rw h at (g .linked .addenda))
 
   pub follows-in : follows (lastIn past) t ≡ true
   unfolding mayFollow
@@ -155,34 +119,40 @@ module _ (t : ℕ) (past : List Body) (b : Body) (g : GoodAs t past b) where
 module _ (past : List Body) (b : Body) where
   pub bundle-in : GoodAs 20 past b → indicatorIn past ≡ N → ⊥
   unfolding annexB
-  bundle-in g = unequal (indicatorIn past) N (both (not (eqb (indicatorIn past) N)) true (g .links .1 .0) .0)
+  bundle-in g = unequal (indicatorIn past) N (both (not (eqb (indicatorIn past) N)) true (g .linked .annex-b) .0)
 
   pub view-in : GoodAs 50 past b → indicatorIn past ≡ E → ⊥
   unfolding annexB
-  view-in g = unequal (indicatorIn past) E (both (not (eqb (indicatorIn past) E)) true (g .links .1 .0) .0)
+  view-in g = unequal (indicatorIn past) E (both (not (eqb (indicatorIn past) E)) true (g .linked .annex-b) .0)
 
-  pub viewed-check : GoodAs 25 past b → Viewed past
+  -- at an item, and at a 70
+  pub viewed-in : (t : ℕ) → eqb t 20 ≡ false → eqb t 50 ≡ false → isItem t || eqb t 70 ≡ true → GoodAs t past b → Viewed past
   unfolding annexB
-  viewed-check g = seen-in (indicatorIn past) (itemsSince (is 20) past) (shownIn past) (both _ true (g .links .1 .0) .0)
-
-  pub viewed-return : GoodAs 31 past b → Viewed past
-  unfolding annexB
-  viewed-return g = seen-in (indicatorIn past) (itemsSince (is 20) past) (shownIn past) (both _ true (g .links .1 .0) .0)
-
-  pub viewed-control : GoodAs 70 past b → Viewed past
-  unfolding annexB
-  viewed-control g = seen-in (indicatorIn past) (itemsSince (is 20) past) (shownIn past) (both _ true (g .links .1 .0) .0)
+  viewed-in t not-20 not-50 closes g =
+      seen-in (indicatorIn past) (itemsSince (is 20) past) (shownIn past) (both _ _ (rw (not-20, not-50, closes) at (g .linked .annex-b)) .0)
 
   pub letter-in : GoodAs 90 past b → (indicatorIn past ≡ N) ⊎ (1 ≤ openedIn past)
   unfolding annexB
-  letter-in g = filled-in (indicatorIn past) (openedIn past) (g .links .1 .0)
+  letter-in g = filled-in (indicatorIn past) (openedIn past) (g .linked .annex-b)
 
 module _ (t : ℕ) (past : List Body) (b : Body) (g : GoodAs t past b) where
   -- "as the first"
-  pub kind-in : isItem t ≡ true → (presentIn past ≡ 0) ⊎ (presentIn past ≡ t)
+  pub item-type-in : isItem t ≡ true → (presentIn past ≡ 0) ⊎ (presentIn past ≡ t)
   unfolding mayFollow
-  kind-in h = turn (either-in (eqb (presentIn past) 0) (eqb (presentIn past) t) (rw h at (both (follows (lastIn past) t) (oneItemType (presentIn past) t) (g .follows) .1)))
+  item-type-in h =
+      let same = both (follows (lastIn past) t) (oneItemType (presentIn past) t) (g .follows) .1 in
+      turn (either-in (eqb (presentIn past) 0) (eqb (presentIn past) t) (rw h at same))
     where
       turn : (eqb (presentIn past) 0 ≡ true) ⊎ (eqb (presentIn past) t ≡ true) → (presentIn past ≡ 0) ⊎ (presentIn past ≡ t)
       turn (inl e) = inl (eqb-true (presentIn past) 0 e)
       turn (inr e) = inr (eqb-true (presentIn past) t e)
+
+-- a type that does not follow the one before it
+pub not-after : (t n : ℕ) (past : List Body) (b c : Body) → typeOf b ≡ n → typeOf c ≡ t → follows n t ≡ false → Good (b ∷ past) c → ⊥
+not-after t n past b c e k f g =
+    not-both (sym f ∙ ap (λ (l : ℕ). follows l t) (sym e) ∙ follows-in t (b ∷ past) c (as-type t (b ∷ past) c k g))
+
+-- a part of an arrangement found sound, and the records behind it good
+pub record Found (Part : Type 0) (past rest : List Body) : Type 0 where
+  pub sound : Part
+  pub behind : GoodAll past rest

@@ -11,8 +11,8 @@ use Rattle.order.specs.MayFollow.{isItem}
 use Rattle.file_as_records.specs.Framed.{Body}
 use Rattle.arrangement.specs.Tree.{View, Addenda, ofCheck, ofReturn, Item, Bundle, CashLetter, File}
 use Rattle.arrangement.specs.Written.{optionalThen, viewThen, viewsThen, itemThen, itemsThen, bundleThen, bundlesThen, letterThen, lettersThen, records}
-use Rattle.arrangement.specs.Sound.{All, IfAny, kindIn}
-use Rattle.arrangement.specs.Kinds.{OfType, KindsView, KindsItem, KindsBundle, KindsLetter, Kinds}
+use Rattle.arrangement.specs.Sound.{All, IfAny, layoutIn}
+use Rattle.arrangement.specs.TypesInPlace.{OfType, TypedView, TypedItem, TypedBundle, TypedLetter, Typed}
 
 -- the turn of a type: its number, but a 50 after a 54, an item after its views, a 20 after a 70 and a 10 after a 90
 abbrev turn : ℕ → ℕ
@@ -95,49 +95,65 @@ led make part d d' x y r s h g a b e = let p = part .known x y r s h g a b (cc) 
 bodies : (t : ℕ) → Unique (All (OfType t)) _++_ (turn t) (turn t + 1)
 bodies t = many (OfType t) _∷_ _++_ (turn t) (λ r. refl) (λ x xs r. refl) (λ x r h. ap turn h) (single t (turn t) .known)
 
-views : Unique (All KindsView) viewsThen 55 56
-views = many KindsView viewThen viewsThen 55 (λ r. refl) (λ x xs r. refl) (λ x r h. ap turn (h .0)) (λ x y r s h g.
-    led {X = View} (λ d z. record { detail = d; image = z .0; analysis = z .1 }) (seq (single 52 53) (optional 54) (omega arith))
-    (x .detail) (y .detail) (x .image, x .analysis) (y .image, y .analysis) r s (h .1, h .2) (g .1, g .2))
+views : Unique (All TypedView) viewsThen 55 56
+views = many TypedView viewThen viewsThen 55 (λ r. refl) (λ x xs r. refl) (λ x r h. ap turn (h .detail)) (λ x y r s h g.
+    led {X = View} (λ d z. let (image, analysis) = z in record { detail = d; image = image; analysis = analysis })
+    (seq (single 52 53) (optional 54) (omega arith))
+    (x .detail) (y .detail) (x .image, x .analysis) (y .image, y .analysis) r s (h .image, h .analysis) (g .image, g .analysis))
 
 abbrev item : Body → Addenda → List View → Item
 item d a vs = record { detail = d; addenda = a; views = vs }
 
-item-known : (d d' : Body) (x x' : Addenda) (vs vs' : List View) (r s : List Body) → KindsItem (item d x vs) → KindsItem (item d' x' vs') →
+-- the types of an item's records behind the first, in pairs, as `seq` has its parts
+of-check : {d : Body} {a : List Body} {b : Option Body} {c : List Body} {vs : List View} → TypedItem (item d (ofCheck a b c) vs)
+    → All (OfType 26) a × (IfAny (OfType 27) b × (All (OfType 28) c × All TypedView vs))
+of-check h = (h .addenda .addenda-a, (h .addenda .addendum-b, (h .addenda .addenda-c, h .views)))
+
+of-return : {d : Body} {a : List Body} {b : Body} {c : Option Body} {g : List Body} {vs : List View} → TypedItem (item d (ofReturn a b c g) vs)
+    → All (OfType 32) a × (OfType 33 b × (IfAny (OfType 34) c × (All (OfType 35) g × All TypedView vs)))
+of-return h = (h .addenda .addenda-a, (h .addenda .addendum-b, (h .addenda .addendum-c, (h .addenda .addenda-d, h .views))))
+
+item-known : (d d' : Body) (x x' : Addenda) (vs vs' : List View) (r s : List Body) → TypedItem (item d x vs) → TypedItem (item d' x' vs') →
     60 ≤ next r → 60 ≤ next s → itemThen (item d x vs) r ≡ itemThen (item d' x' vs') s → (item d x vs ≡ item d' x' vs') × (r ≡ s)
 item-known d d' (ofCheck a b c) (ofCheck a' b' c') vs vs' r s h h' l l' e =
-    led (λ d z. item d (ofCheck (z .0) (z .1 .0) (z .1 .1 .0)) (z .1 .1 .1))
+    led (λ d z. let (a, more) = z in let (b, others) = more in let (c, vs) = others in item d (ofCheck a b c) vs)
     (seq (bodies 26) (seq (optional 27) (seq (bodies 28) views (omega arith)) (omega arith)) (omega arith))
     d d' (a, (b, (c, vs))) (a', (b', (c', vs'))) r s
-    (h .1 .0, (h .1 .1, (h .1 .2, h .2))) (h' .1 .0, (h' .1 .1, (h' .1 .2, h' .2))) (omega arith) (omega arith) e
+    (of-check h) (of-check h') (omega arith) (omega arith) e
 item-known d d' (ofReturn a b c g) (ofReturn a' b' c' g') vs vs' r s h h' l l' e =
-    led (λ d z. item d (ofReturn (z .0) (z .1 .0) (z .1 .1 .0) (z .1 .1 .1 .0)) (z .1 .1 .1 .1))
+    led (λ d z. let (a, more) = z in let (b, others) = more in let (c, last) = others in let (g, vs) = last in item d (ofReturn a b c g) vs)
     (seq (bodies 32) (seq (single 33 34) (seq (optional 34) (seq (bodies 35) views (omega arith)) (omega arith)) (omega arith)) (omega arith))
     d d' (a, (b, (c, (g, vs)))) (a', (b', (c', (g', vs')))) r s
-    (h .1 .0, (h .1 .1, (h .1 .2, (h .1 .3, h .2)))) (h' .1 .0, (h' .1 .1, (h' .1 .2, (h' .1 .3, h' .2)))) (omega arith) (omega arith) e
+    (of-return h) (of-return h') (omega arith) (omega arith) e
 item-known d d' (ofCheck a b c) (ofReturn a' b' c' g') vs vs' r s h h' l l' e = let z : _≡_ {A = ℕ} 25 31 = cc in absurd (omega arith)
 item-known d d' (ofReturn a b c g) (ofCheck a' b' c') vs vs' r s h h' l l' e = let z : _≡_ {A = ℕ} 25 31 = cc in absurd (omega arith)
 
-item-turn : (x : Addenda) → turn (kindIn x .typeNumber) ≡ 60
+item-turn : (x : Addenda) → turn (layoutIn x .typeNumber) ≡ 60
 item-turn (ofCheck a b c) = refl
 item-turn (ofReturn a b c d) = refl
 
-items : Unique (All KindsItem) itemsThen 60 61
-items = many KindsItem itemThen itemsThen 60 (λ r. refl) (λ x xs r. refl) (λ x r h. ap turn (h .0) ∙ item-turn (x .addenda))
+items : Unique (All TypedItem) itemsThen 60 61
+items = many TypedItem itemThen itemsThen 60 (λ r. refl) (λ x xs r. refl) (λ x r h. ap turn (h .detail) ∙ item-turn (x .addenda))
     (λ x y. item-known (x .detail) (y .detail) (x .addenda) (y .addenda) (x .views) (y .views))
 
-bundles : Unique (All KindsBundle) bundlesThen 80 81
-bundles = many KindsBundle bundleThen bundlesThen 80 (λ r. refl) (λ x xs r. refl) (λ x r h. ap turn (h .0)) (λ x y r s h g a b.
-    led {X = Bundle} (λ d z. record { header = d; items = z .0; control = z .1 }) (seq items (single 70 71) (omega arith))
-    (x .header) (y .header) (x .items, x .control) (y .items, y .control) r s (h .1, h .2) (g .1, g .2) (omega arith) (omega arith))
+bundles : Unique (All TypedBundle) bundlesThen 80 81
+bundles = many TypedBundle bundleThen bundlesThen 80 (λ r. refl) (λ x xs r. refl) (λ x r h. ap turn (h .header)) (λ x y r s h g a b.
+    led {X = Bundle} (λ d z. let (its, control) = z in record { header = d; items = its; control = control })
+    (seq items (single 70 71) (omega arith))
+    (x .header) (y .header) (x .items, x .control) (y .items, y .control) r s
+    (h .items, h .control) (g .items, g .control) (omega arith) (omega arith))
 
-letters : Unique (All KindsLetter) lettersThen 95 96
-letters = many KindsLetter letterThen lettersThen 95 (λ r. refl) (λ x xs r. refl) (λ x r h. ap turn (h .0)) (λ x y r s h g a b.
-    led {X = CashLetter} (λ d z. record { header = d; bundles = z .0; control = z .1 }) (seq bundles (single 90 91) (omega arith))
-    (x .header) (y .header) (x .bundles, x .control) (y .bundles, y .control) r s (h .1, h .2) (g .1, g .2) (omega arith) (omega arith))
+letters : Unique (All TypedLetter) lettersThen 95 96
+letters = many TypedLetter letterThen lettersThen 95 (λ r. refl) (λ x xs r. refl) (λ x r h. ap turn (h .header)) (λ x y r s h g a b.
+    led {X = CashLetter} (λ d z. let (bs, control) = z in record { header = d; bundles = bs; control = control })
+    (seq bundles (single 90 91) (omega arith))
+    (x .header) (y .header) (x .bundles, x .control) (y .bundles, y .control) r s
+    (h .bundles, h .control) (g .bundles, g .control) (omega arith) (omega arith))
 
 -- no list of records is two arrangements, whatever else the records hold
-pub one-shape : (x y : File) → Kinds x → Kinds y → records x ≡ records y → x ≡ y
+pub one-shape : (x y : File) → Typed x → Typed y → records x ≡ records y → x ≡ y
 one-shape x y h g e =
-    led {X = File} (λ d z. record { header = d; letters = z .0; control = z .1 }) (seq letters (single 99 100) (omega arith))
-    (x .header) (y .header) (x .letters, x .control) (y .letters, y .control) [] [] (h .1, h .2) (g .1, g .2) (omega arith) (omega arith) e .0
+    led {X = File} (λ d z. let (ls, control) = z in record { header = d; letters = ls; control = control })
+    (seq letters (single 99 100) (omega arith))
+    (x .header) (y .header) (x .letters, x .control) (y .letters, y .control) [] []
+    (h .letters, h .control) (g .letters, g .control) (omega arith) (omega arith) e .0

@@ -1,6 +1,6 @@
 pub mod Tree
 pub mod Written
 pub mod Sound
-pub mod Kinds
+pub mod TypesInPlace
 pub mod RowsAndTotals
 pub mod Arranged

@@ -35,7 +35,7 @@ abbrev pub PartsRight : List Sized → Body → List ℕ → Type 0
 PartsRight [] b rest = Unit {0}
 PartsRight (s ∷ ss) b rest = (ofType (s .dataType) (take (statedSize s b) rest) ≡ true) × PartsRight ss b (drop (statedSize s b) rest)
 
--- a record of a kind, alone: its type, its length, each of its fields
+-- a record of a layout, alone: its type, its length, each of its fields
 pub record Right (k : Layout) (b : Body) : Type 0 where
   pub type : typeOf b ≡ k .typeNumber
   pub long : length b ≡ k .fixedLength + statedSizes (sizedParts k) b
@@ -46,25 +46,29 @@ pub record Right (k : Layout) (b : Body) : Type 0 where
 abbrev pub stated : Layout → ℕ → Body → ℕ
 stated k n b = number (fieldOf k n b)
 
--- records of a kind whose record numbers, field 2, run on from a number
+-- a record of a layout whose record number, field 2, is n; and records whose numbers run on from n
+pub record RightAt (k : Layout) (n : ℕ) (b : Body) : Type 0 where
+  pub right : Right k b
+  pub number : stated k 2 b ≡ n
+
 abbrev pub Numbered : Layout → ℕ → List Body → Type 0
 Numbered k n [] = Unit {0}
-Numbered k n (b ∷ bs) = Right k b × (stated k 2 b ≡ n) × Numbered k (n + 1) bs
+Numbered k n (b ∷ bs) = RightAt k n b × Numbered k (n + 1) bs
 
 -- what an item is and says: its type, its amount (field 6), its sequence number (field 7), and how many addenda it has (field 12 of a 25,
 -- field 8 of a 31)
-abbrev pub kindIn : Addenda → Layout
-kindIn (ofCheck a b c) = checkDetail
-kindIn (ofReturn a b c d) = returnRecord
+abbrev pub layoutIn : Addenda → Layout
+layoutIn (ofCheck a b c) = checkDetail
+layoutIn (ofReturn a b c d) = returnRecord
 
-abbrev pub kindOf : Item → Layout
-kindOf i = kindIn (i .addenda)
+abbrev pub layoutOf : Item → Layout
+layoutOf i = layoutIn (i .addenda)
 
 abbrev pub amount : Item → ℕ
-amount i = stated (kindOf i) 6 (i .detail)
+amount i = stated (layoutOf i) 6 (i .detail)
 
 abbrev pub sequence : Item → List ℕ
-sequence i = fieldOf (kindOf i) 7 (i .detail)
+sequence i = fieldOf (layoutOf i) 7 (i .detail)
 
 abbrev pub statedIn : Addenda → Body → ℕ
 statedIn (ofCheck a b c) detail = stated checkDetail 12 detail
@@ -103,12 +107,21 @@ itemsOf f = total itemsIn (f .letters)
 abbrev pub centsOf : File → ℕ
 centsOf f = total debitIn (f .letters)
 
--- "26 and 32: record numbers run from 1 in each item; 28 and 35 likewise, each on its own"
+-- "26 and 32: record numbers run from 1 in each item; 28 and 35 likewise, each on its own": the addenda of a check, and those of a return
+pub record SoundOfCheck (a : List Body) (b : Option Body) (c : List Body) : Type 0 where
+  pub addenda-a : Numbered checkDetailAddendumA 1 a
+  pub addendum-b : IfAny (Right checkDetailAddendumB) b
+  pub addenda-c : Numbered checkDetailAddendumC 1 c
+
+pub record SoundOfReturn (a : List Body) (b : Body) (c : Option Body) (d : List Body) : Type 0 where
+  pub addenda-a : Numbered returnAddendumA 1 a
+  pub addendum-b : Right returnAddendumB b
+  pub addendum-c : IfAny (Right returnAddendumC) c
+  pub addenda-d : Numbered returnAddendumD 1 d
+
 abbrev pub SoundAddenda : Addenda → Type 0
-SoundAddenda (ofCheck a b c) =
-    Numbered checkDetailAddendumA 1 a × IfAny (Right checkDetailAddendumB) b × Numbered checkDetailAddendumC 1 c
-SoundAddenda (ofReturn a b c d) =
-    Numbered returnAddendumA 1 a × Right returnAddendumB b × IfAny (Right returnAddendumC) c × Numbered returnAddendumD 1 d
+SoundAddenda (ofCheck a b c) = SoundOfCheck a b c
+SoundAddenda (ofReturn a b c d) = SoundOfReturn a b c d
 
 -- "52: field 2 equals the bundle header's field 4, field 3 its field 5, field 4 its field 9; field 5 equals field 7 of the item. Fields 7
 -- and 8 are not blank if the 50's field 10 is 1"
@@ -142,7 +155,7 @@ F = 0x46
 -- an item under a cash letter header and a bundle header: it has the addenda that it states, no view in a letter of type E, and at least
 -- one in a letter of type I or F
 pub record SoundItem (letter header : Body) (i : Item) : Type 0 where
-  pub detail : Right (kindOf i) (i .detail)
+  pub detail : Right (layoutOf i) (i .detail)
   pub addenda : SoundAddenda (i .addenda)
   pub number : length (addendaThen (i .addenda) []) ≡ statedAddenda i
   pub views : All (SoundView header i) (i .views)
@@ -150,9 +163,9 @@ pub record SoundItem (letter header : Body) (i : Item) : Type 0 where
   pub seen : (indicator letter ≡ I) ⊎ (indicator letter ≡ F) → 1 ≤ length (i .views)
 
 -- "Items in a bundle are all 25 or all 31, as the first"
-abbrev pub OneKind : List Item → Type 0
-OneKind [] = Unit {0}
-OneKind (i ∷ is) = All (λ (j : Item). kindOf j .typeNumber ≡ kindOf i .typeNumber) is
+abbrev pub OneItemType : List Item → Type 0
+OneItemType [] = Unit {0}
+OneItemType (i ∷ is) = All (λ (j : Item). layoutOf j .typeNumber ≡ layoutOf i .typeNumber) is
 
 -- a bundle; no bundle stands in a letter of type N. Its control (clause 31): items, debit cents, cents of the 25s with a valid MICR line
 -- ("blank is not compared"), views, no credits
@@ -161,14 +174,14 @@ pub record SoundBundle (letter : Body) (b : Bundle) : Type 0 where
   pub allowed : indicator letter ≡ N → ⊥
   pub filled : 1 ≤ length (b .items)
   pub items : All (SoundItem letter (b .header)) (b .items)
-  pub one-kind : OneKind (b .items)
+  pub one-item-type : OneItemType (b .items)
   pub control : Right bundleControl (b .control)
   pub item-count : stated bundleControl 2 (b .control) ≡ length (b .items)
   pub debit : stated bundleControl 3 (b .control) ≡ debitOf b
   pub valid : (every isBlank (fieldOf bundleControl 4 (b .control)) ≡ true) ⊎ (stated bundleControl 4 (b .control) ≡ total micr (b .items))
   pub view-count : stated bundleControl 5 (b .control) ≡ total viewsOf (b .items)
-  pub credit : stated bundleControl 6 (b .control) ≡ 0
-  pub credit-count : stated bundleControl 7 (b .control) ≡ 0
+  pub credit-count : stated bundleControl 6 (b .control) ≡ 0
+  pub credit : stated bundleControl 7 (b .control) ≡ 0
 
 -- a cash letter; one of type E, I or F has a bundle. Its control (clause 34): bundles, items, debit cents, views, no credits
 pub record SoundLetter (l : CashLetter) : Type 0 where
@@ -180,8 +193,8 @@ pub record SoundLetter (l : CashLetter) : Type 0 where
   pub item-count : stated cashLetterControl 3 (l .control) ≡ itemsIn l
   pub debit : stated cashLetterControl 4 (l .control) ≡ debitIn l
   pub view-count : stated cashLetterControl 5 (l .control) ≡ viewsIn l
-  pub credit : stated cashLetterControl 8 (l .control) ≡ 0
-  pub credit-count : stated cashLetterControl 9 (l .control) ≡ 0
+  pub credit-count : stated cashLetterControl 8 (l .control) ≡ 0
+  pub credit : stated cashLetterControl 9 (l .control) ≡ 0
 
 -- a file, with a cash letter at least. Its control (clause 35): cash letters, "all records with 01 and 99 included", items, debit cents,
 -- no credits

@@ -23,7 +23,8 @@ use Rattle.standing.specs.Standing.{standing}
 use Rattle.standing.specs.declared.Standing.{Standing}
 use Rattle.standing.proofs.Laws.{assembled}
 use Rattle.file_as_records.specs.Framed.{Body, fieldAmong, fieldOf}
-use Rattle.file_as_records.proofs.Good.{value, sumSince, newest, never, is, count, amountAs, micrAs, statedAs, indicatorOf, signatureOf, lastIn, presentIn, lettersIn, bundlesIn, openedIn, itemsSince, debitSince, viewsSince, micrIn, addendaIn, bofdIn, endorserIn, shownIn, statedIn, indicatorIn, signatureIn}
+use Rattle.file_as_records.proofs.Figures.{value, sumSince, never, is, count, amountAs, micrAs, statedAs, indicatorOf, signatureOf, lastIn, presentIn, lettersIn, bundlesIn, openedIn, itemsSince, debitSince, viewsSince, micrIn, addendaIn, bofdIn, endorserIn, shownIn, statedIn, indicatorIn, signatureIn}
+use Rattle.file_as_records.proofs.Tests.{both}
 use Rattle.measure.specs.Measures as measures
 use Rattle.standing.specs.History as history
 
@@ -52,10 +53,6 @@ pub under : {A : Type 0} (pick : Bool → A → A → A) (c : Bool) {x x′ y y�
 under pick true p q unread = ap₂ (pick true) (p refl) q
 under pick false {x} {x′} {y} {y′} p q unread = ap (pick false x) q ∙ unread y′
 
-pub both : (a b : Bool) → a && b ≡ true → (a ≡ true) × (b ≡ true)
-both true b e = (refl, e)
-both false b e = ((cc), (cc))
-
 -- the lines of a layout lie within so many characters
 abbrev pub within : ℕ → List Line → Bool
 within n [] = true
@@ -75,20 +72,20 @@ module _ {file : List ℕ} {at : ℕ} {b : Body} (h : HeldAt file at b) where
       (part-held (x .first - 1) (x .size) (omega (arith, leb-true (x .first - 1 + x .size) fixed (tests .0))))
       (lines-held xs n fixed (tests .1) l)
 
-  -- a body as long as the fixed part of a kind has the fields of that kind where the file has them
+  -- a body as long as the fixed part of a layout has the fields of that layout where the file has them
   pub fields-held : (k : Layout) → within (k .fixedLength) (k .lines) ≡ true → k .fixedLength ≤ length b → (n : ℕ) → field k n file at ≡ fieldOf k n b
   fields-held k w l n = lines-held (k .lines) n (k .fixedLength) w l
 
   -- and so long is a sound body of its type
-  pub kind-long : (k : Layout) → ((c : Body) → judgedAs (k .typeNumber) c ≡ alone k c) → eqb (typeOf b) (k .typeNumber) ≡ true
+  pub layout-long : (k : Layout) → ((c : Body) → judgedAs (k .typeNumber) c ≡ alone k c) → eqb (typeOf b) (k .typeNumber) ≡ true
       → k .fixedLength ≤ length b
-  kind-long k own e =
+  layout-long k own e =
       let judged : alone k b ≡ Sound = sym (own b) ∙ ap (λ (t : ℕ). judgedAs t b) (sym (eqb-true (typeOf b) (k .typeNumber) e)) ∙ h .sound in
       omega (arith, sound-fills (k .fixedLength) (k .lines) (sizedParts k) b judged)
 
   pub fields-at : (k : Layout) → ((c : Body) → judgedAs (k .typeNumber) c ≡ alone k c) → within (k .fixedLength) (k .lines) ≡ true
       → eqb (typeOf b) (k .typeNumber) ≡ true → (n : ℕ) → field k n file at ≡ fieldOf k n b
-  fields-at k own w e n = fields-held k w (kind-long k own e) n
+  fields-at k own w e n = fields-held k w (layout-long k own e) n
 
   -- the figures of one record
   pub amount-held : amountOf file (typeOf b) at ≡ amountAs (typeOf b) b
@@ -118,8 +115,8 @@ module _ {file : List ℕ} {at : ℕ} {b : Body} (h : HeldAt file at b) where
   item-long e = cases (eqb (typeOf b) 25) refl e
     where
       cases : (c : Bool) → eqb (typeOf b) 25 ≡ c → c || eqb (typeOf b) 31 ≡ true → 80 ≤ length b
-      cases true q e = kind-long checkDetail (λ c. refl) q
-      cases false q e = kind-long returnRecord (λ c. refl) e
+      cases true q e = layout-long checkDetail (λ c. refl) q
+      cases false q e = layout-long returnRecord (λ c. refl) e
 
 -- a figure that each entry moves on as its body does
 module _ (file : List ℕ) where

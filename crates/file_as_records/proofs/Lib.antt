@@ -1,5 +1,12 @@
+pub mod Tests
+pub mod Figures
+pub mod Checks
+pub mod Links
+pub mod Totals
 pub mod Good
 pub mod Held
 pub mod Opened
 pub mod Steps
+pub mod LengthFields
+pub mod ReadThrough
 pub mod Accepted

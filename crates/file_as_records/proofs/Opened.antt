@@ -10,15 +10,16 @@ use Rattle.text.specs.DataTypes.{every}
 use Rattle.judge.specs.Alone.{typeOf}
 use Rattle.order.specs.MayFollow.{After, table, isOneOf, inTable, follows, isItem, oneItemType, mayFollow}
 use Rattle.file_as_records.specs.Framed.{Body}
-use Rattle.file_as_records.proofs.Good.{value, newest, is, lastIn, presentIn}
-use Rattle.file_as_records.proofs.Held.{both, HeldAt, Held, extent, newestAt}
+use Rattle.file_as_records.proofs.Figures.{value, newest, is, lastIn, presentIn}
+use Rattle.file_as_records.proofs.Tests.{both}
+use Rattle.file_as_records.proofs.Held.{HeldAt, Held, extent, newestAt}
 
 -- a law of a type and the one after it, at each pair of a table
 abbrev pub throughout : (ℕ → ℕ → Bool) → List After → Bool
 throughout law [] = true
 throughout law (line ∷ lines) = every (law (line .last)) (line .next) && throughout law lines
 
-among : (law : ℕ → Bool) (t : ℕ) (ts : List ℕ) → every law ts ≡ true → isOneOf t ts ≡ true → law t ≡ true
+pub among : (law : ℕ → Bool) (t : ℕ) (ts : List ℕ) → every law ts ≡ true → isOneOf t ts ≡ true → law t ≡ true
 among law t [] h e = cc
 among law t (u ∷ us) h e =
     let tests = both (law u) (every law us) h in
@@ -97,8 +98,9 @@ all-opened b past older e =
         (by-table (opening opens inside) law (lastIn past) (presentIn past) (typeOf b) e) q older
 
 -- the newest record that passes a test, where there is one
-abbrev pub Passing : List ℕ → (ℕ → Bool) → ℕ → Body → Type 0
-Passing file test at b = HeldAt file at b × (test (typeOf b) ≡ true)
+pub record Passing (file : List ℕ) (test : ℕ → Bool) (at : ℕ) (b : Body) : Type 0 where
+  pub held : HeldAt file at b
+  pub passes : test (typeOf b) ≡ true
 
 pub newest-passes : (file : List ℕ) (test : ℕ → Bool) (past : List Body) → Held file past → has test past ≡ true
     → Passing file test (newestAt test past) (newest test past)
@@ -108,5 +110,5 @@ newest-passes file test (b ∷ past) h e =
   where
     cases : (c : Bool) → test (typeOf b) ≡ c → (has test past ≡ true → Passing file test (newestAt test past) (newest test past))
         → c || has test past ≡ true → Passing file test (cond c (extent past) (newestAt test past)) (cond c b (newest test past))
-    cases true q older e = (h .0, q)
+    cases true q older e = record { held = h .0; passes = q }
     cases false q older e = older e

@@ -24,9 +24,14 @@ use Rattle.passes.specs.declared.Fault.the-variants.{Length, UnknownType, Place
 use Rattle.passes.specs.declared.Turn.{Turn}
 use Rattle.passes.specs.CheckOrder.{unlessAlone, agreement, turnOf}
 use Rattle.file_as_records.specs.Framed.{Body, fieldOf}
-use Rattle.file_as_records.proofs.Good.{newest, is, presentIn, bofdIn, endorserIn, signatureIn, statedIn, addendaIn, indicatorIn, openedIn, itemsSince, shownIn, numberedAs, sequenceOf, viewChecks, linkChecks, bundleChecks, letterChecks, fileChecks, totalChecks, AllHold, Good}
-use Rattle.file_as_records.proofs.Held.{HeldAt, Held, under, both, fields-held, fields-at, item-long, newestAt, over}
+use Rattle.file_as_records.proofs.Figures.{newest, is, presentIn, bofdIn, endorserIn, signatureIn, statedIn, addendaIn, indicatorIn, openedIn, itemsSince, shownIn, sequenceOf, value}
+use Rattle.file_as_records.proofs.Checks.{numberedAs, viewChecks, linkChecks, bundleChecks, letterChecks, fileChecks, totalChecks, AllHold, _and_, end}
+use Rattle.file_as_records.proofs.Good.{Good}
+use Rattle.file_as_records.proofs.Held.{HeldAt, Held, under, fields-held, fields-at, item-long, newestAt, over}
+use Rattle.file_as_records.proofs.Tests.{both}
 use Rattle.file_as_records.proofs.Opened.{AllOpened, all-opened, has, newest-passes}
+use Rattle.file_as_records.proofs.Links.{links-out, links-in}
+use Rattle.file_as_records.proofs.Totals.{totals-out, totals-in}
 use Rattle.frame.specs.Unless.{unless}
 use Rattle.judge.specs.declared.Judged.the-variants as judgements
 use Rattle.judge.specs.Alone as kinds
@@ -40,15 +45,15 @@ numbered [] = true
 numbered (c ∷ cs) = not (eqb (c .field) 0) && numbered cs
 
 none-fails : (cs : List Check) → AllHold cs → firstFailing cs ≡ 0
-none-fails [] h = refl
-none-fails (c ∷ cs) h = ap (λ (t : Bool). cond t (firstFailing cs) (c .field)) (h .0) ∙ none-fails cs (h .1)
+none-fails [] end = refl
+none-fails (c ∷ cs) (here and others) = ap (λ (t : Bool). cond t (firstFailing cs) (c .field)) here ∙ none-fails cs others
 
 all-hold : (cs : List Check) → numbered cs ≡ true → firstFailing cs ≡ 0 → AllHold cs
-all-hold [] n e = tt
+all-hold [] n e = end
 all-hold (c ∷ cs) n e =
     let tests = both (not (eqb (c .field) 0)) (numbered cs) n in
     let here = holds-here (c .holds) (c .field) (firstFailing cs) (tests .0) e in
-    (here .0, all-hold cs (tests .1) (here .1))
+    here .0 and all-hold cs (tests .1) (here .1)
   where
     holds-here : (t : Bool) (field later : ℕ) → not (eqb field 0) ≡ true → cond t later field ≡ 0 → (t ≡ true) × (later ≡ 0)
     holds-here true field later n e = (refl, e)
@@ -95,11 +100,11 @@ module _ {file : List ℕ} {at : ℕ} {b : Body} (past : List Body) (older : Hel
       let header = newest-passes file (is 20) past older bundle in
       let there = newest-passes file isItem past older item in
       let above : (n : ℕ) → field bundleHeader n file (newestAt (is 20) past) ≡ fieldOf bundleHeader n (newest (is 20) past) =
-      fields-at (header .0) bundleHeader (λ c. refl) refl (header .1) in
-      let long = item-long (there .0) (there .1) in
+      fields-at (header .held) bundleHeader (λ c. refl) refl (header .passes) in
+      let long = item-long (there .held) (there .passes) in
       let own : (n : ℕ) → field imageViewData n file at ≡ fieldOf imageViewData n b = fields-at h imageViewData (λ c. refl) refl e in
       let sequence : sequenceOfItem file (presentIn past) (newestAt isItem past) ≡ sequenceOf (presentIn past) (newest isItem past) =
-      ap₂ (cond (eqb (presentIn past) 31)) (fields-held (there .0) returnRecord refl long 7) (fields-held (there .0) checkDetail refl long 7) in
+      ap₂ (cond (eqb (presentIn past) 31)) (fields-held (there .held) returnRecord refl long 7) (fields-held (there .held) checkDetail refl long 7) in
       rw (own 2, own 3, own 4, own 5, own 7, own 8, above 4, above 5, above 9, sequence)
 
   links-same : AllOpened (b ∷ past) → links.linkChecks file (over past) (typeOf b) at ≡ linkChecks (typeOf b) past b
@@ -129,15 +134,20 @@ record Passed (file : List ℕ) (s : Standing) (at : ℕ) (b : Body) : Type 0 wh
   linked : firstFailing (links.linkChecks file s (typeOf b) at) ≡ 0
   totalled : firstFailing (totals.totalChecks file s (typeOf b) at) ≡ 0
 
-through : (c : Bool) (fault : Fault) (next : Turn) {t : ℕ} → unless c (turns.Faulty fault) next ≡ turns.Good t → (c ≡ true) × (next ≡ turns.Good t)
-through true fault next e = (refl, e)
-through false fault next e = ((cc), (cc))
+-- one check passed, and the turn that goes on behind it
+record Through (Check : Type 0) (next : Turn) (t : ℕ) : Type 0 where
+  check : Check
+  on : next ≡ turns.Good t
 
-through-alone : (j : Judged) (next : Turn) {t : ℕ} → unlessAlone j next ≡ turns.Good t → (j ≡ Sound) × (next ≡ turns.Good t)
-through-alone Sound next e = (refl, e)
-through-alone WrongLength next e = ((cc), (cc))
-through-alone judgements.UnknownType next e = ((cc), (cc))
-through-alone (WrongField n) next e = ((cc), (cc))
+through : (c : Bool) (fault : Fault) (next : Turn) {t : ℕ} → unless c (turns.Faulty fault) next ≡ turns.Good t → Through (c ≡ true) next t
+through true fault next e = record { check = refl; on = e }
+through false fault next e = record { check = cc; on = cc }
+
+through-alone : (j : Judged) (next : Turn) {t : ℕ} → unlessAlone j next ≡ turns.Good t → Through (j ≡ Sound) next t
+through-alone Sound next e = record { check = refl; on = e }
+through-alone WrongLength next e = record { check = cc; on = cc }
+through-alone judgements.UnknownType next e = record { check = cc; on = cc }
+through-alone (WrongField n) next e = record { check = cc; on = cc }
 
 two-long : (b : Body) → isCarried (typeOf b) ≡ true → leb 2 (length b) ≡ true
 unfolding typeOf isCarried
@@ -152,17 +162,17 @@ module _ {file : List ℕ} {s : Standing} {at : ℕ} {b : Body} where
   unfolding turnOf agreement linkFault totalFault
   passed-in e =
       let long = through (leb 2 (length b)) Length _ e in
-      let carries = through (isCarried (typeOf b)) UnknownType _ (long .1) in
-      let placed = through (mayFollow (s .last) (s .present) (typeOf b)) Place _ (carries .1) in
-      let judged = through-alone (judgedAs (typeOf b) b) _ (placed .1) in
-      let links = through (eqb (linkFault file s (typeOf b) at) 0) (Link (linkFault file s (typeOf b) at)) _ (judged .1) in
-      let sums = through (eqb (totalFault file s (typeOf b) at) 0) (Total (totalFault file s (typeOf b) at)) _ (links .1) in
+      let carries = through (isCarried (typeOf b)) UnknownType _ (long .on) in
+      let placed = through (mayFollow (s .last) (s .present) (typeOf b)) Place _ (carries .on) in
+      let judged = through-alone (judgedAs (typeOf b) b) _ (placed .on) in
+      let links = through (eqb (linkFault file s (typeOf b) at) 0) (Link (linkFault file s (typeOf b) at)) _ (judged .on) in
+      let sums = through (eqb (totalFault file s (typeOf b) at) 0) (Total (totalFault file s (typeOf b) at)) _ (links .on) in
       record {
-        carried = carries .0;
-        follows = placed .0;
-        alone = judged .0;
-        linked = eqb-true _ 0 (links .0);
-        totalled = eqb-true _ 0 (sums .0);
+        carried = carries .check;
+        follows = placed .check;
+        alone = judged .check;
+        linked = eqb-true _ 0 (links .check);
+        totalled = eqb-true _ 0 (sums .check);
       }
 
   passed-out : Passed file s at b → turnOf file s at b ≡ turns.Good (typeOf b)
@@ -180,12 +190,14 @@ module _ (file : List ℕ) (past : List Body) (older : Held file past) (opened :
         carried = p .carried;
         follows = p .follows;
         alone = p .alone;
-        links =
-            all-hold (linkChecks (typeOf b) past b) (links-numbered (typeOf b) past b)
-            (ap firstFailing (sym (links-same past older h now)) ∙ p .linked);
-        sums =
-            all-hold (totalChecks (typeOf b) past b) (totals-numbered (typeOf b) past b)
-            (ap firstFailing (sym (totals-same past older h)) ∙ p .totalled);
+        linked =
+            links-in (typeOf b) past b
+            (all-hold (linkChecks (typeOf b) past b) (links-numbered (typeOf b) past b)
+            (ap firstFailing (sym (links-same past older h now)) ∙ p .linked));
+        totalled =
+            totals-in (typeOf b) past b
+            (all-hold (totalChecks (typeOf b) past b) (totals-numbered (typeOf b) past b)
+            (ap firstFailing (sym (totals-same past older h)) ∙ p .totalled));
       }
 
   pub good-turn : HeldAt file at b → Good past b → turnOf file (over past) at b ≡ turns.Good (typeOf b)
@@ -196,6 +208,6 @@ module _ (file : List ℕ) (past : List Body) (older : Held file past) (opened :
         carried = g .carried;
         follows = g .follows;
         alone = g .alone;
-        linked = ap firstFailing (links-same past older h now) ∙ none-fails (linkChecks (typeOf b) past b) (g .links);
-        totalled = ap firstFailing (totals-same past older h) ∙ none-fails (totalChecks (typeOf b) past b) (g .sums);
+        linked = ap firstFailing (links-same past older h now) ∙ none-fails (linkChecks (typeOf b) past b) (links-out (typeOf b) past b (g .linked));
+        totalled = ap firstFailing (totals-same past older h) ∙ none-fails (totalChecks (typeOf b) past b) (totals-out (typeOf b) past b (g .totalled));
       })

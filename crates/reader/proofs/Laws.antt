@@ -11,7 +11,7 @@ use Rattle.passes.specs.declared.Answer.{Answer}
 use Rattle.passes.specs.declared.Answer.the-variants.{Accepted, Refused}
 use Rattle.passes.specs.Rows.{rowsOf}
 use Rattle.passes.specs.Reading.{surveyed, answerOf, tableOf}
-use Rattle.file_as_records.proofs.Accepted.{Bytes}
+use Rattle.file_as_records.proofs.LengthFields.{Bytes}
 use Rattle.arrangement.specs.Arranged.{Arranged}
 use Rattle.arrangement.proofs.Theorem.{arranged}
 

@@ -1,0 +1,130 @@
+-- Parts of an arrangement over which a figure of the records before stays as it is. Assumes nothing.
+use Prim.Native.Nat.{ℕ}
+use mathlib.Core.Path.{_≡_, refl, ap, _∙_}
+use mathlib.Core.List.{List, [], _∷_}
+use mathlib.Core.Option.{Option, none, some}
+use Rattle.judge.specs.Alone.{typeOf}
+use Rattle.file_as_records.specs.Framed.{Body}
+use Rattle.file_as_records.proofs.Figures.{value}
+use Rattle.file_as_records.proofs.Good.{onto}
+use Rattle.arrangement.specs.Tree.{View, Addenda, ofCheck, ofReturn, Item, Bundle, CashLetter}
+use Rattle.arrangement.specs.Sound.{All, IfAny, layoutIn, layoutOf}
+use Rattle.arrangement.specs.TypesInPlace.{OfType, TypedView, TypedAddenda, TypedItem, TypedBundle, TypedLetter}
+use Rattle.arrangement.proofs.After.{afterAddenda, afterBundle, afterBundles, afterItem, afterItems, afterLetter, afterLetters, afterOptional, afterView, afterViews, quiet-each}
+
+-- A type at which a figure stays as it is; and the types of each part, all such. One `omega arith` proves any of these of a sum.
+abbrev pub Quiet : {X : Type 0} → (ℕ → Body → X → X) → ℕ → Type 0
+Quiet {X} next t = (b : Body) (x : X) → next t b x ≡ x
+
+module _ {X : Type 0} (next : ℕ → Body → X → X) where
+  pub record QuietViews : Type 0 where
+    pub detail : Quiet next 50
+    pub image : Quiet next 52
+    pub analysis : Quiet next 54
+
+  pub record QuietAddenda : Type 0 where
+    pub check-a : Quiet next 26
+    pub check-b : Quiet next 27
+    pub check-c : Quiet next 28
+    pub return-a : Quiet next 32
+    pub return-b : Quiet next 33
+    pub return-c : Quiet next 34
+    pub return-d : Quiet next 35
+
+  pub record QuietDetails : Type 0 where
+    pub check : Quiet next 25
+    pub return : Quiet next 31
+
+  pub record QuietItems : Type 0 where
+    pub details : QuietDetails
+    pub addenda : QuietAddenda
+    pub views : QuietViews
+
+  pub record QuietBundles : Type 0 where
+    pub header : Quiet next 20
+    pub items : QuietItems
+    pub control : Quiet next 70
+
+  pub record QuietLetters : Type 0 where
+    pub header : Quiet next 10
+    pub bundles : QuietBundles
+    pub control : Quiet next 90
+
+module _ {X : Type 0} (first : X) (next : ℕ → Body → X → X) where
+  pub step : (past : List Body) (b : Body) (t : ℕ) → typeOf b ≡ t → value first next (b ∷ past) ≡ next t b (value first next past)
+  step past b t k = ap (λ (u : ℕ). next u b (value first next past)) k
+
+  pub quiet-step : (past : List Body) (b : Body) (t : ℕ) → typeOf b ≡ t → Quiet next t → value first next (b ∷ past) ≡ value first next past
+  quiet-step past b t k q = step past b t k ∙ q b (value first next past)
+
+  pub quiet-run : (past bs : List Body) (t : ℕ) → All (OfType t) bs → Quiet next t → value first next (onto bs past) ≡ value first next past
+  quiet-run past [] t k q = refl
+  quiet-run past (b ∷ bs) t k q = quiet-run (b ∷ past) bs t (k .1) q ∙ quiet-step past b t (k .0) q
+
+  pub quiet-optional : (past : List Body) (o : Option Body) (t : ℕ) → IfAny (OfType t) o → Quiet next t
+      → value first next (afterOptional past o) ≡ value first next past
+  quiet-optional past none t k q = refl
+  quiet-optional past (some b) t k q = quiet-step past b t k q
+
+  pub quiet-view : QuietViews next → (past : List Body) (v : View) → TypedView v → value first next (afterView past v) ≡ value first next past
+  quiet-view q past v k =
+      quiet-optional (v .image ∷ v .detail ∷ past) (v .analysis) 54 (k .analysis) (q .analysis)
+      ∙ quiet-step (v .detail ∷ past) (v .image) 52 (k .image) (q .image) ∙ quiet-step past (v .detail) 50 (k .detail) (q .detail)
+
+  pub quiet-views : QuietViews next → (past : List Body) (vs : List View) → All TypedView vs
+      → value first next (afterViews past vs) ≡ value first next past
+  quiet-views q past vs k = quiet-each afterView TypedView (value first next) (quiet-view q) past vs k
+
+  pub quiet-addenda : QuietAddenda next → (past : List Body) (a : Addenda) → TypedAddenda a
+      → value first next (afterAddenda past a) ≡ value first next past
+  quiet-addenda q past (ofCheck a b c) k =
+      quiet-run (afterOptional (onto a past) b) c 28 (k .addenda-c) (q .check-c) ∙ quiet-optional (onto a past) b 27 (k .addendum-b) (q .check-b)
+      ∙ quiet-run past a 26 (k .addenda-a) (q .check-a)
+  quiet-addenda q past (ofReturn a b c d) k =
+      quiet-run (afterOptional (b ∷ onto a past) c) d 35 (k .addenda-d) (q .return-d) ∙ quiet-optional (b ∷ onto a past) c 34 (k .addendum-c) (q .return-c)
+      ∙ quiet-step (onto a past) b 33 (k .addendum-b) (q .return-b) ∙ quiet-run past a 32 (k .addenda-a) (q .return-a)
+
+  quiet-detail : QuietDetails next → (a : Addenda) → Quiet next (layoutIn a .typeNumber)
+  quiet-detail q (ofCheck a b c) = q .check
+  quiet-detail q (ofReturn a b c d) = q .return
+
+  -- of an item whose addenda and views are quiet, the figure takes the 25 or 31
+  pub at-item : QuietAddenda next → QuietViews next → (past : List Body) (i : Item) → TypedItem i
+      → value first next (afterItem past i) ≡ next (layoutOf i .typeNumber) (i .detail) (value first next past)
+  at-item qa qv past i k =
+      quiet-views qv (afterAddenda (i .detail ∷ past) (i .addenda)) (i .views) (k .views)
+      ∙ quiet-addenda qa (i .detail ∷ past) (i .addenda) (k .addenda) ∙ step past (i .detail) (layoutOf i .typeNumber) (k .detail)
+
+  pub quiet-item : QuietItems next → (past : List Body) (i : Item) → TypedItem i → value first next (afterItem past i) ≡ value first next past
+  quiet-item q past i k = at-item (q .addenda) (q .views) past i k ∙ quiet-detail (q .details) (i .addenda) (i .detail) (value first next past)
+
+  -- of an item whose 25 or 31 and addenda are quiet, the figure takes the views
+  pub to-views : QuietDetails next → QuietAddenda next → (past : List Body) (i : Item) → TypedItem i
+      → value first next (afterAddenda (i .detail ∷ past) (i .addenda)) ≡ value first next past
+  to-views qd qa past i k =
+      quiet-addenda qa (i .detail ∷ past) (i .addenda) (k .addenda)
+      ∙ quiet-step past (i .detail) (layoutOf i .typeNumber) (k .detail) (quiet-detail qd (i .addenda))
+
+  pub quiet-items : QuietItems next → (past : List Body) (is : List Item) → All TypedItem is
+      → value first next (afterItems past is) ≡ value first next past
+  quiet-items q past is k = quiet-each afterItem TypedItem (value first next) (quiet-item q) past is k
+
+  pub quiet-bundle : QuietBundles next → (past : List Body) (b : Bundle) → TypedBundle b
+      → value first next (afterBundle past b) ≡ value first next past
+  quiet-bundle q past b k =
+      quiet-step (afterItems (b .header ∷ past) (b .items)) (b .control) 70 (k .control) (q .control)
+      ∙ quiet-items (q .items) (b .header ∷ past) (b .items) (k .items) ∙ quiet-step past (b .header) 20 (k .header) (q .header)
+
+  pub quiet-bundles : QuietBundles next → (past : List Body) (bs : List Bundle) → All TypedBundle bs
+      → value first next (afterBundles past bs) ≡ value first next past
+  quiet-bundles q past bs k = quiet-each afterBundle TypedBundle (value first next) (quiet-bundle q) past bs k
+
+  pub quiet-letter : QuietLetters next → (past : List Body) (l : CashLetter) → TypedLetter l
+      → value first next (afterLetter past l) ≡ value first next past
+  quiet-letter q past l k =
+      quiet-step (afterBundles (l .header ∷ past) (l .bundles)) (l .control) 90 (k .control) (q .control)
+      ∙ quiet-bundles (q .bundles) (l .header ∷ past) (l .bundles) (k .bundles) ∙ quiet-step past (l .header) 10 (k .header) (q .header)
+
+  pub quiet-letters : QuietLetters next → (past : List Body) (ls : List CashLetter) → All TypedLetter ls
+      → value first next (afterLetters past ls) ≡ value first next past
+  quiet-letters q past ls k = quiet-each afterLetter TypedLetter (value first next) (quiet-letter q) past ls k

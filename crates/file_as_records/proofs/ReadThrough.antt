@@ -1,0 +1,119 @@
+-- Good records, each behind its length, are read to the end, with their totals and their rows. Assumes nothing.
+use Prim.Native.Nat.{ℕ, _+_, _-_, _≤_, _<_}
+use native.Mathlib.Omega.{arith}
+use mathlib.Core.Path.{_≡_, sym, ap, _∙_}
+use mathlib.Core.List.{List, [], _∷_, _++_}
+use lib.ListN.{length, take, drop, length-append, length-drop}
+use lib.Seq.{drop-drop, take-append-seam, drop-append-seam}
+use borrow.Author.Tests.{le-leb, eq-eqb}
+use Rattle.frame.specs.Frames.{part, lengthIn, lengthAt, frameAt}
+use Rattle.frame.specs.declared.Frame.the-variants.{Whole}
+use Rattle.frame.proofs.Laws.{whole}
+use Rattle.judge.specs.Alone.{typeOf}
+use Rattle.standing.specs.Standing.{standing}
+use Rattle.standing.specs.declared.Standing.{Standing}
+use Rattle.passes.specs.declared.Step.the-variants.{On}
+use Rattle.passes.specs.declared.Answer.the-variants.{Accepted}
+use Rattle.passes.specs.Rows.{rowOf, rowsFrom, rowsOf}
+use Rattle.passes.specs.Reading.{ofTurn, stepOf, endedWith, run, surveyed}
+use Rattle.passes.proofs.Laws.{run-end, run-on, rows-end, rows-on}
+use Rattle.file_as_records.specs.Framed.{Body, lengthField, framed}
+use Rattle.file_as_records.proofs.Figures.{lastIn}
+use Rattle.file_as_records.proofs.Good.{Good, GoodAll, onto, totalsAfter, rowAs, rowsAll}
+use Rattle.file_as_records.proofs.Held.{HeldAt, Held, extent, entries, stands, amount-held}
+use Rattle.file_as_records.proofs.Opened.{AllOpened, none-opened, all-opened, none-after}
+use Rattle.file_as_records.proofs.Steps.{good-turn}
+use Rattle.file_as_records.proofs.LengthFields.{length-read}
+
+-- a body behind its length, and what follows it
+module _ (file : List ℕ) (at : ℕ) (b rest : List ℕ) (e : drop at file ≡ lengthField (length b) ++ (b ++ rest)) where
+  pub long : length file - at ≡ 4 + (length b + length rest)
+  long = omega (arith, ap length e, length-append b rest, length-drop at file)
+
+  pub body-is : drop (at + 4) file ≡ b ++ rest
+  body-is = sym (drop-drop 4 at file) ∙ ap (drop 4) e
+
+  part-is : part (at + 4) (length b) file ≡ b
+  part-is = ap (take (length b)) body-is ∙ take-append-seam b rest
+
+  rest-is : drop (at + 4 + length b) file ≡ rest
+  rest-is = sym (drop-drop (length b) (at + 4) file) ∙ ap (drop (length b)) body-is ∙ drop-append-seam b rest
+
+  frame-is : length file ≤ 268_435_456 → frameAt file at ≡ Whole (at + 4) (length b)
+  frame-is small =
+      let n : lengthAt file at ≡ length b = ap lengthIn e ∙ length-read (length b) (b ++ rest) (omega (arith, long)) in
+      whole file at (omega (arith, long)) ∙ ap (Whole (at + 4)) n
+
+-- one record read: its step, and its row
+module _ (file : List ℕ) (past : List Body) (older : Held file past) (opened : AllOpened past) (small : length file ≤ 268_435_456) (b rest : List ℕ)
+    (e : drop (extent past) file ≡ lengthField (length b) ++ (b ++ rest)) (g : Good past b) where
+  held : HeldAt file (extent past) b
+  held = record { rest = rest; body = body-is file (extent past) b rest e; sound = g .alone }
+
+  step-is : stepOf file (standing file (entries past)) (extent past) ≡ On (typeOf b) (length b)
+  unfolding stepOf
+  step-is =
+      rw (
+        stands file past older,
+        none-after (lastIn past) _ _ (g .follows),
+        frame-is file (extent past) b rest e small,
+        part-is file (extent past) b rest e,
+      )
+      (ap (ofTurn (length b)) (good-turn file past older opened (extent past) b held g))
+
+  row-is : rowOf file (standing file (entries (b ∷ past))) (typeOf b) (extent past) (length b) ≡ rowAs (typeOf b) (extent past) (b ∷ past) b
+  row-is =
+      ap (λ (s : Standing). rowOf file s (typeOf b) (extent past) (length b)) (stands file (b ∷ past) (held, older)) ∙ rw (amount-held held)
+
+  rows-step : (n : ℕ) → 0 < n → rowsFrom n file (extent past) (entries past)
+      ≡ rowAs (typeOf b) (extent past) (b ∷ past) b ++ rowsFrom (n - 1) file (extent (b ∷ past)) (entries (b ∷ past))
+  rows-step n h =
+      rows-on file (extent past) (entries past) n (extent past + 4) (length b) (typeOf b) (omega (arith, long file (extent past) b rest e)) h
+      (frame-is file (extent past) b rest e small) (ap typeOf (part-is file (extent past) b rest e))
+      ∙ ap (λ (row : List ℕ). row ++ rowsFrom (n - 1) file (extent (b ∷ past)) (entries (b ∷ past))) row-is
+
+-- good records from an offset on are read, with their totals and their rows
+record Reads (file : List ℕ) (n : ℕ) (past bodies : List Body) : Type 0 where
+  answer : run n file (extent past) (entries past) ≡ Accepted (totalsAfter (onto bodies past))
+  rows : rowsFrom n file (extent past) (entries past) ≡ rowsAll (extent past) past bodies
+
+reads : (file : List ℕ) → length file ≤ 268_435_456 → (bodies : List Body) (n : ℕ) (past : List Body) → Held file past → AllOpened past
+    → drop (extent past) file ≡ framed bodies → GoodAll past bodies → length file ≤ extent past + n → Reads file n past bodies
+unfolding endedWith
+reads file small [] n past older opened e g l =
+    let end : length file ≤ extent past = omega (arith, ap length e, length-drop (extent past) file) in
+    record {
+      answer = run-end file (extent past) (entries past) n end ∙ rw (stands file past older, eq-eqb (lastIn past) 99 g);
+      rows = rows-end file (extent past) (entries past) n end;
+    }
+reads file small (b ∷ bs) n past older opened e g l =
+    let more = long file (extent past) b (framed bs) e in
+    let here = held file past older opened small b (framed bs) e (g .first) in
+    let others =
+    reads file small bs (n - 1) (b ∷ past) (here, older) (all-opened b past opened (g .first .follows))
+    (rest-is file (extent past) b (framed bs) e) (g .rest) (omega arith) in
+    record {
+      answer =
+          run-on file (extent past) (entries past) n (typeOf b) (length b) (omega arith) (omega arith)
+          (step-is file past older opened small b (framed bs) e (g .first))
+          ∙ others .answer;
+      rows =
+          rows-step file past older opened small b (framed bs) e (g .first) n (omega arith)
+          ∙ ap (λ (rows : List ℕ). rowAs (typeOf b) (extent past) (b ∷ past) b ++ rows) (others .rows);
+    }
+
+-- good records behind their lengths are an accepted file
+pub record ReadWhole (file : List ℕ) (bodies : List Body) : Type 0 where
+  pub answer : surveyed file ≡ Accepted (totalsAfter (onto bodies []))
+  pub rows : rowsOf file ≡ rowsAll 0 [] bodies
+
+pub records-accepted : (file : List ℕ) (bodies : List Body) → length file ≤ 268_435_456 → framed bodies ≡ file → GoodAll [] bodies
+    → ReadWhole file bodies
+unfolding surveyed
+records-accepted file [] small e g = absurd (omega arith)
+records-accepted file (b ∷ bs) small e g =
+    let read = reads file small (b ∷ bs) (length file) [] tt none-opened (sym e) g (omega arith) in
+    record {
+      answer = rw (le-leb 1 (length file) (omega (arith, ap length e)), le-leb (length file) 268_435_456 small) (read .answer);
+      rows = read .rows;
+    }
