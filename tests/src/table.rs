@@ -1,4 +1,4 @@
-//! The table of fields, read from `fields.tsv` (291 fields of the 18 carried types).
+//! The table of fields, read from `fields.tsv`: the fields of the carried types.
 
 /// One printed value or run of values, as `P`, `A-M`, `03` or `80-85`.
 pub struct Values {

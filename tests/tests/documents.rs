@@ -148,13 +148,22 @@ fn number_behind(path: &str, words: &str) -> String {
     digits(&rest[..end])
 }
 
+/// The table of the independent judge has as many record types and fields.
+#[test]
+fn figures_are_those_of_the_independent_table() {
+    let table = record_tests::table::Table::read();
+    let fields: usize = table.kinds.iter().map(|kind| kind.fields.len()).sum();
+    assert_eq!(figure("record types carried"), table.kinds.len().to_string());
+    assert_eq!(figure("fields in all"), fields.to_string());
+}
+
 #[test]
 fn figures_are_those_that_the_checker_computes() {
     let laid = "crates/layout/specs/Laid.antt";
     assert_eq!(figure("record types carried"), number_behind(laid, "length layouts ≡"));
     assert_eq!(figure("fields in all"), number_behind(laid, "fieldsOf layouts ≡"));
     let reading = "crates/passes/specs/Reading.antt";
-    assert_eq!(figure("largest file in bytes"), number_behind(reading, "leb (length file)"));
+    assert_eq!(figure("largest file in bytes"), number_behind(reading, "&& leb (length file)"));
     assert_eq!(figure("numbers in a row"), number_behind(reading, "length (rowsOf file) ≡"));
     let answers = text("crates/passes/specs/Answers.antt");
     let faults = answers.lines().filter(|line| line.starts_with("numberOf ") && line.contains(" = ")).count();
@@ -200,25 +209,27 @@ fn figures_stand_in_one_place() {
     assert!(repeated.is_empty(), "these repeat a figure: {repeated:#?}");
 }
 
-/// A word between backquotes that names a file, a folder or a must-fail edit of the repository, as the path that has to be there.
-fn path_named(word: &str) -> Option<String> {
+/// Whether a word between backquotes looks like a path of the repository, seen from a folder of it.
+fn names_a_path(word: &str, folder: &Path) -> bool {
     let plain = |c: char| c.is_ascii_alphanumeric() || "_./-".contains(c);
-    if !word.contains('/') || !word.chars().all(plain) || word.contains("NAME") {
-        return None;
-    }
-    let first = word.split('/').next()?;
-    let tops = [".ci", "bench", "crates", "docs", "examples", "fuzz", "include", "peer", "rust", "samples", "tests"];
-    if tops.contains(&first) {
-        return (!word.contains("/target/")).then(|| word.to_string());
-    }
-    if !root().join("crates").join(first).is_dir() {
-        return None;
-    }
-    let second = word.split('/').nth(1)?;
-    if ["src", "specs", "proofs", "must-fail"].contains(&second) {
-        return Some(format!("crates/{word}"));
-    }
-    Some(format!("crates/{first}/must-fail/{second}.edit"))
+    let first = word.split('/').next().unwrap_or_default();
+    word.contains('/')
+        && word.chars().all(plain)
+        && !first.is_empty()
+        && !word.contains("NAME")
+        && !word.contains("target/")
+        && (folder.join(first).exists() || root().join("crates").join(first).is_dir())
+}
+
+/// Whether there is such a file or folder: in the repository, beside the document, in a crate, or as a crate's must-fail edit.
+fn is_there(word: &str, folder: &Path) -> bool {
+    let crates = root().join("crates");
+    let edit =
+        word.split_once('/').map(|(name, label)| crates.join(name).join("must-fail").join(format!("{label}.edit")));
+    root().join(word).exists()
+        || folder.join(word).exists()
+        || crates.join(word).exists()
+        || edit.is_some_and(|path| path.exists())
 }
 
 #[test]
@@ -226,10 +237,12 @@ fn no_path_in_a_document_is_stale() {
     let mut stale = Vec::new();
     let mut count = 0;
     for path in documents() {
+        let document = root().join(&path);
+        let folder = document.parent().expect("a folder");
         for (word, _) in quoted(&text(&path)) {
-            if let Some(named) = path_named(&word) {
+            if names_a_path(&word, folder) {
                 count += 1;
-                if !root().join(&named).exists() {
+                if !is_there(&word, folder) {
                     stale.push(format!("{path}: {word}"));
                 }
             }

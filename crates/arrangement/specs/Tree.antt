@@ -1,4 +1,4 @@
--- What a file consists of (clause 6 and Figures 1 and 2): each record is the list of its bytes.
+-- What a file consists of (clause 4 and Figures 1 and 2): each record is the list of its bytes.
 use mathlib.Core.List.{List}
 use mathlib.Core.Option.{Option}
 use Rattle.file_as_records.specs.Framed.{Body}

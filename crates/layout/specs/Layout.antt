@@ -58,7 +58,7 @@ none = DataTypeAlone
 abbrev pub anyNumber : Rule
 anyNumber = DataTypeAlone
 
--- values that document 01 leaves alone: Annex G, and 21.13, which hangs on another field
+-- values that are left alone: those of Annex G (document 01), and 21.13, which hang on another field (docs/DECISIONS.md, 4)
 abbrev pub notJudged : Rule
 notJudged = DataTypeAlone
 

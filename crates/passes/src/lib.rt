@@ -258,17 +258,17 @@ fn put_row(
     requires { ⌜ base + 7 ≤ length (now table) ⌝ }
     ensures { λ _. ⌜ now (table .exit) ≡ sets (now (table .entry)) base (rowOf (now (file .entry)) s kind offset size) ⌝ }
 {
-    let in_letter = (kind == 1) | (kind == 99);
-    let in_bundle = in_letter | ((kind == 10) | (kind == 90));
-    let in_item = in_bundle | ((kind == 20) | (kind == 70));
+    let outside_letter = (kind == 1) | (kind == 99);
+    let outside_bundle = outside_letter | ((kind == 10) | (kind == 90));
+    let outside_item = outside_bundle | ((kind == 20) | (kind == 70));
     let amount = amount_in(file, s, kind, offset);
     let items = s.bundle.items;
     table[base] = kind;
     table[base + 1] = offset as u64;
     table[base + 2] = size as u64;
-    table[base + 3] = pick(in_letter, 0, s.letters);
-    table[base + 4] = pick(in_bundle, 0, s.opened);
-    table[base + 5] = pick(in_item, 0, items.0);
+    table[base + 3] = pick(outside_letter, 0, s.letters);
+    table[base + 4] = pick(outside_bundle, 0, s.opened);
+    table[base + 5] = pick(outside_item, 0, items.0);
     table[base + 6] = amount;
 }
 
