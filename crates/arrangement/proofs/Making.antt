@@ -20,7 +20,7 @@ use Rattle.file_as_records.proofs.Figures.{is, statedIn, addendaIn, shownIn, op
 use Rattle.file_as_records.proofs.Tests.{not-both, refuted}
 use Rattle.file_as_records.proofs.Totals.{BundleTotals, FileTotals, LetterTotals, Totalled, bundle-totalled, file-totalled, letter-totalled, not-totalled}
 use Rattle.file_as_records.proofs.Links.{Linked, ViewLinked}
-use Rattle.file_as_records.proofs.Opened.{among}
+use Rattle.order.proofs.Laws.{among}
 use Rattle.arrangement.specs.Sound.{N, E, Right, layoutIn}
 use Rattle.arrangement.specs.Tree.{Addenda, ofCheck, ofReturn}
 use Rattle.arrangement.proofs.Rightness.{Known, right-out, known-20, known-25, known-31, known-50, known-52, known-70, known-90, known-99}

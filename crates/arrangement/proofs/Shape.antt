@@ -4,11 +4,12 @@ use native.Mathlib.Omega.{arith}
 use mathlib.Core.Path.{_≡_, refl}
 use mathlib.Core.List.{List, [], _∷_, _++_}
 use mathlib.Core.Option.{none, some}
-use mathlib.Core.Bool.{Bool, true, false, _||_, cond}
+use mathlib.Core.Bool.{Bool, true, false, _&&_, cond, and-eq-true-iff}
 use lib.Dec.{eqb}
 use borrow.Author.Tests.{eqb-true}
 use Rattle.judge.specs.Alone.{typeOf}
 use Rattle.order.specs.MayFollow.{After, table, follows, isOneOf, inTable}
+use Rattle.order.proofs.Laws.{or-picks}
 use Rattle.file_as_records.specs.Framed.{Body}
 use Rattle.arrangement.specs.Tree.{ofCheck, ofReturn, File}
 use Rattle.arrangement.specs.Written.{optionalThen, viewsThen, itemsThen, bundlesThen, lettersThen, records}
@@ -144,14 +145,6 @@ table-kept : (b : Body) (bs : List Body) →
     Each (λ (line : After). Each (λ (t : ℕ). OfType t b → Rest t bs → Rest (line .last) (b ∷ bs)) (line .next)) table
 table-kept b bs = search steps depth 40 fits 4000
 
-or-picks : {R : Type 0} (c d : Bool) → c || d ≡ true → (c ≡ true → R) → (d ≡ true → R) → R
-or-picks true d f g h = g refl
-or-picks false d f g h = h f
-
-pick-picks : {R : Type 0} (c d e : Bool) → cond c d e ≡ true → (c ≡ true → d ≡ true → R) → (e ≡ true → R) → R
-pick-picks true d e f g h = g refl f
-pick-picks false d e f g h = h f
-
 of-list : (P : ℕ → Type 0) (t : ℕ) (ts : List ℕ) → Each P ts → isOneOf t ts ≡ true → P t
 of-list P t [] e f = let z : _≡_ {A = ℕ} 0 1 = cc in absurd (omega arith)
 of-list P t (u ∷ us) (and p e) f = or-picks (eqb t u) (isOneOf t us) f (λ h. rw (eqb-true t u h) p) (of-list P t us e)
@@ -159,8 +152,13 @@ of-list P t (u ∷ us) (and p e) f = or-picks (eqb t u) (isOneOf t us) f (λ h. 
 of-table : (P : ℕ → ℕ → Type 0) (last t : ℕ) (lines : List After) → Each (λ (line : After). Each (P (line .last)) (line .next)) lines →
     inTable lines last t ≡ true → P last t
 of-table P last t [] e f = let z : _≡_ {A = ℕ} 0 1 = cc in absurd (omega arith)
-of-table P last t (line ∷ lines) (and p e) f = pick-picks (eqb last (line .last)) (isOneOf t (line .next)) (inTable lines last t) f
-    (λ h g. rw (eqb-true last (line .last) h) (of-list (P (line .last)) t (line .next) p g)) (of-table P last t lines e)
+of-table P last t (line ∷ lines) (and p e) f =
+    or-picks (eqb last (line .last) && isOneOf t (line .next)) (inTable lines last t) f here (of-table P last t lines e)
+  where
+    here : eqb last (line .last) && isOneOf t (line .next) ≡ true → P last t
+    here h =
+        let both = and-eq-true-iff (eqb last (line .last)) (isOneOf t (line .next)) .0 h in
+        rw (eqb-true last (line .last) (both .0)) (of-list (P (line .last)) t (line .next) p (both .1))
 
 rest : (bs : List Body) (last : ℕ) → Chain last bs → Rest last bs
 unfolding follows

@@ -5,42 +5,13 @@ use mathlib.Core.Bool.{Bool, true, false, _&&_, _||_, not, cond}
 use mathlib.Core.Path.{_≡_, refl, ap, _∙_}
 use mathlib.Core.List.{List, [], _∷_}
 use lib.Dec.{eqb}
-use borrow.Author.Tests.{eqb-true}
-use Rattle.text.specs.DataTypes.{every}
 use Rattle.judge.specs.Alone.{typeOf}
-use Rattle.order.specs.MayFollow.{After, table, isOneOf, inTable, follows, isItem, oneItemType, mayFollow}
+use Rattle.order.specs.MayFollow.{table, isOneOf, inTable, follows, isItem, oneItemType, mayFollow}
+use Rattle.order.proofs.Pairs.{throughout, listed}
 use Rattle.file_as_records.specs.Framed.{Body}
 use Rattle.file_as_records.proofs.Figures.{value, newest, is, lastIn, presentIn}
 use Rattle.file_as_records.proofs.Tests.{both}
 use Rattle.file_as_records.proofs.Held.{HeldAt, Held, extent, newestAt}
-
--- a law of a type and the one after it, at each pair of a table
-abbrev pub throughout : (ℕ → ℕ → Bool) → List After → Bool
-throughout law [] = true
-throughout law (line ∷ lines) = every (law (line .last)) (line .next) && throughout law lines
-
-pub among : (law : ℕ → Bool) (t : ℕ) (ts : List ℕ) → every law ts ≡ true → isOneOf t ts ≡ true → law t ≡ true
-among law t [] h e = cc
-among law t (u ∷ us) h e =
-    let tests = both (law u) (every law us) h in
-    cases (eqb t u) refl (tests .0) (λ q. among law t us (tests .1) q) e
-  where
-    cases : (c : Bool) → eqb t u ≡ c → law u ≡ true → (isOneOf t us ≡ true → law t ≡ true) → c || isOneOf t us ≡ true → law t ≡ true
-    cases true q here later e = ap law (eqb-true t u q) ∙ here
-    cases false q here later e = later e
-
-listed : (law : ℕ → ℕ → Bool) (last next : ℕ) (lines : List After) → throughout law lines ≡ true → inTable lines last next ≡ true
-    → law last next ≡ true
-listed law last next [] h e = cc
-listed law last next (line ∷ lines) h e =
-    let tests = both (every (law (line .last)) (line .next)) (throughout law lines) h in
-    cases (eqb last (line .last)) refl (λ q. among (law (line .last)) next (line .next) (tests .0) q) (λ q. listed law last next lines (tests .1) q) e
-  where
-    cases : (c : Bool) → eqb last (line .last) ≡ c → (isOneOf next (line .next) ≡ true → law (line .last) next ≡ true)
-        → (inTable lines last next ≡ true → law last next ≡ true)
-        → cond c (isOneOf next (line .next)) (inTable lines last next) ≡ true → law last next ≡ true
-    cases true q here later e = ap (λ (t : ℕ). law t next) (eqb-true last (line .last) q) ∙ here e
-    cases false q here later e = later e
 
 pub by-table : (law : ℕ → ℕ → Bool) → throughout law table ≡ true → (last present next : ℕ) → mayFollow last present next ≡ true
     → law last next ≡ true

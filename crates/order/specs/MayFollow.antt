@@ -1,4 +1,4 @@
--- Which record may follow (document 01): clauses 10 to 23, 31 and Figures 1 to 2.
+-- Which record may follow (document 01): clauses 7 to 23, 31, 34, 35 and Figures 1 to 2.
 use Prim.Native.Nat.{ℕ}
 use mathlib.Core.Bool.{Bool, true, false, _&&_, _||_, not, cond}
 use mathlib.Core.List.{List, [], _∷_}
@@ -40,9 +40,10 @@ abbrev pub isOneOf : ℕ → List ℕ → Bool
 isOneOf t [] = false
 isOneOf t (u ∷ us) = eqb t u || isOneOf t us
 
+-- a pair stands in the table: the first is the type of a line, and the second one of those after it
 abbrev pub inTable : List After → ℕ → ℕ → Bool
 inTable [] last next = false
-inTable (line ∷ lines) last next = cond (eqb last (line .last)) (isOneOf next (line .next)) (inTable lines last next)
+inTable (line ∷ lines) last next = eqb last (line .last) && isOneOf next (line .next) || inTable lines last next
 
 unfoldable pub follows : ℕ → ℕ → Bool
 follows last next = inTable table last next
@@ -55,7 +56,7 @@ isItem t = eqb t 25 || eqb t 31
 abbrev pub isAddendum : ℕ → Bool
 isAddendum t = within 26 28 t || within 32 35 t
 
--- of the types read so far, the newest first: the last one, and the kind of item in the bundle that is open (0: none yet)
+-- of the types read so far, the newest first: the last one, and the type of the items in the bundle that is open (0: none yet)
 abbrev pub lastOf : List ℕ → ℕ
 lastOf [] = 0
 lastOf (t ∷ ts) = t
@@ -68,7 +69,7 @@ itemTypeInBundle (t ∷ ts) = cond (eqb t 20) 0 (cond (isItem t) t (itemTypeInBu
 abbrev pub oneItemType : ℕ → ℕ → Bool
 oneItemType inBundle next = not (isItem next) || (eqb inBundle 0 || eqb inBundle next)
 
--- a type may come next after a last type, with items of a kind in the open bundle
+-- a type may come next after a last type, with items of a type in the open bundle
 unfoldable pub mayFollow : ℕ → ℕ → ℕ → Bool
 mayFollow last inBundle next = follows last next && oneItemType inBundle next
 

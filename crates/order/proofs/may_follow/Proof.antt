@@ -1,8 +1,5 @@
-use mathlib.Core.Path.{_≡_, refl, sym, _∙_}
-use borrow.Author.Tests.{ne-eqb}
-use Rattle.order.specs.MayFollow.{follows, mayFollow}
-use Rattle.order.proofs.Laws.{or-false}
 use borrow.Author.Needs.{needs}
+use Rattle.order.specs.MayFollow.{mayFollow}
 use Rattle.order.proofs.may_follow.Statement.{statement}
 use Rattle.order.proofs.may_follow.Tie as tie
 
