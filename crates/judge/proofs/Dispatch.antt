@@ -67,6 +67,9 @@ pub own-nothing : (own : List ℕ) → length own ≡ 0 → (body : List ℕ) �
 own-nothing [] e body = refl
 own-nothing (header ∷ rest) e body = absurd (omega arith)
 
+pub not-none : (n : ℕ) → (n ≡ 0 → ⊥) → 1 ≤ n
+not-none n h = omega arith
+
 pub record Whole (own : List ℕ) : Type 0 where
   pub fields : fieldsIn (getD own 0 0) + 1 ≤ length own
   pub parts : partsIn (getD own 0 0) ≤ fieldsIn (getD own 0 0)

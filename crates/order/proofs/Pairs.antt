@@ -24,8 +24,8 @@ listed law last next (line ∷ lines) h e =
   where
     here : every (law (line .last)) (line .next) ≡ true → eqb last (line .last) && isOneOf next (line .next) ≡ true → law last next ≡ true
     here all q =
-        let pair = and-eq-true-iff (eqb last (line .last)) (isOneOf next (line .next)) .0 q in
-        ap (λ (t : ℕ). law t next) (eqb-true last (line .last) (pair .0)) ∙ among (law (line .last)) next (line .next) all (pair .1)
+        let found = and-eq-true-iff (eqb last (line .last)) (isOneOf next (line .next)) .0 q in
+        ap (λ (t : ℕ). law t next) (eqb-true last (line .last) (found .0)) ∙ among (law (line .last)) next (line .next) all (found .1)
 
 -- a pair in one number, as `follows_last` writes it; those of a table in ascending order, in which the compiler puts the keys of a match
 abbrev pub pair : ℕ → ℕ → ℕ

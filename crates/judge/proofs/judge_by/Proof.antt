@@ -7,7 +7,7 @@ use Rattle.layout.specs.Packing.{liesWithin, linesFrom, sizedFrom}
 use Rattle.judge.specs.Alone.{judged}
 use native.Mathlib.Omega.{arith}
 use borrow.Author.Needs.{needs}
-use Rattle.judge.proofs.Dispatch.{Whole, whole, own-nothing, few-lent, lines-within, own-judged}
+use Rattle.judge.proofs.Dispatch.{Whole, whole, own-nothing, not-none, few-lent, lines-within, own-judged}
 use Rattle.judge.proofs.judge_by.Statement.{statement}
 use Rattle.judge.proofs.judge_by.Tie as tie
 
@@ -27,19 +27,19 @@ parts-in-requires : tie.Need-parts-in-requires
 parts-in-requires c κs = search needs
 
 sub-parts : tie.Need-sub-parts
-sub-parts c = let w : Whole (c .before .before .before .before .before .before .args .own .now) = whole (c .before .before .before .before .before .before .args .own .now) (omega arith) (c .before .before .before .before .before .before .pre) in search needs
+sub-parts c = let w : Whole (c .before .before .before .before .before .before .args .own .now) = whole (c .before .before .before .before .before .before .args .own .now) (not-none (length (c .before .before .before .before .before .before .args .own .now)) (c .before .before .before .if1 .left)) (c .before .before .before .before .before .before .pre) in search needs
 
 length-in-requires : tie.Need-length-in-requires
 length-in-requires c κs = search needs
 
 sub-judge-body : tie.Need-sub-judge-body
-sub-judge-body c = let w : Whole (c .before .before .before .before .before .before .before .args .own .now) = whole (c .before .before .before .before .before .before .before .args .own .now) (omega arith) (c .before .before .before .before .before .before .before .pre) in search needs
+sub-judge-body c = let w : Whole (c .before .before .before .before .before .before .before .args .own .now) = whole (c .before .before .before .before .before .before .before .args .own .now) (not-none (length (c .before .before .before .before .before .before .before .args .own .now)) (c .before .before .before .before .if1 .left)) (c .before .before .before .before .before .before .before .pre) in search needs
 
 part-judge-body-start : tie.Need-part-judge-body-start
-part-judge-body-start c = let w : Whole (c .before .before .before .before .before .before .before .args .own .now) = whole (c .before .before .before .before .before .before .before .args .own .now) (omega arith) (c .before .before .before .before .before .before .before .pre) in search needs
+part-judge-body-start c = let w : Whole (c .before .before .before .before .before .before .before .args .own .now) = whole (c .before .before .before .before .before .before .before .args .own .now) (not-none (length (c .before .before .before .before .before .before .before .args .own .now)) (c .before .before .before .before .if1 .left)) (c .before .before .before .before .before .before .before .pre) in search needs
 
 part-judge-body-end : tie.Need-part-judge-body-end
-part-judge-body-end c = let w : Whole (c .before .before .before .before .before .before .before .args .own .now) = whole (c .before .before .before .before .before .before .before .args .own .now) (omega arith) (c .before .before .before .before .before .before .before .pre) in search needs
+part-judge-body-end c = let w : Whole (c .before .before .before .before .before .before .before .args .own .now) = whole (c .before .before .before .before .before .before .before .args .own .now) (not-none (length (c .before .before .before .before .before .before .before .args .own .now)) (c .before .before .before .before .if1 .left)) (c .before .before .before .before .before .before .before .pre) in search needs
 
 mul-judge-body : tie.Need-mul-judge-body
 mul-judge-body c = search needs
@@ -51,19 +51,19 @@ part-judge-body-start-2 : tie.Need-part-judge-body-start-2
 part-judge-body-start-2 c = search needs
 
 part-judge-body-end-2 : tie.Need-part-judge-body-end-2
-part-judge-body-end-2 c = let w : Whole (c .before .before .before .before .before .before .before .before .args .own .now) = whole (c .before .before .before .before .before .before .before .before .args .own .now) (omega arith) (c .before .before .before .before .before .before .before .before .pre) in search needs
+part-judge-body-end-2 c = let w : Whole (c .before .before .before .before .before .before .before .before .args .own .now) = whole (c .before .before .before .before .before .before .before .before .args .own .now) (not-none (length (c .before .before .before .before .before .before .before .before .args .own .now)) (c .before .before .before .before .before .if1 .left)) (c .before .before .before .before .before .before .before .before .pre) in search needs
 
 judge-body-requires : tie.Need-judge-body-requires
 judge-body-requires c κs = (
-  few-lent (c .before .before .before .before .before .before .before .before .before .args .own .now) (c .before .before .before .before .fields-in .result + 1 - c .before .before .before .parts-in .result) (c .before .before .before .before .fields-in .result + 1) (omega arith) (c .before .before .before .before .before .before .before .before .before .pre) (omega (arith, c .before .before .before .before .fields-in .ensures)) (omega (arith, c .before .before .before .parts-in .ensures)),
-  subst (λ (n : ℕ). every (liesWithin n) (take ((c .before .before .before .before .fields-in .result + 1 - c .before .before .before .parts-in .result) - 1) (drop 1 (c .before .before .before .before .before .before .before .before .before .args .own .now))) ≡ true) (sym (c .before .before .length-in .ensures)) (lines-within (c .before .before .before .before .before .before .before .before .before .args .own .now) (c .before .before .before .before .fields-in .result + 1 - c .before .before .before .parts-in .result) (c .before .before .before .before .fields-in .result + 1) (omega arith) (c .before .before .before .before .before .before .before .before .before .pre) (omega (arith, c .before .before .before .before .fields-in .ensures)) (omega (arith, c .before .before .before .parts-in .ensures))),
+  few-lent (c .before .before .before .before .before .before .before .before .before .args .own .now) (c .before .before .before .before .fields-in .result + 1 - c .before .before .before .parts-in .result) (c .before .before .before .before .fields-in .result + 1) (not-none (length (c .before .before .before .before .before .before .before .before .before .args .own .now)) (c .before .before .before .before .before .before .if1 .left)) (c .before .before .before .before .before .before .before .before .before .pre) (ap (λ (k : ℕ). k + 1) (c .before .before .before .before .fields-in .ensures)) (ap (λ (k : ℕ). c .before .before .before .before .fields-in .result + 1 - k) (c .before .before .before .parts-in .ensures)),
+  subst (λ (n : ℕ). every (liesWithin n) (take ((c .before .before .before .before .fields-in .result + 1 - c .before .before .before .parts-in .result) - 1) (drop 1 (c .before .before .before .before .before .before .before .before .before .args .own .now))) ≡ true) (sym (c .before .before .length-in .ensures)) (lines-within (c .before .before .before .before .before .before .before .before .before .args .own .now) (c .before .before .before .before .fields-in .result + 1 - c .before .before .before .parts-in .result) (c .before .before .before .before .fields-in .result + 1) (not-none (length (c .before .before .before .before .before .before .before .before .before .args .own .now)) (c .before .before .before .before .before .before .if1 .left)) (c .before .before .before .before .before .before .before .before .before .pre) (ap (λ (k : ℕ). k + 1) (c .before .before .before .before .fields-in .ensures)) (ap (λ (k : ℕ). c .before .before .before .before .fields-in .result + 1 - k) (c .before .before .before .parts-in .ensures))),
 )
 
 returns-2 : tie.Need-returns-2
 returns-2 c =
     c .judge-body .ensures
     ∙ ap (λ (n : ℕ). judged n (linesFrom 1 (take ((c .before .before .before .before .before .fields-in .result + 1 - c .before .before .before .before .parts-in .result) - 1) (drop 1 (c .before .before .before .before .before .before .before .before .before .before .args .own .now)))) (sizedFrom (length (take ((c .before .before .before .before .before .fields-in .result + 1 - c .before .before .before .before .parts-in .result) - 1) (drop 1 (c .before .before .before .before .before .before .before .before .before .before .args .own .now))) + 1) (take ((c .before .before .before .before .before .fields-in .result + 1) - (c .before .before .before .before .before .fields-in .result + 1 - c .before .before .before .before .parts-in .result)) (drop (c .before .before .before .before .before .fields-in .result + 1 - c .before .before .before .before .parts-in .result) (c .before .before .before .before .before .before .before .before .before .before .args .own .now)))) (c .before .before .before .before .before .before .before .before .before .before .args .body .now)) (c .before .before .before .length-in .ensures)
-    ∙ own-judged (c .before .before .before .before .before .before .before .before .before .before .args .own .now) (c .before .before .before .before .before .fields-in .result + 1 - c .before .before .before .before .parts-in .result) (c .before .before .before .before .before .fields-in .result + 1) (omega arith) (c .before .before .before .before .before .before .before .before .before .before .pre) (omega (arith, c .before .before .before .before .before .fields-in .ensures)) (omega (arith, c .before .before .before .before .parts-in .ensures)) (c .before .before .before .before .before .before .before .before .before .before .args .body .now)
+    ∙ own-judged (c .before .before .before .before .before .before .before .before .before .before .args .own .now) (c .before .before .before .before .before .fields-in .result + 1 - c .before .before .before .before .parts-in .result) (c .before .before .before .before .before .fields-in .result + 1) (not-none (length (c .before .before .before .before .before .before .before .before .before .before .args .own .now)) (c .before .before .before .before .before .before .before .if1 .left)) (c .before .before .before .before .before .before .before .before .before .before .pre) (ap (λ (k : ℕ). k + 1) (c .before .before .before .before .before .fields-in .ensures)) (ap (λ (k : ℕ). c .before .before .before .before .before .fields-in .result + 1 - k) (c .before .before .before .before .parts-in .ensures)) (c .before .before .before .before .before .before .before .before .before .before .args .body .now)
 
 pub judge-by-spec : {M : Type 1} → statement M
 judge-by-spec =
