@@ -28,6 +28,16 @@ fn in_capitals(word: &str) -> String {
     out
 }
 
+/// `routing (TTTTAAAAC ∷ TTTTT-FFF ∷ [])` as `ROUTING`, `TTTTAAAAC`, `TTTTT_FFF`.
+fn routing_in_capitals(forms: &[&str]) -> Vec<String> {
+    let listed = forms
+        .iter()
+        .map(|word| word.trim_matches(|c| c == '(' || c == ')'))
+        .filter(|word| !["∷", "[]"].contains(word))
+        .map(|form| form.replace('-', "_").replace('b', "B_"));
+    std::iter::once("ROUTING".to_string()).chain(listed).collect()
+}
+
 /// The rule of a line of the definitions, in the words of the code.
 fn rule_in_capitals(rule: &str) -> Vec<String> {
     let words: Vec<&str> = rule.trim_matches(|c| c == '(' || c == ')').split(' ').collect();
@@ -37,6 +47,7 @@ fn rule_in_capitals(rule: &str) -> Vec<String> {
         ["numbers", low, high] => vec!["NUMBERS".into(), format!("{low} * LOW"), high.into()],
         ["clippedBy", position] => vec!["CLIPPED_BY".into(), position.into()],
         ["Code", list] => vec![in_capitals(list)],
+        ["routing", ..] => routing_in_capitals(&words[1..]),
         [one] => vec![in_capitals(one)],
         _ => panic!("a rule that this test does not know: {rule}"),
     }

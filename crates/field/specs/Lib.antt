@@ -1,3 +1,4 @@
 pub mod Values
 pub mod Formats
+pub mod RoutingForms
 pub mod Rules

@@ -13,9 +13,10 @@ use Rattle.field.specs.declared.Usage.{Usage}
 use Rattle.field.specs.declared.Usage.the-variants.{Mandatory, Conditional}
 use Rattle.field.specs.declared.CodeList.{CodeList}
 use Rattle.field.specs.declared.Rule.{Rule}
-use Rattle.field.specs.declared.Rule.the-variants.{DataTypeAlone, Numbers, AllDigits, OneOrTwoDigits, StandardLevel, CollectionType, BundleCollectionType, Code, Date, HoursMinutes, HoursMinutesSeconds, RoutingNumber, ClippingCoordinate}
+use Rattle.field.specs.declared.Rule.the-variants.{DataTypeAlone, Numbers, AllDigits, OneOrTwoDigits, StandardLevel, CollectionType, BundleCollectionType, Code, Date, HoursMinutes, HoursMinutesSeconds, Routing, ClippingCoordinate}
 use Rattle.field.specs.Values.{isCode, isStandardLevel, isCollectionType, isBundleCollectionType}
-use Rattle.field.specs.Formats.{isDate, isHoursMinutes, isHoursMinutesSeconds, isRoutingNumber}
+use Rattle.field.specs.Formats.{isDate, isHoursMinutes, isHoursMinutesSeconds}
+use Rattle.field.specs.RoutingForms.{fitsSome}
 
 -- a field of digits whose number passes a test
 abbrev pub digitsWith : (ℕ → Bool) → List ℕ → Bool
@@ -46,7 +47,7 @@ follows (Code list) part body = code list part
 follows Date part body = isDate part
 follows HoursMinutes part body = isHoursMinutes part
 follows HoursMinutesSeconds part body = isHoursMinutesSeconds part
-follows RoutingNumber part body = isRoutingNumber part
+follows (Routing forms) part body = fitsSome forms part
 follows (ClippingCoordinate origin) part body = clippingCoordinate origin part body
 
 -- "meets its type and defined values"; a can't-read or questionable mark that the type admits leaves the type alone to judge

@@ -4,11 +4,12 @@ ghost use mathlib.Core.Path.{_≡_};
 ghost use mathlib.Core.Bool.{_&&_, _||_};
 ghost use Prim.Native.Nat.{_≤_};
 ghost use lib.ListN.{length, getD};
-ghost use Rattle.text.specs.Characters.{within, isNumeric};
+ghost use Rattle.text.specs.Characters.{within, isNumeric, isBlank, isDash};
 ghost use Rattle.text.specs.DataTypes.{every, some, isMark};
 ghost use Rattle.text.specs.Number.{number};
 ghost use Rattle.field.specs.Values.{isCode, isStandardLevel, isCollectionType, isBundleCollectionType};
-ghost use Rattle.field.specs.Formats.{isDate, isHoursMinutes, isHoursMinutesSeconds, weightedSum, isRoutingNumber};
+ghost use Rattle.field.specs.Formats.{isDate, isHoursMinutes, isHoursMinutesSeconds};
+ghost use Rattle.field.specs.RoutingForms.{weightedSum, isTTTTAAAAC, partedBy, isNNNNNNNNN, fitsRarer, fitsSome};
 ghost use Rattle.field.specs.Rules.{digitsWith, oneOrTwoDigits, code, clippingCoordinate, follows, leftBlank};
 
 // Clause 6.3.
@@ -30,6 +31,20 @@ pub enum CodeList {
     TestOverrides,
 }
 
+// The forms of a routing number that a field's Format lines list.
+pub struct Forms {
+    // TTTTAAAAC
+    pub checked: bool,
+    // TTTTT-FFF
+    pub canadian: bool,
+    // TTTT-AAAA
+    pub dashed: bool,
+    // bTTTTAAAA
+    pub blanked: bool,
+    // NNNNNNNNN
+    pub nonfinancial: bool,
+}
+
 // A field's Format line or Defined Values (clauses 6.7 and 6.8).
 pub enum Rule {
     // Neither: the data type alone.
@@ -45,7 +60,7 @@ pub enum Rule {
     Date,
     HoursMinutes,
     HoursMinutesSeconds,
-    RoutingNumber,
+    Routing(Forms),
     // All digits, and zero where the clipping origin, at this place of the record, is '0'.
     ClippingCoordinate(usize),
 }
@@ -153,13 +168,64 @@ fn weighted_sum(s: &[u8]) -> u64
 }
 
 // TTTTAAAAC, with the ABA rule's check digit.
-pub fn is_routing_number(s: &[u8]) -> bool
-    ensures { λ r. ⌜ r ≡ isRoutingNumber (now (s .entry)) ⌝ }
+pub fn is_checked(s: &[u8]) -> bool
+    ensures { λ r. ⌜ r ≡ isTTTTAAAAC (now (s .entry)) ⌝ }
 {
     if s.len() != 9 {
         return false;
     }
     text::all_numeric(s) & (weighted_sum(s) % 10 == 0)
+}
+
+// Nine characters: digits, a dash at a place, digits.
+fn is_dashed_at(place: usize, s: &[u8]) -> bool
+    requires { ⌜ place ≤ 8 ⌝ }
+    ensures { λ r. ⌜ r ≡ partedBy isDash place (now (s .entry)) ⌝ }
+{
+    if s.len() != 9 {
+        return false;
+    }
+    let behind = place + 1;
+    text::all_numeric(&s[0..place]) & (text::is_dash(s[place]) & text::all_numeric(&s[behind..9]))
+}
+
+// A blank and eight digits.
+fn is_blanked(s: &[u8]) -> bool
+    ensures { λ r. ⌜ r ≡ partedBy isBlank 0 (now (s .entry)) ⌝ }
+{
+    if s.len() != 9 {
+        return false;
+    }
+    text::is_blank(s[0]) & text::all_numeric(&s[1..9])
+}
+
+// The number of a body that is no bank.
+fn is_nonfinancial(s: &[u8]) -> bool
+    ensures { λ r. ⌜ r ≡ isNNNNNNNNN (now (s .entry)) ⌝ }
+{
+    if s.len() != 9 {
+        return false;
+    }
+    text::of_type(DataType::NB, s) & text::some_numeric(s)
+}
+
+// The forms that fewer senders use.
+fn fits_rarer(forms: Forms, s: &[u8]) -> bool
+    ensures { λ r. ⌜ r ≡ fitsRarer forms (now (s .entry)) ⌝ }
+{
+    (forms.canadian & is_dashed_at(5, s))
+        | ((forms.dashed & is_dashed_at(4, s))
+            | ((forms.blanked & is_blanked(s)) | (forms.nonfinancial & is_nonfinancial(s))))
+}
+
+// One of the forms that are listed. Nearly all are nine digits with their check digit, so that form is tried first.
+pub fn fits_some(forms: Forms, s: &[u8]) -> bool
+    ensures { λ r. ⌜ r ≡ fitsSome forms (now (s .entry)) ⌝ }
+{
+    if forms.checked & is_checked(s) {
+        return true;
+    }
+    fits_rarer(forms, s)
 }
 
 fn byte_at(s: &[u8], at: usize) -> u8
@@ -195,7 +261,7 @@ pub fn follows_rule<'a>(rule: Rule, part: &'a [u8], body: &'a [u8]) -> bool
         Rule::Date => is_date(part),
         Rule::HoursMinutes => is_hours_minutes(part),
         Rule::HoursMinutesSeconds => is_hours_minutes_seconds(part),
-        Rule::RoutingNumber => is_routing_number(part),
+        Rule::Routing(forms) => fits_some(forms, part),
         Rule::ClippingCoordinate(origin) => is_clipping_coordinate(origin, part, body),
     }
 }

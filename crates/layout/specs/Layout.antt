@@ -7,7 +7,8 @@ use Rattle.text.specs.declared.DataType.{DataType}
 use Rattle.field.specs.declared.Usage.{Usage}
 use Rattle.field.specs.declared.Usage.the-variants.{Mandatory, Conditional}
 use Rattle.field.specs.declared.Rule.{Rule}
-use Rattle.field.specs.declared.Rule.the-variants.{DataTypeAlone, Numbers, ClippingCoordinate}
+use Rattle.field.specs.declared.Rule.the-variants.{DataTypeAlone, Numbers, Routing, ClippingCoordinate}
+use Rattle.field.specs.RoutingForms.{Form, listing}
 
 -- a field of the fixed part: FIELD, USAGE, POSITION (first and last), SIZE and TYPE, as the table prints them, and its Format or
 -- Defined Values
@@ -68,6 +69,10 @@ numbers low high = Numbers low high
 
 abbrev pub only : ℕ → Rule
 only n = Numbers n n
+
+-- a routing number in one of the forms that the Format lines list
+abbrev pub routing : List Form → Rule
+routing forms = Routing (listing forms)
 
 -- 22.10 to 22.13: a coordinate under the clipping origin at a position
 abbrev pub clippedBy : ℕ → Rule

@@ -3,8 +3,9 @@
 use mathlib.Core.List.{List, [], _∷_}
 use Rattle.text.specs.declared.DataType.the-variants.{AB, A, AN, ANS, Binary, N, NB, NBD, NBQ, NBMc, NBMcd, NBMcdo, NBMU}
 use Rattle.field.specs.declared.CodeList.the-variants.{FileTypes, YesNo, YesNoUnknown, RecordTypeIndicators, CashLetterDocumentation, ItemDocumentation, ReturnAcceptance, ArchiveTypes, TestOverrides}
-use Rattle.field.specs.declared.Rule.the-variants.{AllDigits, OneOrTwoDigits, StandardLevel, CollectionType, BundleCollectionType, Date, HoursMinutes, HoursMinutesSeconds, RoutingNumber, Code}
-use Rattle.layout.specs.Layout.{Layout, layout, line, part, M, C, none, anyNumber, notJudged, numbers, only, clippedBy}
+use Rattle.field.specs.declared.Rule.the-variants.{AllDigits, OneOrTwoDigits, StandardLevel, CollectionType, BundleCollectionType, Date, HoursMinutes, HoursMinutesSeconds, Code}
+use Rattle.field.specs.RoutingForms.{TTTTAAAAC, TTTTT-FFF, TTTT-AAAA, bTTTTAAAA, NNNNNNNNN}
+use Rattle.layout.specs.Layout.{Layout, layout, line, part, M, C, none, anyNumber, notJudged, numbers, only, clippedBy, routing}
 
 -- Clause 7 File Header Record (Type 01): 14 fields, 80 bytes
 abbrev pub fileHeader : Layout
@@ -14,8 +15,8 @@ fileHeader =
     line 1 M 1 2 2 N (only 1) ∷  -- Record Type
     line 2 M 3 4 2 N StandardLevel ∷  -- Standard Level
     line 3 M 5 5 1 AN (Code FileTypes) ∷  -- File Type Indicator
-    line 4 M 6 14 9 NBD RoutingNumber ∷  -- Immediate Destination Routing Number
-    line 5 M 15 23 9 NBD RoutingNumber ∷  -- Immediate Origin Routing Number
+    line 4 M 6 14 9 NBD (routing (TTTTAAAAC ∷ TTTTT-FFF ∷ NNNNNNNNN ∷ [])) ∷  -- Immediate Destination Routing Number
+    line 5 M 15 23 9 NBD (routing (TTTTAAAAC ∷ TTTTT-FFF ∷ NNNNNNNNN ∷ [])) ∷  -- Immediate Origin Routing Number
     line 6 M 24 31 8 N Date ∷  -- File Creation Date
     line 7 M 32 35 4 N HoursMinutes ∷  -- File Creation Time
     line 8 M 36 36 1 A (Code YesNo) ∷  -- Resend Indicator
@@ -35,8 +36,8 @@ cashLetterHeader =
     (
     line 1 M 1 2 2 N (only 10) ∷  -- Record Type
     line 2 M 3 4 2 N CollectionType ∷  -- Collection Type Indicator
-    line 3 M 5 13 9 NBD RoutingNumber ∷  -- Destination Routing Number
-    line 4 M 14 22 9 NBD RoutingNumber ∷  -- ECE Institution Routing Number
+    line 3 M 5 13 9 NBD (routing (TTTTAAAAC ∷ TTTTT-FFF ∷ NNNNNNNNN ∷ [])) ∷  -- Destination Routing Number
+    line 4 M 14 22 9 NBD (routing (TTTTAAAAC ∷ TTTTT-FFF ∷ NNNNNNNNN ∷ [])) ∷  -- ECE Institution Routing Number
     line 5 M 23 30 8 N Date ∷  -- Cash Letter Business Date
     line 6 M 31 38 8 N Date ∷  -- Cash Letter Creation Date
     line 7 M 39 42 4 N HoursMinutes ∷  -- Cash Letter Creation Time
@@ -57,14 +58,14 @@ bundleHeader =
     (
     line 1 M 1 2 2 N (only 20) ∷  -- Record Type
     line 2 M 3 4 2 N BundleCollectionType ∷  -- Collection Type Indicator
-    line 3 M 5 13 9 NBD RoutingNumber ∷  -- Bundle Destination Routing Number
-    line 4 M 14 22 9 NBD RoutingNumber ∷  -- Bundle ECE Institution Routing Number
+    line 3 M 5 13 9 NBD (routing (TTTTAAAAC ∷ TTTTT-FFF ∷ NNNNNNNNN ∷ [])) ∷  -- Bundle Destination Routing Number
+    line 4 M 14 22 9 NBD (routing (TTTTAAAAC ∷ TTTTT-FFF ∷ NNNNNNNNN ∷ [])) ∷  -- Bundle ECE Institution Routing Number
     line 5 M 23 30 8 N Date ∷  -- Bundle Business Date
     line 6 C 31 38 8 NB Date ∷  -- Bundle Creation Date
     line 7 C 39 48 10 AN none ∷  -- Bundle ID
     line 8 C 49 52 4 NB none ∷  -- Bundle Sequence Number
     line 9 C 53 54 2 AN none ∷  -- Cycle Number
-    line 10 C 55 63 9 NBD RoutingNumber ∷  -- Return Location Routing Number
+    line 10 C 55 63 9 NBD (routing (TTTTAAAAC ∷ TTTTT-FFF ∷ [])) ∷  -- Return Location Routing Number
     line 11 C 64 67 4 NB HoursMinutes ∷  -- Bundle Creation Time
     line 12 C 68 73 6 ANS none ∷  -- User Field
     line 13 M 74 80 7 AB none ∷  -- Reserved
@@ -79,7 +80,7 @@ checkDetail =
     line 1 M 1 2 2 N (only 25) ∷  -- Record Type
     line 2 C 3 17 15 NBMcd none ∷  -- Auxiliary On-Us
     line 3 C 18 18 1 NBMc none ∷  -- External Processing Code
-    line 4 M 19 27 9 NBMcd RoutingNumber ∷  -- Payor Bank Routing Number
+    line 4 M 19 27 9 NBMcd (routing (TTTTAAAAC ∷ TTTTT-FFF ∷ TTTT-AAAA ∷ bTTTTAAAA ∷ [])) ∷  -- Payor Bank Routing Number
     line 5 C 28 47 20 NBMcdo none ∷  -- On-Us
     line 6 M 48 57 10 N none ∷  -- Item Amount
     line 7 M 58 72 15 NB none ∷  -- ECE Institution Item Sequence Number
@@ -100,7 +101,7 @@ checkDetailAddendumA =
     (
     line 1 M 1 2 2 N (only 26) ∷  -- Record Type
     line 2 M 3 3 1 N none ∷  -- Check Detail Addendum A Record Number
-    line 3 C 4 12 9 NBD RoutingNumber ∷  -- Return Location Routing Number
+    line 3 C 4 12 9 NBD (routing (TTTTAAAAC ∷ TTTTT-FFF ∷ [])) ∷  -- Return Location Routing Number
     line 4 C 13 20 8 NB Date ∷  -- BOFD Business Endorsement Date
     line 5 C 21 35 15 NB none ∷  -- BOFD Item Sequence Number
     line 6 C 36 53 18 ANS none ∷  -- Deposit Account Number at BOFD
@@ -149,7 +150,7 @@ checkDetailAddendumC =
     (
     line 1 M 1 2 2 N (only 28) ∷  -- Record Type
     line 2 M 3 4 2 N none ∷  -- Check Detail Addendum C Record Number
-    line 3 C 5 13 9 NBD RoutingNumber ∷  -- Endorsing Bank Routing Number
+    line 3 C 5 13 9 NBD (routing (TTTTAAAAC ∷ TTTTT-FFF ∷ [])) ∷  -- Endorsing Bank Routing Number
     line 4 C 14 21 8 NB Date ∷  -- Endorsing Bank Endorsement Date
     line 5 C 22 36 15 NB none ∷  -- Endorsing Bank Item Sequence Number
     line 6 C 37 37 1 A (Code YesNo) ∷  -- Truncation Indicator
@@ -172,7 +173,7 @@ returnRecord =
     line 1 M 1 2 2 N (only 31) ∷  -- Record Type
     line 2 C 3 17 15 NBMcd none ∷  -- Auxiliary On-Us
     line 3 C 18 18 1 NBMc none ∷  -- External Processing Code
-    line 4 M 19 27 9 NBMcd RoutingNumber ∷  -- Payor Bank Routing Number
+    line 4 M 19 27 9 NBMcd (routing (TTTTAAAAC ∷ TTTTT-FFF ∷ TTTT-AAAA ∷ bTTTTAAAA ∷ [])) ∷  -- Payor Bank Routing Number
     line 5 C 28 47 20 NBMcdo none ∷  -- On-Us
     line 6 M 48 57 10 N none ∷  -- Item Amount
     line 7 M 58 72 15 NB none ∷  -- ECE Institution Item Sequence Number
@@ -188,7 +189,7 @@ returnAddendumA =
     (
     line 1 M 1 2 2 N (only 32) ∷  -- Record Type
     line 2 M 3 3 1 N none ∷  -- Return Addendum A Record Number
-    line 3 C 4 12 9 NBD RoutingNumber ∷  -- Return Location Routing Number
+    line 3 C 4 12 9 NBD (routing (TTTTAAAAC ∷ TTTTT-FFF ∷ [])) ∷  -- Return Location Routing Number
     line 4 C 13 20 8 NBQ Date ∷  -- BOFD Business Endorsement Date
     line 5 C 21 35 15 NBQ none ∷  -- BOFD Item Sequence Number
     line 6 C 36 53 18 ANS none ∷  -- Deposit Account Number at BOFD
@@ -256,7 +257,7 @@ returnAddendumD =
     (
     line 1 M 1 2 2 N (only 35) ∷  -- Record Type
     line 2 M 3 4 2 N none ∷  -- Return Addendum D Record Number
-    line 3 C 5 13 9 NBD RoutingNumber ∷  -- Endorsing Bank Routing Number
+    line 3 C 5 13 9 NBD (routing (TTTTAAAAC ∷ TTTTT-FFF ∷ [])) ∷  -- Endorsing Bank Routing Number
     line 4 C 14 21 8 NB Date ∷  -- Endorsing Bank Endorsement Date
     line 5 C 22 36 15 NB none ∷  -- Endorsing Bank Item Sequence Number
     line 6 C 37 37 1 A (Code YesNo) ∷  -- Truncation Indicator
@@ -278,7 +279,7 @@ imageViewDetail =
     (
     line 1 M 1 2 2 N (only 50) ∷  -- Record Type
     line 2 M 3 3 1 AN (numbers 0 3) ∷  -- Image Indicator
-    line 3 M 4 12 9 NBD RoutingNumber ∷  -- Image Creator Routing Number
+    line 3 M 4 12 9 NBD (routing (TTTTAAAAC ∷ TTTTT-FFF ∷ NNNNNNNNN ∷ [])) ∷  -- Image Creator Routing Number
     line 4 M 13 20 8 N Date ∷  -- Image Creator Date
     line 5 M 21 22 2 AN (numbers 0 99) ∷  -- Image View Format Indicator
     line 6 M 23 24 2 AN (numbers 0 99) ∷  -- Image View Compression Algorithm Identifier
@@ -308,7 +309,7 @@ imageViewData =
     layout 52 139 28
     (
     line 1 M 1 2 2 N (only 52) ∷  -- Record Type
-    line 2 M 3 11 9 NBD RoutingNumber ∷  -- ECE Institution Routing Number
+    line 2 M 3 11 9 NBD (routing (TTTTAAAAC ∷ TTTTT-FFF ∷ NNNNNNNNN ∷ [])) ∷  -- ECE Institution Routing Number
     line 3 M 12 19 8 N Date ∷  -- Bundle Business Date
     line 4 C 20 21 2 AN none ∷  -- Cycle Number
     line 5 M 22 36 15 NB none ∷  -- ECE Institution Item Sequence Number

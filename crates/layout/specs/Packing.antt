@@ -15,7 +15,8 @@ use Rattle.field.specs.declared.Usage.{Usage}
 use Rattle.field.specs.declared.Usage.the-variants.{Mandatory, Conditional}
 use Rattle.field.specs.declared.CodeList.the-variants.{FileTypes, YesNo, YesNoUnknown, RecordTypeIndicators, CashLetterDocumentation, ItemDocumentation, ReturnAcceptance, ArchiveTypes, TestOverrides}
 use Rattle.field.specs.declared.Rule.{Rule}
-use Rattle.field.specs.declared.Rule.the-variants.{DataTypeAlone, Numbers, AllDigits, OneOrTwoDigits, StandardLevel, CollectionType, BundleCollectionType, Date, HoursMinutes, HoursMinutesSeconds, RoutingNumber, Code, ClippingCoordinate}
+use Rattle.field.specs.declared.Rule.the-variants.{DataTypeAlone, Numbers, AllDigits, OneOrTwoDigits, StandardLevel, CollectionType, BundleCollectionType, Date, HoursMinutes, HoursMinutesSeconds, Routing, Code, ClippingCoordinate}
+use Rattle.field.specs.declared.Forms.{Forms}
 use Rattle.layout.specs.Layout.{Line, Layout, Sized, sizedParts}
 use Rattle.layout.specs.Layouts.{layouts}
 
@@ -37,6 +38,17 @@ dataTypeOf code =
     (cond (eqb code 12) NBMcdo
     (cond (eqb code 13) NBMU Binary)))))))))))
 
+-- the forms of a routing number, each a bit
+abbrev pub formsIn : ℕ → Forms
+formsIn bits =
+    record {
+      checked = eqb (bits / 1 % 2) 1;
+      canadian = eqb (bits / 2 % 2) 1;
+      dashed = eqb (bits / 4 % 2) 1;
+      blanked = eqb (bits / 8 % 2) 1;
+      nonfinancial = eqb (bits / 16 % 2) 1;
+    }
+
 abbrev pub ruleOf : ℕ → ℕ → ℕ → Rule
 ruleOf code low high =
     cond (eqb code 1) (Numbers low high)
@@ -48,7 +60,7 @@ ruleOf code low high =
     (cond (eqb code 7) Date
     (cond (eqb code 8) HoursMinutes
     (cond (eqb code 9) HoursMinutesSeconds
-    (cond (eqb code 10) RoutingNumber
+    (cond (eqb code 10) (Routing (formsIn high))
     (cond (eqb code 11) (ClippingCoordinate (high - 1))
     (cond (eqb code 21) (Code FileTypes)
     (cond (eqb code 22) (Code YesNo)

@@ -24,6 +24,7 @@ use crate::packing::ALL_DIGITS;
 use crate::packing::AN;
 use crate::packing::ANS;
 use crate::packing::ARCHIVE_TYPES;
+use crate::packing::B_TTTTAAAA;
 use crate::packing::BINARY;
 use crate::packing::BUNDLE_COLLECTION_TYPE;
 use crate::packing::C;
@@ -49,15 +50,19 @@ use crate::packing::NBMCD;
 use crate::packing::NBMCDO;
 use crate::packing::NBMU;
 use crate::packing::NBQ;
+use crate::packing::NNNNNNNNN;
 use crate::packing::NUMBERS;
 use crate::packing::ONE_OR_TWO_DIGITS;
 use crate::packing::PARTS;
 use crate::packing::RECORD_TYPE_INDICATORS;
 use crate::packing::RETURN_ACCEPTANCE;
-use crate::packing::ROUTING_NUMBER;
+use crate::packing::ROUTING;
 use crate::packing::SIZE;
 use crate::packing::STANDARD_LEVEL;
 use crate::packing::TEST_OVERRIDES;
+use crate::packing::TTTT_AAAA;
+use crate::packing::TTTTAAAAC;
+use crate::packing::TTTTT_FFF;
 use crate::packing::YES_NO;
 use crate::packing::YES_NO_UNKNOWN;
 use crate::packing::fields_in;
@@ -74,8 +79,8 @@ const LAYOUTS: [u64; COUNT] = [
     1 * FIRST + 2 * SIZE + M + N + NUMBERS + 1 * LOW + 1, // 1 Record Type
     3 * FIRST + 2 * SIZE + M + N + STANDARD_LEVEL, // 2 Standard Level
     5 * FIRST + 1 * SIZE + M + AN + FILE_TYPES, // 3 File Type Indicator
-    6 * FIRST + 9 * SIZE + M + NBD + ROUTING_NUMBER, // 4 Immediate Destination Routing Number
-    15 * FIRST + 9 * SIZE + M + NBD + ROUTING_NUMBER, // 5 Immediate Origin Routing Number
+    6 * FIRST + 9 * SIZE + M + NBD + ROUTING + TTTTAAAAC + TTTTT_FFF + NNNNNNNNN, // 4 Immediate Destination Routing Number
+    15 * FIRST + 9 * SIZE + M + NBD + ROUTING + TTTTAAAAC + TTTTT_FFF + NNNNNNNNN, // 5 Immediate Origin Routing Number
     24 * FIRST + 8 * SIZE + M + N + DATE, // 6 File Creation Date
     32 * FIRST + 4 * SIZE + M + N + HOURS_MINUTES, // 7 File Creation Time
     36 * FIRST + 1 * SIZE + M + A + YES_NO, // 8 Resend Indicator
@@ -91,8 +96,8 @@ const LAYOUTS: [u64; COUNT] = [
         + CashLetterHeader::FIELDS * FIELDS,
     1 * FIRST + 2 * SIZE + M + N + NUMBERS + 10 * LOW + 10, // 1 Record Type
     3 * FIRST + 2 * SIZE + M + N + COLLECTION_TYPE, // 2 Collection Type Indicator
-    5 * FIRST + 9 * SIZE + M + NBD + ROUTING_NUMBER, // 3 Destination Routing Number
-    14 * FIRST + 9 * SIZE + M + NBD + ROUTING_NUMBER, // 4 ECE Institution Routing Number
+    5 * FIRST + 9 * SIZE + M + NBD + ROUTING + TTTTAAAAC + TTTTT_FFF + NNNNNNNNN, // 3 Destination Routing Number
+    14 * FIRST + 9 * SIZE + M + NBD + ROUTING + TTTTAAAAC + TTTTT_FFF + NNNNNNNNN, // 4 ECE Institution Routing Number
     23 * FIRST + 8 * SIZE + M + N + DATE, // 5 Cash Letter Business Date
     31 * FIRST + 8 * SIZE + M + N + DATE, // 6 Cash Letter Creation Date
     39 * FIRST + 4 * SIZE + M + N + HOURS_MINUTES, // 7 Cash Letter Creation Time
@@ -107,14 +112,14 @@ const LAYOUTS: [u64; COUNT] = [
     BundleHeader::TYPE * KIND + BundleHeader::LENGTH * LONG + BundleHeader::FIELDS * FIELDS,
     1 * FIRST + 2 * SIZE + M + N + NUMBERS + 20 * LOW + 20, // 1 Record Type
     3 * FIRST + 2 * SIZE + M + N + BUNDLE_COLLECTION_TYPE, // 2 Collection Type Indicator
-    5 * FIRST + 9 * SIZE + M + NBD + ROUTING_NUMBER, // 3 Bundle Destination Routing Number
-    14 * FIRST + 9 * SIZE + M + NBD + ROUTING_NUMBER, // 4 Bundle ECE Institution Routing Number
+    5 * FIRST + 9 * SIZE + M + NBD + ROUTING + TTTTAAAAC + TTTTT_FFF + NNNNNNNNN, // 3 Bundle Destination Routing Number
+    14 * FIRST + 9 * SIZE + M + NBD + ROUTING + TTTTAAAAC + TTTTT_FFF + NNNNNNNNN, // 4 Bundle ECE Institution Routing Number
     23 * FIRST + 8 * SIZE + M + N + DATE, // 5 Bundle Business Date
     31 * FIRST + 8 * SIZE + C + NB + DATE, // 6 Bundle Creation Date
     39 * FIRST + 10 * SIZE + C + AN, // 7 Bundle ID
     49 * FIRST + 4 * SIZE + C + NB, // 8 Bundle Sequence Number
     53 * FIRST + 2 * SIZE + C + AN, // 9 Cycle Number
-    55 * FIRST + 9 * SIZE + C + NBD + ROUTING_NUMBER, // 10 Return Location Routing Number
+    55 * FIRST + 9 * SIZE + C + NBD + ROUTING + TTTTAAAAC + TTTTT_FFF, // 10 Return Location Routing Number
     64 * FIRST + 4 * SIZE + C + NB + HOURS_MINUTES, // 11 Bundle Creation Time
     68 * FIRST + 6 * SIZE + C + ANS, // 12 User Field
     74 * FIRST + 7 * SIZE + M + AB, // 13 Reserved
@@ -123,7 +128,7 @@ const LAYOUTS: [u64; COUNT] = [
     1 * FIRST + 2 * SIZE + M + N + NUMBERS + 25 * LOW + 25, // 1 Record Type
     3 * FIRST + 15 * SIZE + C + NBMCD, // 2 Auxiliary On-Us
     18 * FIRST + 1 * SIZE + C + NBMC, // 3 External Processing Code
-    19 * FIRST + 9 * SIZE + M + NBMCD + ROUTING_NUMBER, // 4 Payor Bank Routing Number
+    19 * FIRST + 9 * SIZE + M + NBMCD + ROUTING + TTTTAAAAC + TTTTT_FFF + TTTT_AAAA + B_TTTTAAAA, // 4 Payor Bank Routing Number
     28 * FIRST + 20 * SIZE + C + NBMCDO, // 5 On-Us
     48 * FIRST + 10 * SIZE + M + N, // 6 Item Amount
     58 * FIRST + 15 * SIZE + M + NB, // 7 ECE Institution Item Sequence Number
@@ -140,7 +145,7 @@ const LAYOUTS: [u64; COUNT] = [
         + CheckDetailAddendumA::FIELDS * FIELDS,
     1 * FIRST + 2 * SIZE + M + N + NUMBERS + 26 * LOW + 26, // 1 Record Type
     3 * FIRST + 1 * SIZE + M + N, // 2 Check Detail Addendum A Record Number
-    4 * FIRST + 9 * SIZE + C + NBD + ROUTING_NUMBER, // 3 Return Location Routing Number
+    4 * FIRST + 9 * SIZE + C + NBD + ROUTING + TTTTAAAAC + TTTTT_FFF, // 3 Return Location Routing Number
     13 * FIRST + 8 * SIZE + C + NB + DATE, // 4 BOFD Business Endorsement Date
     21 * FIRST + 15 * SIZE + C + NB, // 5 BOFD Item Sequence Number
     36 * FIRST + 18 * SIZE + C + ANS, // 6 Deposit Account Number at BOFD
@@ -181,7 +186,7 @@ const LAYOUTS: [u64; COUNT] = [
         + CheckDetailAddendumC::FIELDS * FIELDS,
     1 * FIRST + 2 * SIZE + M + N + NUMBERS + 28 * LOW + 28, // 1 Record Type
     3 * FIRST + 2 * SIZE + M + N, // 2 Check Detail Addendum C Record Number
-    5 * FIRST + 9 * SIZE + C + NBD + ROUTING_NUMBER, // 3 Endorsing Bank Routing Number
+    5 * FIRST + 9 * SIZE + C + NBD + ROUTING + TTTTAAAAC + TTTTT_FFF, // 3 Endorsing Bank Routing Number
     14 * FIRST + 8 * SIZE + C + NB + DATE, // 4 Endorsing Bank Endorsement Date
     22 * FIRST + 15 * SIZE + C + NB, // 5 Endorsing Bank Item Sequence Number
     37 * FIRST + 1 * SIZE + C + A + YES_NO, // 6 Truncation Indicator
@@ -198,7 +203,7 @@ const LAYOUTS: [u64; COUNT] = [
     1 * FIRST + 2 * SIZE + M + N + NUMBERS + 31 * LOW + 31, // 1 Record Type
     3 * FIRST + 15 * SIZE + C + NBMCD, // 2 Auxiliary On-Us
     18 * FIRST + 1 * SIZE + C + NBMC, // 3 External Processing Code
-    19 * FIRST + 9 * SIZE + M + NBMCD + ROUTING_NUMBER, // 4 Payor Bank Routing Number
+    19 * FIRST + 9 * SIZE + M + NBMCD + ROUTING + TTTTAAAAC + TTTTT_FFF + TTTT_AAAA + B_TTTTAAAA, // 4 Payor Bank Routing Number
     28 * FIRST + 20 * SIZE + C + NBMCDO, // 5 On-Us
     48 * FIRST + 10 * SIZE + M + N, // 6 Item Amount
     58 * FIRST + 15 * SIZE + M + NB, // 7 ECE Institution Item Sequence Number
@@ -210,7 +215,7 @@ const LAYOUTS: [u64; COUNT] = [
         + ReturnAddendumA::FIELDS * FIELDS,
     1 * FIRST + 2 * SIZE + M + N + NUMBERS + 32 * LOW + 32, // 1 Record Type
     3 * FIRST + 1 * SIZE + M + N, // 2 Return Addendum A Record Number
-    4 * FIRST + 9 * SIZE + C + NBD + ROUTING_NUMBER, // 3 Return Location Routing Number
+    4 * FIRST + 9 * SIZE + C + NBD + ROUTING + TTTTAAAAC + TTTTT_FFF, // 3 Return Location Routing Number
     13 * FIRST + 8 * SIZE + C + NBQ + DATE, // 4 BOFD Business Endorsement Date
     21 * FIRST + 15 * SIZE + C + NBQ, // 5 BOFD Item Sequence Number
     36 * FIRST + 18 * SIZE + C + ANS, // 6 Deposit Account Number at BOFD
@@ -266,7 +271,7 @@ const LAYOUTS: [u64; COUNT] = [
         + ReturnAddendumD::FIELDS * FIELDS,
     1 * FIRST + 2 * SIZE + M + N + NUMBERS + 35 * LOW + 35, // 1 Record Type
     3 * FIRST + 2 * SIZE + M + N, // 2 Return Addendum D Record Number
-    5 * FIRST + 9 * SIZE + C + NBD + ROUTING_NUMBER, // 3 Endorsing Bank Routing Number
+    5 * FIRST + 9 * SIZE + C + NBD + ROUTING + TTTTAAAAC + TTTTT_FFF, // 3 Endorsing Bank Routing Number
     14 * FIRST + 8 * SIZE + C + NB + DATE, // 4 Endorsing Bank Endorsement Date
     22 * FIRST + 15 * SIZE + C + NB, // 5 Endorsing Bank Item Sequence Number
     37 * FIRST + 1 * SIZE + C + A + YES_NO, // 6 Truncation Indicator
@@ -284,7 +289,7 @@ const LAYOUTS: [u64; COUNT] = [
         + ImageViewDetail::FIELDS * FIELDS,
     1 * FIRST + 2 * SIZE + M + N + NUMBERS + 50 * LOW + 50, // 1 Record Type
     3 * FIRST + 1 * SIZE + M + AN + NUMBERS + 0 * LOW + 3, // 2 Image Indicator
-    4 * FIRST + 9 * SIZE + M + NBD + ROUTING_NUMBER, // 3 Image Creator Routing Number
+    4 * FIRST + 9 * SIZE + M + NBD + ROUTING + TTTTAAAAC + TTTTT_FFF + NNNNNNNNN, // 3 Image Creator Routing Number
     13 * FIRST + 8 * SIZE + M + N + DATE, // 4 Image Creator Date
     21 * FIRST + 2 * SIZE + M + AN + NUMBERS + 0 * LOW + 99, // 5 Image View Format Indicator
     23 * FIRST + 2 * SIZE + M + AN + NUMBERS + 0 * LOW + 99, // 6 Image View Compression Algorithm Identifier
@@ -311,7 +316,7 @@ const LAYOUTS: [u64; COUNT] = [
         + ImageViewData::FIELDS * FIELDS
         + 7 * PARTS,
     1 * FIRST + 2 * SIZE + M + N + NUMBERS + 52 * LOW + 52, // 1 Record Type
-    3 * FIRST + 9 * SIZE + M + NBD + ROUTING_NUMBER, // 2 ECE Institution Routing Number
+    3 * FIRST + 9 * SIZE + M + NBD + ROUTING + TTTTAAAAC + TTTTT_FFF + NNNNNNNNN, // 2 ECE Institution Routing Number
     12 * FIRST + 8 * SIZE + M + N + DATE, // 3 Bundle Business Date
     20 * FIRST + 2 * SIZE + C + AN, // 4 Cycle Number
     22 * FIRST + 15 * SIZE + M + NB, // 5 ECE Institution Item Sequence Number

@@ -2,12 +2,13 @@
 // many fields it has, and how many of these are parts after the fixed length. A field is one number of bytes, from the highest: its first
 // position (two bytes), its size, its usage, its data type, its rule and the rule's two numbers.
 use field::CodeList;
+use field::Forms;
 use field::Rule;
 use field::Usage;
 use text::DataType;
 ghost use mathlib.Core.Path.{_≡_};
 ghost use Prim.Native.Nat.{_-_};
-ghost use Rattle.layout.specs.Packing.{usageOf, dataTypeOf, ruleOf, typeIn, longIn, fieldsIn, partsIn};
+ghost use Rattle.layout.specs.Packing.{usageOf, dataTypeOf, formsIn, ruleOf, typeIn, longIn, fieldsIn, partsIn};
 
 pub const KIND: u64 = 0x1_0000_0000_0000;
 
@@ -71,7 +72,18 @@ pub const HOURS_MINUTES: u64 = 8 * 0x1_0000;
 
 pub const HOURS_MINUTES_SECONDS: u64 = 9 * 0x1_0000;
 
-pub const ROUTING_NUMBER: u64 = 10 * 0x1_0000;
+// With the forms that the field lists, each a bit of the lowest byte.
+pub const ROUTING: u64 = 10 * 0x1_0000;
+
+pub const TTTTAAAAC: u64 = 1;
+
+pub const TTTTT_FFF: u64 = 2;
+
+pub const TTTT_AAAA: u64 = 4;
+
+pub const B_TTTTAAAA: u64 = 8;
+
+pub const NNNNNNNNN: u64 = 16;
 
 pub const CLIPPED_BY: u64 = 11 * 0x1_0000;
 
@@ -157,6 +169,19 @@ pub fn data_type_of(code: u64) -> DataType
     }
 }
 
+// The forms of a routing number, by their bits.
+fn forms_in(bits: u64) -> Forms
+    ensures { λ r. ⌜ r ≡ formsIn bits ⌝ }
+{
+    Forms {
+        checked: bits / TTTTAAAAC % 2 == 1,
+        canadian: bits / TTTTT_FFF % 2 == 1,
+        dashed: bits / TTTT_AAAA % 2 == 1,
+        blanked: bits / B_TTTTAAAA % 2 == 1,
+        nonfinancial: bits / NNNNNNNNN % 2 == 1,
+    }
+}
+
 pub fn rule_of(code: u64, low: u64, high: u64) -> Rule
     ensures { λ r. ⌜ r ≡ ruleOf code low high ⌝ }
 {
@@ -170,7 +195,7 @@ pub fn rule_of(code: u64, low: u64, high: u64) -> Rule
         7 => Rule::Date,
         8 => Rule::HoursMinutes,
         9 => Rule::HoursMinutesSeconds,
-        10 => Rule::RoutingNumber,
+        10 => Rule::Routing(forms_in(high)),
         11 => Rule::ClippingCoordinate(place_of(high)),
         21 => Rule::Code(CodeList::FileTypes),
         22 => Rule::Code(CodeList::YesNo),

@@ -1,4 +1,4 @@
--- Document 01, "Samples at the edges": those marked P, one table with one proof.
+-- Document 01, "Samples at the edges": those marked P, and from P12 on those of requests; one table with one proof.
 use Prim.Native.Nat.{ℕ, _+_}
 use mathlib.Core.Bool.{Bool, true, false, _&&_, not, cond}
 use mathlib.Core.List.{List, [], _∷_, _++_, map}
@@ -8,7 +8,8 @@ use lib.ListN.{length, replicate}
 use Rattle.text.specs.DataTypes.{ofType}
 use Rattle.text.specs.Number.{number}
 use Rattle.field.specs.Values.{isCode}
-use Rattle.field.specs.Formats.{isDate, isRoutingNumber, isHoursMinutes, isHoursMinutesSeconds}
+use Rattle.field.specs.Formats.{isDate, isHoursMinutes, isHoursMinutesSeconds}
+use Rattle.field.specs.RoutingForms.{TTTTAAAAC, TTTTT-FFF, NNNNNNNNN, listing, isTTTTAAAAC, partedBy, isTTTTT-FFF, isTTTT-AAAA, isbTTTTAAAA, isNNNNNNNNN, fitsSome}
 use Rattle.field.specs.Rules.{follows, meets, holds}
 use Rattle.frame.specs.Frames.{lengthIn}
 use Rattle.layout.specs.Layout.{Layout}
@@ -25,6 +26,9 @@ zeros n = replicate n 0x30
 
 abbrev pub blanks : ℕ → List ℕ
 blanks n = replicate n 0x20
+
+abbrev pub dash : List ℕ
+dash = 0x2D ∷ []
 
 -- a record alone is sound as it stands, and has a wrong LENGTH with a byte more
 abbrev pub endsThere : Layout → List ℕ → Bool
@@ -61,8 +65,8 @@ P n test = record { name = n; holds = test }
 abbrev pub samples : List Sample
 samples =
     -- "routing 123456780 passes"; "123456781 not"
-    P 1 (isRoutingNumber (digits (1 ∷ 2 ∷ 3 ∷ 4 ∷ 5 ∷ 6 ∷ 7 ∷ 8 ∷ 0 ∷ []))) ∷
-    P 2 (not (isRoutingNumber (digits (1 ∷ 2 ∷ 3 ∷ 4 ∷ 5 ∷ 6 ∷ 7 ∷ 8 ∷ 1 ∷ [])))) ∷
+    P 1 (isTTTTAAAAC (digits (1 ∷ 2 ∷ 3 ∷ 4 ∷ 5 ∷ 6 ∷ 7 ∷ 8 ∷ 0 ∷ []))) ∷
+    P 2 (not (isTTTTAAAAC (digits (1 ∷ 2 ∷ 3 ∷ 4 ∷ 5 ∷ 6 ∷ 7 ∷ 8 ∷ 1 ∷ [])))) ∷
     -- "date 20050230 passes"; "19921231 not"
     P 3 (isDate (digits (2 ∷ 0 ∷ 0 ∷ 5 ∷ 0 ∷ 2 ∷ 3 ∷ 0 ∷ []))) ∷
     P 4 (not (isDate (digits (1 ∷ 9 ∷ 9 ∷ 2 ∷ 1 ∷ 2 ∷ 3 ∷ 1 ∷ [])))) ∷
@@ -77,13 +81,26 @@ samples =
     P 9 (eqb (misplaced (1 ∷ 10 ∷ 20 ∷ 70 ∷ [])) 4) ∷
     P 10 (eqb (misplaced (1 ∷ 10 ∷ 20 ∷ 31 ∷ 34 ∷ [])) 5) ∷
     P 11 (eqb (misplaced (1 ∷ 10 ∷ 90 ∷ 99 ∷ [])) 0) ∷
+    -- request 1, a form that passes and one that does not: 12345-678 and 1234-5678 as TTTTT-FFF; the same as TTTT-AAAA; a blank before and behind
+    -- eight digits as bTTTTAAAA; 1234 and blanks, and 12, a blank, 34 and blanks as NNNNNNNNN
+    P 12 (isTTTTT-FFF (digits (1 ∷ 2 ∷ 3 ∷ 4 ∷ 5 ∷ []) ++ dash ++ digits (6 ∷ 7 ∷ 8 ∷ []))) ∷
+    P 13 (not (isTTTTT-FFF (digits (1 ∷ 2 ∷ 3 ∷ 4 ∷ []) ++ dash ++ digits (5 ∷ 6 ∷ 7 ∷ 8 ∷ [])))) ∷
+    P 14 (isTTTT-AAAA (digits (1 ∷ 2 ∷ 3 ∷ 4 ∷ []) ++ dash ++ digits (5 ∷ 6 ∷ 7 ∷ 8 ∷ []))) ∷
+    P 15 (not (isTTTT-AAAA (digits (1 ∷ 2 ∷ 3 ∷ 4 ∷ 5 ∷ []) ++ dash ++ digits (6 ∷ 7 ∷ 8 ∷ [])))) ∷
+    P 16 (isbTTTTAAAA (blanks 1 ++ digits (1 ∷ 2 ∷ 3 ∷ 4 ∷ 5 ∷ 6 ∷ 7 ∷ 8 ∷ []))) ∷
+    P 17 (not (isbTTTTAAAA (digits (1 ∷ 2 ∷ 3 ∷ 4 ∷ 5 ∷ 6 ∷ 7 ∷ 8 ∷ []) ++ blanks 1))) ∷
+    P 18 (isNNNNNNNNN (digits (1 ∷ 2 ∷ 3 ∷ 4 ∷ []) ++ blanks 5)) ∷
+    P 19 (not (isNNNNNNNNN (digits (1 ∷ 2 ∷ []) ++ blanks 1 ++ digits (3 ∷ 4 ∷ []) ++ blanks 4))) ∷
+    -- nine digits with a wrong check digit: 01.4, which lists the non-financial number, and 20.10, which does not
+    P 20 (fitsSome (listing (TTTTAAAAC ∷ TTTTT-FFF ∷ NNNNNNNNN ∷ [])) (digits (1 ∷ 2 ∷ 3 ∷ 4 ∷ 5 ∷ 6 ∷ 7 ∷ 8 ∷ 1 ∷ []))) ∷
+    P 21 (not (fitsSome (listing (TTTTAAAAC ∷ TTTTT-FFF ∷ [])) (digits (1 ∷ 2 ∷ 3 ∷ 4 ∷ 5 ∷ 6 ∷ 7 ∷ 8 ∷ 1 ∷ [])))) ∷
     []
 
 abbrev pub allHold : List Sample → Bool
 allHold [] = true
 allHold (s ∷ ss) = s .holds && allHold ss
 
--- every sample of the table is as document 01 says
+-- every sample of the table is as the documents say
 pub samples-hold : allHold samples ≡ true
-unfolding ofType number isCode isDate isRoutingNumber isHoursMinutes isHoursMinutesSeconds follows meets holds judged lineHolds firstWrong firstWrongPart statedSizes follows-last mayFollow
+unfolding ofType number isCode isDate isTTTTAAAAC partedBy isNNNNNNNNN fitsSome isHoursMinutes isHoursMinutesSeconds follows meets holds judged lineHolds firstWrong firstWrongPart statedSizes follows-last mayFollow
 samples-hold = refl

@@ -1,10 +1,5 @@
-use mathlib.Core.Path.{_≡_, refl, sym, _∙_, ap}
-use denote.Ref.{now}
-use lib.ListN.{List·getD-eq-default}
-use borrow.Author.Tests.{eq-eqb, ne-eqb, not-true, not-false}
-use Rattle.field.specs.Values.{isCode}
-use Rattle.field.specs.Formats.{isDate, isHoursMinutes, isHoursMinutesSeconds, isRoutingNumber}
-use Rattle.field.specs.Rules.{follows, meets, holds}
+use mathlib.Core.Path.{_≡_, _∙_}
+use Rattle.field.specs.Rules.{follows}
 use borrow.Author.Needs.{needs}
 use Rattle.field.proofs.follows_rule.Statement.{statement}
 use Rattle.field.proofs.follows_rule.Tie as tie
@@ -90,14 +85,14 @@ enum-told-9 c = search needs
 is-hours-minutes-seconds-requires : tie.Need-is-hours-minutes-seconds-requires
 is-hours-minutes-seconds-requires c κs = search needs
 
-enum-told-10 : tie.Need-enum-told-10
-enum-told-10 c = search needs
-
-is-routing-number-requires : tie.Need-is-routing-number-requires
-is-routing-number-requires c κs = search needs
-
 enum-known-rule-3 : tie.Need-enum-known-rule-3
 enum-known-rule-3 c = search needs
+
+fits-some-requires : tie.Need-fits-some-requires
+fits-some-requires c κs = search needs
+
+enum-known-rule-4 : tie.Need-enum-known-rule-4
+enum-known-rule-4 c = search needs
 
 is-clipping-coordinate-requires : tie.Need-is-clipping-coordinate-requires
 is-clipping-coordinate-requires c κs = search needs
@@ -148,11 +143,11 @@ returns-11 c = rw (c .before .enum-told9 .given .1, c .is-hours-minutes-seconds 
 
 returns-12 : tie.Need-returns-12
 unfolding follows
-returns-12 c = rw (c .before .enum-told10 .given .1, c .is-routing-number .ensures)
+returns-12 c = rw (c .before .before .rule3 .given .1, c .fits-some .ensures)
 
 returns-13 : tie.Need-returns-13
 unfolding follows
-returns-13 c = rw (c .before .before .rule3 .given .1, c .is-clipping-coordinate .ensures)
+returns-13 c = rw (c .before .before .rule4 .given .1, c .is-clipping-coordinate .ensures)
 
 pub follows-rule-spec : {M : Type 1} → statement M
 follows-rule-spec =
@@ -185,9 +180,9 @@ follows-rule-spec =
     is-hours-minutes-requires
     enum-told-9
     is-hours-minutes-seconds-requires
-    enum-told-10
-    is-routing-number-requires
     enum-known-rule-3
+    fits-some-requires
+    enum-known-rule-4
     is-clipping-coordinate-requires
     returns
     returns-2

@@ -11,91 +11,72 @@ use borrow.Author.Needs.{needs}
 use Rattle.layout.proofs.packing.rule_of.Statement.{statement}
 use Rattle.layout.proofs.packing.rule_of.Tie as tie
 
--- src/packing.rt:137:40
+forms-in-requires : tie.Need-forms-in-requires
+forms-in-requires c κs = search needs
+
 place-of-requires : tie.Need-place-of-requires
 place-of-requires c κs = search needs
 
--- src/packing.rt:123:1
 returns : tie.Need-returns
 returns c = rw (c .match .keys1)
 
--- src/packing.rt:123:1
 returns-2 : tie.Need-returns-2
 returns-2 c = rw (c .match .keys2)
 
--- src/packing.rt:123:1
 returns-3 : tie.Need-returns-3
 returns-3 c = rw (c .match .keys3)
 
--- src/packing.rt:123:1
 returns-4 : tie.Need-returns-4
 returns-4 c = rw (c .match .keys4)
 
--- src/packing.rt:123:1
 returns-5 : tie.Need-returns-5
 returns-5 c = rw (c .match .keys5)
 
--- src/packing.rt:123:1
 returns-6 : tie.Need-returns-6
 returns-6 c = rw (c .match .keys6)
 
--- src/packing.rt:123:1
 returns-7 : tie.Need-returns-7
 returns-7 c = rw (c .match .keys7)
 
--- src/packing.rt:123:1
 returns-8 : tie.Need-returns-8
 returns-8 c = rw (c .match .keys8)
 
--- src/packing.rt:123:1
 returns-9 : tie.Need-returns-9
 returns-9 c = rw (c .match .keys9)
 
--- src/packing.rt:123:1
 returns-10 : tie.Need-returns-10
-returns-10 c = rw (c .match .keys10)
+returns-10 c = rw (c .before .match .keys10, c .forms-in .ensures)
 
--- src/packing.rt:123:1
 returns-11 : tie.Need-returns-11
 returns-11 c = rw (c .before .match .keys11, c .place-of .ensures)
 
--- src/packing.rt:123:1
 returns-12 : tie.Need-returns-12
 returns-12 c = rw (c .match .keys12)
 
--- src/packing.rt:123:1
 returns-13 : tie.Need-returns-13
 returns-13 c = rw (c .match .keys13)
 
--- src/packing.rt:123:1
 returns-14 : tie.Need-returns-14
 returns-14 c = rw (c .match .keys14)
 
--- src/packing.rt:123:1
 returns-15 : tie.Need-returns-15
 returns-15 c = rw (c .match .keys15)
 
--- src/packing.rt:123:1
 returns-16 : tie.Need-returns-16
 returns-16 c = rw (c .match .keys16)
 
--- src/packing.rt:123:1
 returns-17 : tie.Need-returns-17
 returns-17 c = rw (c .match .keys17)
 
--- src/packing.rt:123:1
 returns-18 : tie.Need-returns-18
 returns-18 c = rw (c .match .keys18)
 
--- src/packing.rt:123:1
 returns-19 : tie.Need-returns-19
 returns-19 c = rw (c .match .keys19)
 
--- src/packing.rt:123:1
 returns-20 : tie.Need-returns-20
 returns-20 c = rw (c .match .keys20)
 
--- src/packing.rt:123:1
 returns-21 : tie.Need-returns-21
 returns-21 c = simp (ne-eqb _ _ (c .match .rest .1), ne-eqb _ _ (c .match .rest .0 .1), ne-eqb _ _ (c .match .rest .0 .0 .1), ne-eqb _ _ (c .match .rest .0 .0 .0 .1), ne-eqb _ _ (c .match .rest .0 .0 .0 .0 .1), ne-eqb _ _ (c .match .rest .0 .0 .0 .0 .0 .1), ne-eqb _ _ (c .match .rest .0 .0 .0 .0 .0 .0 .1), ne-eqb _ _ (c .match .rest .0 .0 .0 .0 .0 .0 .0 .1), ne-eqb _ _ (c .match .rest .0 .0 .0 .0 .0 .0 .0 .0 .1), ne-eqb _ _ (c .match .rest .0 .0 .0 .0 .0 .0 .0 .0 .0 .1), ne-eqb _ _ (c .match .rest .0 .0 .0 .0 .0 .0 .0 .0 .0 .0 .1), ne-eqb _ _ (c .match .rest .0 .0 .0 .0 .0 .0 .0 .0 .0 .0 .0 .1), ne-eqb _ _ (c .match .rest .0 .0 .0 .0 .0 .0 .0 .0 .0 .0 .0 .0 .1), ne-eqb _ _ (c .match .rest .0 .0 .0 .0 .0 .0 .0 .0 .0 .0 .0 .0 .0 .1), ne-eqb _ _ (c .match .rest .0 .0 .0 .0 .0 .0 .0 .0 .0 .0 .0 .0 .0 .0 .1), ne-eqb _ _ (c .match .rest .0 .0 .0 .0 .0 .0 .0 .0 .0 .0 .0 .0 .0 .0 .0 .1), ne-eqb _ _ (c .match .rest .0 .0 .0 .0 .0 .0 .0 .0 .0 .0 .0 .0 .0 .0 .0 .0 .1), ne-eqb _ _ (c .match .rest .0 .0 .0 .0 .0 .0 .0 .0 .0 .0 .0 .0 .0 .0 .0 .0 .0 .1), ne-eqb _ _ (c .match .rest .0 .0 .0 .0 .0 .0 .0 .0 .0 .0 .0 .0 .0 .0 .0 .0 .0 .0 .1), ne-eqb _ _ (c .match .rest .0 .0 .0 .0 .0 .0 .0 .0 .0 .0 .0 .0 .0 .0 .0 .0 .0 .0 .0 .1))
 
@@ -103,6 +84,7 @@ pub rule-of-spec : {M : Type 1} → statement M
 rule-of-spec =
     tie.close
     (tie.spec
+    forms-in-requires
     place-of-requires
     returns
     returns-2
