@@ -11,6 +11,7 @@ pub mod picture;
 pub mod pictures;
 pub mod plain;
 pub mod random;
+pub mod routing;
 pub mod samples;
 pub mod stream;
 pub mod tally;
