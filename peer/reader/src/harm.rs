@@ -202,7 +202,7 @@ pub fn routing_targets() -> Vec<(u8, u8, Shape)> {
 }
 
 /// A file with contents of this shape in a routing field, and sound beside it. The 52s repeat the bundle header's field 4 byte by
-/// byte, so the two change together where the contents pass: one stretch of the file from a 20 to the next is of one number.
+/// byte, so where the contents pass, the header and all 52s of its bundle change together.
 pub fn routing_file(random: &mut Random, (code, number, shape): (u8, u8, Shape)) -> Vec<Rec> {
     let (mut records, at) = holding(random, &Wish::holding(code), code);
     let contents = routing::of_shape(random, shape);

@@ -106,19 +106,23 @@ pub fn passes(field: &Field, shape: Shape) -> bool {
 /// The shape of nine characters; none where strangers of several sorts are among them.
 pub fn shape(contents: &[u8]) -> Option<Shape> {
     let strangers: Vec<u8> = contents.iter().copied().filter(|byte| !plain(*byte)).collect();
-    let all_in = |set: &[u8]| strangers.iter().all(|byte| set.contains(byte));
     if contents.len() != 9 {
         return None;
     }
-    match () {
-        _ if strangers.is_empty() => Some(plain_shape(contents)),
-        _ if strangers.iter().all(u8::is_ascii_alphabetic) => Some(Shape::Letter),
-        _ if all_in(LIKE_A_DASH) => Some(Shape::OtherDash),
-        _ if all_in(LIKE_A_BLANK) => Some(Shape::OtherBlank),
-        _ if all_in(b"*") => Some(Shape::CantRead),
-        _ if all_in(b"?") => Some(Shape::Questionable),
-        _ => None,
+    if strangers.is_empty() {
+        return Some(plain_shape(contents));
     }
+    if strangers.iter().all(u8::is_ascii_alphabetic) {
+        return Some(Shape::Letter);
+    }
+    let sorts: [(&[u8], Shape); 4] = [
+        (LIKE_A_DASH, Shape::OtherDash),
+        (LIKE_A_BLANK, Shape::OtherBlank),
+        (b"*", Shape::CantRead),
+        (b"?", Shape::Questionable),
+    ];
+    let alike = |sort: &[u8]| strangers.iter().all(|byte| sort.contains(byte));
+    sorts.into_iter().find(|(sort, _)| alike(sort)).map(|(_, shape)| shape)
 }
 
 fn plain(byte: u8) -> bool {
@@ -194,10 +198,15 @@ pub fn of_shape(random: &mut Random, shape: Shape) -> Vec<u8> {
     contents
 }
 
-/// Leaves one to eight digits; eight on the right are another shape.
+/// Leaves one to eight digits, most often at an end; eight on the right are another shape.
 fn shorten(random: &mut Random, contents: &mut [u8]) {
     let digits = random.between(1, 8);
-    let first = if digits == 8 { 0 } else { random.between(0, 9 - digits) };
+    let first = match random.below(5) {
+        _ if digits == 8 => 0,
+        0 | 1 => 0,
+        2 | 3 => 9 - digits,
+        _ => random.between(0, 9 - digits),
+    };
     contents[..first].fill(b' ');
     contents[first + digits..].fill(b' ');
 }
