@@ -1,5 +1,5 @@
 //! The edges of the rules: for each field of the table the contents on both sides of each edge, and which of them pass. Worked out from
-//! the field's row in `fields.tsv`, clause 5 and document 01 alone; nothing here asks the judge.
+//! the field's row in `fields.tsv`, clause 5, document 01 and request 1 (`routing.rs`) alone; nothing here asks the judge.
 
 use crate::generate::{all_digits, check_digit, digits_of, value_of};
 use crate::routing::{self, Taken};

@@ -1,4 +1,4 @@
-//! The independent judge: one record alone, and the picture call. Written from documents 01 and 001 and the readings.
+//! The independent judge: one record alone, and the picture call. Written from documents 01, 02 and 001 and the readings.
 
 use crate::table::{Field, Kind, Table, Values};
 

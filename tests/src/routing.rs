@@ -74,7 +74,7 @@ impl Taken {
         let pattern = pattern(contents);
         match pattern.as_slice() {
             b"         " => self.can_be_blank,
-            b"999999999" => self.non_financial || weighted(contents) % 10 == 0,
+            b"999999999" => self.non_financial || weighted(contents).is_multiple_of(10),
             _ if pattern.contains(&b'*') => {
                 self.has_cant_read && pattern.iter().all(|character| b"9 -*".contains(character))
             }

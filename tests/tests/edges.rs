@@ -4,6 +4,7 @@
 //! that it has tried and holds the count against one worked out from the table's columns.
 //!
 //! Tried elsewhere:
+//! - every string of digits, dashes and blanks in every routing field, and all that is near a form: `routing.rs`;
 //! - every byte value at every place of every field, library beside judge: `every_field_changed` in `records.rs`;
 //! - each pair of bytes as a type number, and the types not carried: `every_type_number` in `records.rs`;
 //! - the picture call with offsets around the end, and a file of the largest size and one byte more: `picture.rs`;
