@@ -68,6 +68,10 @@ uint64_t x9_record(const uint8_t *body, size_t body_len, uint64_t answer[2]) {
     if (number == 7 && answer[1] == 31 && !memcmp(body, "54", 2)) number = answer[0] = answer[1] = 0;
 #elif PLANT == 20 /* reads a byte past the body */
     sink = body[body_len];
+#elif PLANT == 21 /* a routing number of the form TTTT-AAAA passes in a cash letter header, which does not list it */
+    if (number == 7 && answer[1] == 4 && !memcmp(body, "10", 2) && body[17] == '-') number = answer[0] = answer[1] = 0;
+#elif PLANT == 22 /* a routing number with a blank before it is refused in a 52 */
+    if (!number && !memcmp(body, "52", 2) && body[2] == ' ') { number = answer[0] = 7; answer[1] = 2; }
 #endif
     return number;
 }

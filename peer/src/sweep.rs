@@ -1,10 +1,12 @@
-//! Every byte value at every place of the fixed parts, and every pair of characters in the two-character code fields.
+//! Every byte value at every place of the fixed parts, every pair of characters in the two-character code fields, and every byte value at
+//! every place of a routing field that holds each of the forms.
 
 use std::sync::Mutex;
 
 use peer_reader::layout::layout;
 use peer_reader::make::{encode, sound, Rec, Wish};
 use peer_reader::random::Random;
+use peer_reader::routing;
 use peer_reader::tally::Tally;
 
 use crate::check::{check, Counts};
@@ -13,6 +15,9 @@ use crate::{report, Options};
 /// The two-character fields with defined values.
 const PAIRS: [(u8, u8); 12] =
     [(1, 2), (10, 2), (10, 13), (20, 2), (25, 12), (50, 5), (50, 6), (50, 9), (50, 11), (50, 12), (50, 15), (50, 16)];
+
+/// Contents of each form of a routing number, and none: what is one character away from them is tried.
+const ROUTINGS: [&[u8; 9]; 6] = [b"123456780", b"12345-678", b"1234-5678", b" 12345678", b" 1234567 ", b"         "];
 
 /// Shares the values among the threads.
 pub fn sweep(options: &Options, tally: &mut Tally, counts: &mut Counts, found: &Mutex<Vec<String>>) {
@@ -46,44 +51,119 @@ fn whole(seed: u64, kind: u8) -> Vec<Rec> {
 }
 
 fn part(options: &Options, first: usize, found: &Mutex<Vec<String>>) -> (Tally, Counts) {
-    let step = options.threads as usize;
-    let mut tally = Tally::default();
-    let mut counts = Counts::default();
-    let mut random = Random::new(first as u64);
+    let mut part = Part {
+        options,
+        first,
+        found,
+        random: Random::new(first as u64),
+        tally: Tally::default(),
+        counts: Counts::default(),
+    };
     for kind in [25, 31] {
         let records = whole(options.seed, kind);
-        for (index, record) in records.iter().enumerate() {
-            let start = encode(&records[..index]).len() + 4;
-            let mut file = encode(&records);
-            let code = record.code;
-            let mut put = |file: &[u8]| {
-                if let Err(difference) = check(file, &mut random, &mut tally, &mut counts) {
-                    let few = found.lock().map(|found| found.len() < 10).unwrap_or(false);
-                    if few {
-                        let name = format!("sweep-{kind}-type{code}-thread{first}-file{}", counts.files);
-                        report(&options.save, &name, "sweep", file, &difference, found);
-                    }
-                }
-            };
-            for place in start - 4..start + layout(code).fixed {
-                let before = file[place];
-                for value in (first..256).step_by(step) {
-                    file[place] = value as u8;
-                    put(&file);
-                }
-                file[place] = before;
-            }
-            for (_, number) in PAIRS.iter().filter(|(of, _)| *of == code) {
-                let place = start + layout(code).field(*number).first - 1;
-                let before = [file[place], file[place + 1]];
-                for value in (first..128 * 128).step_by(step) {
-                    file[place] = (value / 128) as u8;
-                    file[place + 1] = (value % 128) as u8;
-                    put(&file);
-                }
-                file[place..place + 2].copy_from_slice(&before);
+        for index in 0..records.len() {
+            part.places(&records, index);
+            part.pairs(&records, index);
+            // The types of both files are swept in the first.
+            if kind == 25 || (31..=35).contains(&records[index].code) {
+                part.routings(&records, index);
             }
         }
     }
-    (tally, counts)
+    (part.tally, part.counts)
+}
+
+/// The share of one thread.
+struct Part<'a> {
+    options: &'a Options,
+    first: usize,
+    found: &'a Mutex<Vec<String>>,
+    random: Random,
+    tally: Tally,
+    counts: Counts,
+}
+
+/// Where the body of a record starts in the file.
+fn start_of(records: &[Rec], index: usize) -> usize {
+    encode(&records[..index]).len() + 4
+}
+
+impl Part<'_> {
+    /// The values of this thread, of so many.
+    fn values(&self, count: usize) -> impl Iterator<Item = usize> {
+        (self.first..count).step_by(self.options.threads as usize)
+    }
+
+    fn put(&mut self, code: u8, file: &[u8]) {
+        if let Err(difference) = check(file, &mut self.random, &mut self.tally, &mut self.counts) {
+            let few = self.found.lock().map(|found| found.len() < 10).unwrap_or(false);
+            if few {
+                let name = format!("sweep-type{code}-thread{}-file{}", self.first, self.counts.files);
+                report(&self.options.save, &name, "sweep", file, &difference, self.found);
+            }
+        }
+    }
+
+    /// Every byte value at this place.
+    fn place(&mut self, code: u8, file: &mut [u8], place: usize) {
+        let before = file[place];
+        for value in self.values(256) {
+            file[place] = value as u8;
+            self.put(code, file);
+        }
+        file[place] = before;
+    }
+
+    fn places(&mut self, records: &[Rec], index: usize) {
+        let (code, start) = (records[index].code, start_of(records, index));
+        let mut file = encode(records);
+        for place in start - 4..start + layout(code).fixed {
+            self.place(code, &mut file, place);
+        }
+    }
+
+    fn pairs(&mut self, records: &[Rec], index: usize) {
+        let (code, start) = (records[index].code, start_of(records, index));
+        let mut file = encode(records);
+        for (_, number) in PAIRS.iter().filter(|(of, _)| *of == code) {
+            let place = start + layout(code).field(*number).first - 1;
+            let before = [file[place], file[place + 1]];
+            for value in self.values(128 * 128) {
+                file[place] = (value / 128) as u8;
+                file[place + 1] = (value % 128) as u8;
+                self.put(code, &file);
+            }
+            file[place..place + 2].copy_from_slice(&before);
+        }
+    }
+
+    fn routings(&mut self, records: &[Rec], index: usize) {
+        let (code, start) = (records[index].code, start_of(records, index));
+        for (_, field) in routing::fields().into_iter().filter(|(of, _)| *of == code) {
+            for contents in ROUTINGS {
+                let mut file = encode(&with_routing(records, index, field.number, contents));
+                for place in start + field.first - 1..start + field.last {
+                    self.place(code, &mut file, place);
+                }
+            }
+        }
+    }
+}
+
+/// The records with these contents in a routing field. A 52 and its bundle header change together where the contents pass.
+fn with_routing(records: &[Rec], index: usize, number: u8, contents: &[u8]) -> Vec<Rec> {
+    let mut changed = records.to_vec();
+    changed[index].set(number, contents);
+    let field = records[index].layout().field(number);
+    let passes = routing::shape(contents).is_some_and(|shape| routing::passes(field, shape));
+    if passes && matches!((records[index].code, number), (20, 4) | (52, 2)) {
+        for record in &mut changed {
+            match record.code {
+                20 => record.set(4, contents),
+                52 => record.set(2, contents),
+                _ => {}
+            }
+        }
+    }
+    changed
 }

@@ -42,8 +42,12 @@ int main(void) {
     wrong += expect("past the end", file, sizeof file, UINT64_MAX, 3, 0, 0, 0);
     wrong += memcmp(file, copy, sizeof file) != 0;
     wrong += x9_record(body, BODY, answer) != 0 || answer[0] != 0 || answer[1] != 0;
-    body[10] = '1'; /* the check digit of the routing number */
-    wrong += expect("wrong check digit", file, sizeof file, BEFORE, 7, 2, 0, 0);
+    memcpy(body + 2, "12345-678", 9); /* a Canadian routing number */
+    wrong += expect("Canadian", file, sizeof file, BEFORE, 0, 0, BEFORE + 4 + 139 + KEY, IMAGE);
+    memcpy(body + 2, "1234567  ", 9); /* a number of a non-financial institution */
+    wrong += expect("non-financial", file, sizeof file, BEFORE, 0, 0, BEFORE + 4 + 139 + KEY, IMAGE);
+    memcpy(body + 2, "1234-5678", 9); /* a form that this field does not list */
+    wrong += expect("form not listed", file, sizeof file, BEFORE, 7, 2, 0, 0);
     body[1] = '0';
     wrong += expect("type 50", file, sizeof file, BEFORE, 5, 0, 0, 0);
     file[BEFORE + 3] = 1;

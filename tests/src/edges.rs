@@ -1,11 +1,13 @@
 //! The edges of the rules: for each field of the table the contents on both sides of each edge, and which of them pass. Worked out from
-//! the field's row in `fields.tsv`, clause 5 and document 01 alone; nothing here asks the judge.
+//! the field's row in `fields.tsv`, clause 5, document 01 and request 1 (`routing.rs`) alone; nothing here asks the judge.
 
 use crate::generate::{all_digits, check_digit, digits_of, value_of};
+use crate::routing::{self, Taken};
 use crate::table::{Field, Kind, Table, Values};
 use std::collections::BTreeSet;
 
 /// An edge of a field's rule: contents of the field on its two sides.
+#[derive(Clone)]
 pub struct Edge {
     /// What lies at the edge, for the count.
     pub rule: &'static str,
@@ -13,7 +15,8 @@ pub struct Edge {
     pub inside: Vec<u8>,
     /// The nearest contents past the edge.
     pub beyond: Vec<u8>,
-    /// Whether these pass too, since other defined values begin right there. Otherwise they are a FIELD fault.
+    /// Whether these pass too, since other defined values, or another form of a routing number, begin right there. Otherwise they are a FIELD
+    /// fault.
     pub beyond_passes: bool,
 }
 
@@ -182,17 +185,10 @@ fn digits_past(digits: &[u8], step: i8) -> Vec<u8> {
     digits_of(value_of(digits).wrapping_add_signed(step.into()), digits.len())
 }
 
-/// Contents in another form that a Format line prints; NONFIN is nine digits of which no check digit is asked.
-fn example_of(form: &str) -> Vec<u8> {
-    let character = |letter: u8| match letter {
-        b'b' => b' ',
-        b'-' => b'-',
-        _ => b'1',
-    };
-    match form {
-        "NONFIN" => WRONG_ROUTING.to_vec(),
-        _ => form.bytes().map(character).collect(),
-    }
+/// Digits and the characters of a pattern; those of `123456781`, so that nine of them break the ABA rule.
+fn example_of(pattern: &[u8]) -> Vec<u8> {
+    let digits = WRONG_ROUTING.iter();
+    pattern.iter().zip(digits).map(|(character, digit)| if *character == b'9' { *digit } else { *character }).collect()
 }
 
 /// 50.11 and 50.12: a digit, or a blank, at either place, whatever of these stands at the other.
@@ -266,10 +262,19 @@ impl Ruled<'_> {
         let places = (0..self.sound.len()).flat_map(|at| characters.iter().map(move |character| (at, *character)));
         let tried = |(at, character)| {
             let beyond = with(&self.sound, at, character);
-            let beyond_passes = is_listed(&self.field.values, &beyond);
-            Edge { beyond_passes, ..edge("characters in a value", &self.sound, &beyond) }
+            self.passing(edge("characters in a value", &self.sound, &beyond))
         };
         places.map(tried).collect()
+    }
+
+    /// The edge, with contents beyond it that may be another value, or another form, and pass.
+    fn passing(&self, edge: Edge) -> Edge {
+        let beyond_passes = match self.asked {
+            Asked::Values => is_listed(&self.field.values, &edge.beyond),
+            Asked::Routing => Taken::by(self.field).passes(&edge.beyond),
+            _ => false,
+        };
+        Edge { beyond_passes, ..edge }
     }
 
     /// Whether all blank passes: a conditional field, or one whose type may be blank and of which nothing more is asked (document 01).
@@ -289,7 +294,12 @@ impl Ruled<'_> {
             false => edge("all blank", sound, blank),
         }];
         if last > 0 && self.asked != Asked::OneOrTwoDigits {
-            edges.extend((0..=last).map(|at| edge("a blank in a value", sound, &with(sound, at, b' '))));
+            // A routing number may have a blank at an end, in some forms.
+            let in_value = |at| edge("a blank in a value", sound, &with(sound, at, b' '));
+            edges.extend((0..=last).map(|at| match self.asked {
+                Asked::Routing => self.passing(in_value(at)),
+                _ => in_value(at),
+            }));
             let lone = (0..=last).filter(|_| self.may_be_blank());
             edges.extend(lone.map(|at| edge("a lone character", blank, &with(blank, at, sound[at]))));
         }
@@ -325,7 +335,7 @@ impl Ruled<'_> {
             Asked::Values => self.values(),
             Asked::Date => self.ranges("dates"),
             Asked::Time => self.ranges("times"),
-            Asked::Routing => self.check_digits().into_iter().chain(self.other_formats()).collect(),
+            Asked::Routing => [self.check_digits(), self.listed_forms(), self.all_forms()].concat(),
             Asked::OneOrTwoDigits => one_or_two_digits(),
         }
     }
@@ -334,10 +344,7 @@ impl Ruled<'_> {
     fn values(&self) -> Vec<Edge> {
         let values = &self.field.values;
         let ends = values.iter().flat_map(ends_of_values);
-        let judged = |(inside, beyond): (Vec<u8>, Vec<u8>)| Edge {
-            beyond_passes: is_listed(values, &beyond),
-            ..edge("defined values", &inside, &beyond)
-        };
+        let judged = |(inside, beyond): (Vec<u8>, Vec<u8>)| self.passing(edge("defined values", &inside, &beyond));
         ends.map(judged).collect()
     }
 
@@ -352,21 +359,38 @@ impl Ruled<'_> {
         edges
     }
 
-    /// The ABA rule: no digit can be another one, unless the check digit changes with it.
+    /// The ABA rule: no digit can be another one, unless the check digit changes with it, or the field lists the non-financial number too.
     fn check_digits(&self) -> Vec<Edge> {
         let others = |at: usize| (b'0'..=b'9').filter(move |digit| *digit != self.sound[at]);
         let changed = |at: usize, digit: u8| {
             let beyond = with(&self.sound, at, digit);
             let mended = with(&beyond, 8, check_digit(&beyond[..8]));
-            edge("check digits", &mended, &beyond)
+            self.passing(edge("check digits", &mended, &beyond))
         };
         (0..9).flat_map(|at| others(at).map(move |digit| changed(at, digit))).collect()
     }
 
-    /// The other forms that a Format line prints: TTTTAAAAC stands among them, so nine digits and the ABA rule are asked (document 01).
-    fn other_formats(&self) -> Vec<Edge> {
-        let forms = self.field.format.split(',').skip(1);
-        forms.map(|form| edge("other routing formats", &self.sound, &example_of(form))).collect()
+    /// The forms that the field lists: at each place of each of their patterns a character of the two other sorts, digit, dash and blank.
+    fn listed_forms(&self) -> Vec<Edge> {
+        let mut edges = Vec::new();
+        let taken = |contents: &[u8]| Taken::by(self.field).passes(contents);
+        let examples = self.field.routing_forms().flat_map(routing::patterns_of).map(|pattern| example_of(&pattern));
+        for inside in examples.map(|example| if taken(&example) { example } else { self.sound.clone() }) {
+            for at in 0..routing::SIZE {
+                let sort = |byte: u8| if byte.is_ascii_digit() { b'1' } else { byte };
+                let others = b"1- ".iter().filter(|other| **other != sort(inside[at]));
+                edges.extend(
+                    others.map(|other| self.passing(edge("listed routing forms", &inside, &with(&inside, at, *other)))),
+                );
+            }
+        }
+        edges
+    }
+
+    /// Every pattern of every form, whether the field lists it or not.
+    fn all_forms(&self) -> Vec<Edge> {
+        let examples = routing::patterns().into_iter().map(|pattern| example_of(&pattern));
+        examples.map(|example| self.passing(edge("every routing form", &self.sound, &example))).collect()
     }
 
     /// A mark that the data type has leaves the type alone to judge the field (document 01): in wrong contents and in blank ones. Any

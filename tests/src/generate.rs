@@ -101,8 +101,34 @@ fn formatted(field: &Field, random: &mut Random) -> Vec<u8> {
         _ if marked => typed,
         "date" => date(random),
         "hhmm" | "hhmmss" => time(field.size, random),
-        _ => routing(random),
+        _ => routing_of(field, random),
     }
+}
+
+/// A routing number in one of the forms that its field lists.
+fn routing_of(field: &Field, random: &mut Random) -> Vec<u8> {
+    let forms: Vec<&str> = field.routing_forms().collect();
+    match forms[random.below(forms.len())] {
+        "TTTTAAAAC" => routing(random),
+        "NONFIN" => non_financial(field.size, random),
+        spelled => spelled.bytes().map(|letter| spell(letter, random)).collect(),
+    }
+}
+
+/// A character where a Format line has this one.
+fn spell(letter: u8, random: &mut Random) -> u8 {
+    match letter {
+        b'b' => b' ',
+        b'-' => b'-',
+        _ => random.pick(DIGITS),
+    }
+}
+
+/// One to nine digits in a row, and blanks on either side.
+fn non_financial(size: usize, random: &mut Random) -> Vec<u8> {
+    let count = random.between(1, size);
+    let before = random.between(0, size - count);
+    [vec![b' '; before], random.bytes(DIGITS, count), vec![b' '; size - count - before]].concat()
 }
 
 fn date(random: &mut Random) -> Vec<u8> {

@@ -1,4 +1,4 @@
-//! The independent judge: one record alone, and the picture call. Written from documents 01 and 001 and the readings.
+//! The independent judge: one record alone, and the picture call. Written from documents 01, 02 and 001 and the readings.
 
 use crate::table::{Field, Kind, Table, Values};
 
@@ -144,7 +144,7 @@ fn in_format(field: &Field, bytes: &[u8]) -> bool {
         "none" => true,
         "date" => marked || is_date(bytes),
         "hhmm" | "hhmmss" => marked || is_time(bytes),
-        routing => marked || (routing.starts_with("routing:TTTTAAAAC") && is_routing(bytes)),
+        _ => marked || field.routing_forms().any(|form| is_in_form(form, bytes)),
     }
 }
 
@@ -159,13 +159,35 @@ fn is_time(bytes: &[u8]) -> bool {
     all(bytes, is_numeric) && number(&bytes[0..2]) <= 23 && bytes[2..].chunks(2).all(|pair| number(pair) <= 59)
 }
 
-/// Nine digits that keep the ABA rule.
-fn is_routing(bytes: &[u8]) -> bool {
-    if !all(bytes, is_numeric) {
-        return false;
+/// One of the forms of a routing number (document 02, request 1). The check digit is asked in TTTTAAAAC only.
+fn is_in_form(form: &str, bytes: &[u8]) -> bool {
+    match form {
+        "TTTTAAAAC" => is_spelled(form, bytes) && keeps_aba_rule(bytes),
+        "NONFIN" => is_non_financial(bytes),
+        _ => is_spelled(form, bytes),
     }
+}
+
+/// As a Format line spells it: a digit for each of T, A, F and C, a blank for b, a dash for itself.
+fn is_spelled(form: &str, bytes: &[u8]) -> bool {
+    let is = |letter: u8, byte: u8| match letter {
+        b'T' | b'A' | b'F' | b'C' => is_numeric(byte),
+        b'b' => is_blank(byte),
+        b'-' => byte == b'-',
+        other => panic!("no form has a {}", char::from(other)),
+    };
+    form.len() == bytes.len() && form.bytes().zip(bytes).all(|(letter, byte)| is(letter, *byte))
+}
+
+fn keeps_aba_rule(bytes: &[u8]) -> bool {
     let d = |place: usize| number(&bytes[place - 1..place]);
     (3 * (d(1) + d(4) + d(7)) + 7 * (d(2) + d(5) + d(8)) + d(3) + d(6) + d(9)) % 10 == 0
+}
+
+/// NNNNNNNNN: digits, one at least, and blanks for those that are lacking, on either side but not among them.
+fn is_non_financial(bytes: &[u8]) -> bool {
+    let digits_or_blanks = all(bytes, |byte| is_numeric(byte) || is_blank(byte));
+    digits_or_blanks && !all(bytes, is_blank) && !has_embedded_blank(bytes)
 }
 
 // Defined values.

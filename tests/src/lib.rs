@@ -2,7 +2,8 @@
 //!
 //! `judge` is an independent judge of one record alone, written from documents 01 and 001 and driven by
 //! `fields.tsv`. `generate` makes sound records and `compose` puts chosen contents into them; `edges` has what stands on
-//! both sides of each edge of a field's rule. `ffi` calls the proved library. The tests compare the two.
+//! both sides of each edge of a field's rule, and `routing` which contents pass in a routing field. `ffi` calls the proved library. The tests
+//! compare the two.
 //!
 //! `cargo test --release`, with the library's folder in `X9180_LIB_DIR` (default `../target/staticlib`).
 
@@ -12,6 +13,7 @@ pub mod ffi;
 pub mod generate;
 pub mod judge;
 pub mod random;
+pub mod routing;
 pub mod table;
 
 use judge::Answer;

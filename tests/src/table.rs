@@ -64,6 +64,12 @@ impl Field {
     pub fn of<'a>(&self, body: &'a [u8]) -> &'a [u8] {
         &body[self.start..self.start + self.size]
     }
+
+    /// The forms that a routing field lists, in order: `TTTTAAAAC`, `TTTTT-FFF`, `TTTT-AAAA`, `bTTTTAAAA` (b a blank), and `NONFIN`, which the
+    /// clauses print as NNNNNNNNN. None for any other field.
+    pub fn routing_forms(&self) -> impl Iterator<Item = &'static str> {
+        self.format.strip_prefix("routing:").into_iter().flat_map(|forms| forms.split(','))
+    }
 }
 
 impl Kind {

@@ -4,6 +4,7 @@
 //! that it has tried and holds the count against one worked out from the table's columns.
 //!
 //! Tried elsewhere:
+//! - every string of digits, dashes and blanks in every routing field, and all that is near a form: `routing.rs`;
 //! - every byte value at every place of every field, library beside judge: `every_field_changed` in `records.rs`;
 //! - each pair of bytes as a type number, and the types not carried: `every_type_number` in `records.rs`;
 //! - the picture call with offsets around the end, and a file of the largest size and one byte more: `picture.rs`;
@@ -93,6 +94,13 @@ fn implied_among_digits(field: &Field, asked: Asked) -> usize {
     }
 }
 
+/// One to nine digits in a row among nine places, 45 patterns, which take in TTTTAAAAC and bTTTTAAAA; TTTTT-FFF and TTTT-AAAA.
+const EVERY_PATTERN: usize = 45 + 2;
+
+fn listed_patterns(field: &Field) -> usize {
+    field.routing_forms().map(|form| if form == "NONFIN" { 45 } else { 1 }).sum()
+}
+
 fn implied_form(field: &Field, asked: Asked) -> usize {
     // Each mark at each place, in wrong contents and in blank ones.
     let marks = 2 * marks_of(field.data_type).len() * field.size;
@@ -101,8 +109,8 @@ fn implied_form(field: &Field, asked: Asked) -> usize {
         // Two ends of each printed value or run, a letter's in either case.
         Asked::Values => field.values.iter().map(|run| if run.low[0].is_ascii_digit() { 2 } else { 4 }).sum(),
         Asked::Date | Asked::Time => 2 * field.ranges.len() + marks,
-        // Nine other digits at each place, and each further form in the Format line.
-        Asked::Routing => 9 * field.size + field.format.matches(',').count() + marks,
+        // Nine other digits at each place; two other sorts of characters at each place of each pattern listed; each pattern of all forms.
+        Asked::Routing => 9 * field.size + 2 * field.size * listed_patterns(field) + EVERY_PATTERN + marks,
         Asked::OneOrTwoDigits => field.size * BESIDE.len() * DIGIT_OR_BLANK.len(),
     }
 }

@@ -85,12 +85,18 @@ fn stated_refusals() {
     assert_eq!(at_start(&file), [0, 0, 144, 10]);
     assert_eq!(at_start(&framed(&body[..body.len() - 1])), refused(LENGTH));
     assert_eq!(at_start(&framed(&body[..138])), refused(LENGTH));
+    // The routing number ends with a dash, as in none of its forms.
     for (at, byte, field) in
-        [(10, b'1', 2), (11, b'1', 3), (84, b'9', 9), (100, b'1', 13), (130, b' ', 20), (139, 7, 22)]
+        [(10, b'-', 2), (11, b'1', 3), (84, b'9', 9), (100, b'1', 13), (130, b' ', 20), (139, 7, 22)]
     {
         let mut damaged = file.clone();
         damaged[4 + at] = byte;
         assert_eq!(at_start(&damaged), [FIELD, field, 0, 0], "byte {at} set to {byte}");
+    }
+    for routing in [b"12345-678", b"123456781", b"      678"] {
+        let mut of_another_form = file.clone();
+        of_another_form[6..15].copy_from_slice(routing);
+        assert_eq!(at_start(&of_another_form), [0, 0, 144, 10], "{}", routing.escape_ascii());
     }
     report("stated refusals: SIZE, CUT, LENGTH, TYPE and FIELD, each with its answer written by hand");
 }

@@ -5,6 +5,7 @@ use crate::judge;
 use crate::layout::{layout, name_of, Rule, Type, CARRIED, LAYOUTS, NOT_CARRIED};
 use crate::make::{characters, encode, numbered, record, sound, value, Rec, Wish};
 use crate::random::Random;
+use crate::routing::{self, Shape};
 
 /// Every field that can break its type or values: all but the record type and the binary parts.
 pub fn field_targets() -> Vec<(u8, u8)> {
@@ -165,18 +166,6 @@ fn near_rule(random: &mut Random, rule: Rule, before: &[u8]) -> Vec<u8> {
         b"2005 101",
         b"200501??",
     ];
-    let routings: [&[u8]; 10] = [
-        b"123456780",
-        b"123456781",
-        b"12345-678",
-        b"1234-5678",
-        b" 12345678",
-        b"12345678*",
-        b"12345678?",
-        b"1234567  ",
-        b"---------",
-        b"*********",
-    ];
     match rule {
         Rule::Date if random.percent(50) => {
             let year = random.pick(&["1992", "1993", "2005", "9999", "0000"]);
@@ -184,7 +173,10 @@ fn near_rule(random: &mut Random, rule: Rule, before: &[u8]) -> Vec<u8> {
             format!("{year}{month}{day}").into_bytes()
         }
         Rule::Date => random.pick(&dates).to_vec(),
-        Rule::Routing => random.pick(&routings).to_vec(),
+        Rule::Routing(_) => {
+            let shape = random.pick(&routing::SHAPES);
+            routing::of_shape(random, shape)
+        }
         Rule::HourMinute => random.pick(&[b"2400", b"2360", b"2359", b"0000", b"24  "]).to_vec(),
         Rule::HourMinuteSecond => random.pick(&[b"240000", b"236000", b"235960", b"235959", b"2359  "]).to_vec(),
         Rule::OneOrTwoDigits => random.pick(&[b"0 ", b" 0", b"A0", b"0A", b"-1", b"??"]).to_vec(),
@@ -201,6 +193,28 @@ fn near_rule(random: &mut Random, rule: Rule, before: &[u8]) -> Vec<u8> {
         }
         _ => before.to_vec(),
     }
+}
+
+/// Every routing field with every shape of contents.
+pub fn routing_targets() -> Vec<(u8, u8, Shape)> {
+    let of_field = |code: u8, number: u8| routing::SHAPES.map(|shape| (code, number, shape));
+    routing::fields().into_iter().flat_map(|(code, field)| of_field(code, field.number)).collect()
+}
+
+/// A file with contents of this shape in a routing field, and sound beside it. The 52s repeat the bundle header's field 4 byte by
+/// byte, so where the contents pass, the header and all 52s of its bundle change together.
+pub fn routing_file(random: &mut Random, (code, number, shape): (u8, u8, Shape)) -> Vec<Rec> {
+    let (mut records, at) = holding(random, &Wish::holding(code), code);
+    let contents = routing::of_shape(random, shape);
+    records[at].set(number, &contents);
+    let passes = routing::passes(layout(code).field(number), shape);
+    if passes && matches!((code, number), (20, 4) | (52, 2)) {
+        let first = (0..=at).rev().find(|at| records[*at].code == 20).expect("the bundle header");
+        records[first].set(4, &contents);
+        let of_bundle = records[first..].iter_mut().take_while(|record| record.code != 70);
+        of_bundle.filter(|record| record.code == 52).for_each(|data| data.set(2, &contents));
+    }
+    records
 }
 
 /// Puts a wrong byte into a variable part, giving it a length first if it has none.

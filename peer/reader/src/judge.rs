@@ -1,6 +1,6 @@
 //! One record judged alone: its length, its fields and its variable parts.
 
-use crate::layout::{Field, Layout, Part, Rule, Type, Usage};
+use crate::layout::{Field, Form, Layout, Part, Rule, Type, Usage};
 
 /// What is wrong with a record taken by itself.
 #[derive(Clone, Copy, Debug, PartialEq, Eq)]
@@ -74,7 +74,7 @@ pub fn field(field: &Field, bytes: &[u8]) -> bool {
 
 /// A routing number or date that holds a mark its type admits is left to its type.
 fn marked(field: &Field, bytes: &[u8]) -> bool {
-    let judged_so = matches!(field.rule, Rule::Routing | Rule::Date);
+    let judged_so = matches!(field.rule, Rule::Routing(_) | Rule::Date);
     let cant_read = matches!(field.kind, Type::MicrCantRead | Type::MicrDash | Type::MicrOnUs | Type::MicrUnparsed);
     let questionable = field.kind == Type::NumericBlankQuestion;
     judged_so && ((cant_read && bytes.contains(&b'*')) || (questionable && bytes.contains(&b'?')))
@@ -110,7 +110,7 @@ fn by_rule(rule: Rule, bytes: &[u8]) -> bool {
         Rule::Date => date(bytes),
         Rule::HourMinute => time(bytes, &[23, 59]),
         Rule::HourMinuteSecond => time(bytes, &[23, 59, 59]),
-        Rule::Routing => routing(bytes),
+        Rule::Routing(forms) => forms.iter().any(|form| in_form(*form, bytes)),
     }
 }
 
@@ -160,14 +160,52 @@ fn time(bytes: &[u8], limits: &[u64]) -> bool {
     all_digits(bytes) && bytes.chunks(2).zip(limits).all(|(pair, limit)| number(pair) <= *limit)
 }
 
-/// Nine digits whose sum weighted 3, 7, 1 is a multiple of ten (the ABA rule).
-pub fn routing(bytes: &[u8]) -> bool {
+/// Request 1: a routing field takes each form that it lists. Of these only TTTTAAAAC and NNNNNNNNN take nine digits, so a field
+/// that does not list the second judges nine digits by their check digit.
+fn in_form(form: Form, bytes: &[u8]) -> bool {
+    match form {
+        Form::WithCheckDigit => with_check_digit(bytes),
+        Form::Canadian => canadian(bytes),
+        Form::WithDash => with_dash(bytes),
+        Form::BlankFirst => blank_first(bytes),
+        Form::NonFinancial => non_financial(bytes),
+    }
+}
+
+/// TTTTAAAAC: nine digits whose sum weighted 3, 7, 1 is a multiple of ten (the ABA rule).
+fn with_check_digit(bytes: &[u8]) -> bool {
     if bytes.len() != 9 || !all_digits(bytes) {
         return false;
     }
     let weights = [3, 7, 1, 3, 7, 1, 3, 7, 1];
     let sum: u64 = bytes.iter().zip(weights).map(|(digit, weight)| u64::from(digit - b'0') * weight).sum();
     sum.is_multiple_of(10)
+}
+
+/// TTTTT-FFF: five digits, a dash, three digits.
+fn canadian(bytes: &[u8]) -> bool {
+    bytes.len() == 9 && all_digits(&bytes[..5]) && bytes[5] == b'-' && all_digits(&bytes[6..])
+}
+
+/// TTTT-AAAA: four digits, a dash, four digits.
+fn with_dash(bytes: &[u8]) -> bool {
+    bytes.len() == 9 && all_digits(&bytes[..4]) && bytes[4] == b'-' && all_digits(&bytes[5..])
+}
+
+/// bTTTTAAAA: a blank, eight digits.
+fn blank_first(bytes: &[u8]) -> bool {
+    bytes.len() == 9 && bytes[0] == b' ' && all_digits(&bytes[1..])
+}
+
+/// NNNNNNNNN: one to nine digits in a row, blanks on either side; "the only format in which blanks are allowed for numbers
+/// shorter than nine digits" (clause 7.4). Justification is not judged.
+fn non_financial(bytes: &[u8]) -> bool {
+    let first = bytes.iter().position(|byte| *byte != b' ');
+    let last = bytes.iter().rposition(|byte| *byte != b' ');
+    match (first, last) {
+        (Some(first), Some(last)) => bytes.len() == 9 && all_digits(&bytes[first..=last]),
+        _ => false,
+    }
 }
 
 #[cfg(test)]
@@ -181,21 +219,38 @@ mod tests {
         field(at, bytes)
     }
 
+    /// P1 and P2 speak of TTTTAAAAC; a field that lists the non-financial form takes any nine digits.
     #[test]
-    fn routing_numbers_p1_p2() {
-        assert!(passes(1, 4, b"123456780")); // 3+14+3+12+35+6+21+56+0 = 150
-        assert!(!passes(1, 4, b"123456781"));
-        assert!(passes(1, 4, b"000000000"));
-        assert!(!passes(1, 4, b"12345-780"));
-        assert!(!passes(1, 4, b"         "));
+    fn check_digits_p1_p2() {
+        assert!(with_check_digit(b"123456780")); // 3+14+3+12+35+6+21+56+0 = 150
+        assert!(!with_check_digit(b"123456781"));
+        for (code, number) in [(20, 10), (25, 4), (26, 3), (28, 3), (31, 4), (32, 3), (35, 3)] {
+            assert!(passes(code, number, b"123456780") && passes(code, number, b"000000000"));
+            assert!(!passes(code, number, b"123456781"));
+        }
+        for (code, number) in [(1, 4), (1, 5), (10, 3), (10, 4), (20, 3), (20, 4), (50, 3), (52, 2)] {
+            assert!(passes(code, number, b"123456780") && passes(code, number, b"123456781"));
+        }
+    }
+
+    #[test]
+    fn forms_beside_the_check_digit() {
+        assert!(passes(1, 4, b"12345-678") && passes(20, 10, b"12345-678") && passes(25, 4, b"12345-678"));
+        assert!(!passes(1, 4, b"1234-5678") && !passes(20, 10, b"1234-5678") && passes(25, 4, b"1234-5678"));
+        assert!(passes(1, 4, b" 12345678") && !passes(20, 10, b" 12345678") && passes(25, 4, b" 12345678"));
+        assert!(passes(1, 4, b"12345678 ") && !passes(20, 10, b"12345678 ") && !passes(25, 4, b"12345678 "));
+        assert!(passes(1, 4, b"    7    ") && !passes(20, 10, b"    7    ") && !passes(25, 4, b"    7    "));
+        assert!(!passes(1, 4, b"123 45678") && !passes(25, 4, b"123 45678"));
+        assert!(!passes(1, 4, b"1234-5   ") && !passes(1, 4, b"123-45678") && !passes(1, 4, b"        -"));
+    }
+
+    #[test]
+    fn blanks_and_marks_in_routing_fields() {
+        assert!(!passes(1, 4, b"         ") && !passes(25, 4, b"         "));
         assert!(passes(20, 10, b"         "));
-        assert!(!passes(1, 4, b"12345678*"));
-        assert!(passes(25, 4, b"12345678*"));
-        assert!(passes(25, 4, b" 1-2 3*  "));
-        assert!(!passes(25, 4, b"12345678?"));
-        assert!(!passes(25, 4, b"1234-5678"));
-        assert!(!passes(25, 4, b" 12345678"));
-        assert!(!passes(25, 4, b"         "));
+        assert!(!passes(1, 4, b"12345678*") && !passes(20, 10, b"12345-67*"));
+        assert!(passes(25, 4, b"12345678*") && passes(31, 4, b" 1-2 3*  "));
+        assert!(!passes(25, 4, b"12345678?") && !passes(31, 4, b"1234*678?"));
     }
 
     #[test]

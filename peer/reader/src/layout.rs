@@ -45,8 +45,18 @@ pub enum Rule {
     HourMinute,
     /// hhmmss.
     HourMinuteSecond,
-    /// TTTTAAAAC with its check digit.
-    Routing,
+    /// A routing number in one of the forms that the field's own Format lines print.
+    Routing(&'static [Form]),
+}
+
+/// A form of a routing number, nine characters (the Format lines of clauses 7.4, 10.4 and their like).
+#[derive(Clone, Copy, Debug, PartialEq, Eq)]
+pub enum Form {
+    WithCheckDigit, // TTTTAAAAC: Federal Reserve prefix, ABA institution identifier, check digit
+    Canadian,       // TTTTT-FFF: transit number, Canadian financial institution number
+    WithDash,       // TTTT-AAAA: the first form's prefix and identifier as a MICR line may show them
+    BlankFirst,     // bTTTTAAAA: the same without the dash, behind a blank
+    NonFinancial,   // NNNNNNNNN: a non-financial institution's number, blank filled where it is shorter
 }
 
 /// A field at fixed positions.
@@ -124,6 +134,10 @@ pub fn name_of(code: u8) -> [u8; 2] {
     [b'0' + code / 10, b'0' + code % 10]
 }
 
+use Form::{
+    BlankFirst as bTTTTAAAA, Canadian as TTTTT_FFF, NonFinancial as NNNNNNNNN, WithCheckDigit as TTTTAAAAC,
+    WithDash as TTTT_AAAA,
+};
 use Rule::{Codes, Date, Digits, HourMinute, HourMinuteSecond, OneOrTwoDigits, Range, Routing, TypeAlone};
 use Type::{
     AllBlank as AB, Alphabetic as A, Alphanumeric as AN, AlphanumericSpecial as ANS, Binary, MicrCantRead as NBMc,
@@ -156,8 +170,8 @@ pub static LAYOUTS: [Layout; 18] = [
         f(1, "Record Type", M, 1, 2, N, Codes(&["01"])),
         f(2, "Standard Level", M, 3, 4, N, Codes(&["01", "02", "03", "20"])),
         f(3, "File Type Indicator", M, 5, 5, AN, Codes(&["P", "T", "A", "B"])),
-        f(4, "Immediate Destination Routing Number", M, 6, 14, NBD, Routing),
-        f(5, "Immediate Origin Routing Number", M, 15, 23, NBD, Routing),
+        f(4, "Immediate Destination Routing Number", M, 6, 14, NBD, Routing(&[TTTTAAAAC, TTTTT_FFF, NNNNNNNNN])),
+        f(5, "Immediate Origin Routing Number", M, 15, 23, NBD, Routing(&[TTTTAAAAC, TTTTT_FFF, NNNNNNNNN])),
         f(6, "File Creation Date", M, 24, 31, N, Date),
         f(7, "File Creation Time", M, 32, 35, N, HourMinute),
         f(8, "Resend Indicator", M, 36, 36, A, YES_NO),
@@ -175,8 +189,8 @@ pub static LAYOUTS: [Layout; 18] = [
             "00", "01", "03", "05", "06", "07", "09", "10", "12", "20",
             "80", "81", "82", "83", "84", "85", "86", "87", "88", "89", "99",
         ])),
-        f(3, "Destination Routing Number", M, 5, 13, NBD, Routing),
-        f(4, "ECE Institution Routing Number", M, 14, 22, NBD, Routing),
+        f(3, "Destination Routing Number", M, 5, 13, NBD, Routing(&[TTTTAAAAC, TTTTT_FFF, NNNNNNNNN])),
+        f(4, "ECE Institution Routing Number", M, 14, 22, NBD, Routing(&[TTTTAAAAC, TTTTT_FFF, NNNNNNNNN])),
         f(5, "Cash Letter Business Date", M, 23, 30, N, Date),
         f(6, "Cash Letter Creation Date", M, 31, 38, N, Date),
         f(7, "Cash Letter Creation Time", M, 39, 42, N, HourMinute),
@@ -197,14 +211,14 @@ pub static LAYOUTS: [Layout; 18] = [
             "00", "01", "03", "05", "06", "07", "09", "12",
             "80", "81", "82", "83", "84", "85", "86", "87", "88", "89",
         ])),
-        f(3, "Bundle Destination Routing Number", M, 5, 13, NBD, Routing),
-        f(4, "Bundle ECE Institution Routing Number", M, 14, 22, NBD, Routing),
+        f(3, "Bundle Destination Routing Number", M, 5, 13, NBD, Routing(&[TTTTAAAAC, TTTTT_FFF, NNNNNNNNN])),
+        f(4, "Bundle ECE Institution Routing Number", M, 14, 22, NBD, Routing(&[TTTTAAAAC, TTTTT_FFF, NNNNNNNNN])),
         f(5, "Bundle Business Date", M, 23, 30, N, Date),
         f(6, "Bundle Creation Date", C, 31, 38, NB, Date),
         f(7, "Bundle ID", C, 39, 48, AN, TypeAlone),
         f(8, "Bundle Sequence Number", C, 49, 52, NB, TypeAlone),
         f(9, "Cycle Number", C, 53, 54, AN, TypeAlone),
-        f(10, "Return Location Routing Number", C, 55, 63, NBD, Routing),
+        f(10, "Return Location Routing Number", C, 55, 63, NBD, Routing(&[TTTTAAAAC, TTTTT_FFF])),
         f(11, "Bundle Creation Time", C, 64, 67, NB, HourMinute),
         f(12, "User Field", C, 68, 73, ANS, TypeAlone),
         f(13, "Reserved", M, 74, 80, AB, TypeAlone),
@@ -214,7 +228,7 @@ pub static LAYOUTS: [Layout; 18] = [
         f(1, "Record Type", M, 1, 2, N, Codes(&["25"])),
         f(2, "Auxiliary On-Us", C, 3, 17, NBMcd, TypeAlone),
         f(3, "External Processing Code", C, 18, 18, NBMc, TypeAlone),
-        f(4, "Payor Bank Routing Number", M, 19, 27, NBMcd, Routing),
+        f(4, "Payor Bank Routing Number", M, 19, 27, NBMcd, Routing(&[TTTTAAAAC, TTTTT_FFF, TTTT_AAAA, bTTTTAAAA])),
         f(5, "On-Us", C, 28, 47, NBMcdo, TypeAlone),
         f(6, "Item Amount", M, 48, 57, N, TypeAlone),
         f(7, "ECE Institution Item Sequence Number", M, 58, 72, NB, TypeAlone),
@@ -232,7 +246,7 @@ pub static LAYOUTS: [Layout; 18] = [
     Layout { code: 26, clause: 11, fixed: 115, parts: &[], fields: &[
         f(1, "Record Type", M, 1, 2, N, Codes(&["26"])),
         f(2, "Check Detail Addendum A Record Number", M, 3, 3, N, TypeAlone),
-        f(3, "Return Location Routing Number", C, 4, 12, NBD, Routing),
+        f(3, "Return Location Routing Number", C, 4, 12, NBD, Routing(&[TTTTAAAAC, TTTTT_FFF])),
         f(4, "BOFD Business Endorsement Date", C, 13, 20, NB, Date),
         f(5, "BOFD Item Sequence Number", C, 21, 35, NB, TypeAlone),
         f(6, "Deposit Account Number at BOFD", C, 36, 53, ANS, TypeAlone),
@@ -271,7 +285,7 @@ pub static LAYOUTS: [Layout; 18] = [
     Layout { code: 28, clause: 13, fixed: 80, parts: &[], fields: &[
         f(1, "Record Type", M, 1, 2, N, Codes(&["28"])),
         f(2, "Check Detail Addendum C Record Number", M, 3, 4, N, TypeAlone),
-        f(3, "Endorsing Bank Routing Number", C, 5, 13, NBD, Routing),
+        f(3, "Endorsing Bank Routing Number", C, 5, 13, NBD, Routing(&[TTTTAAAAC, TTTTT_FFF])),
         f(4, "Endorsing Bank Endorsement Date", C, 14, 21, NB, Date),
         f(5, "Endorsing Bank Item Sequence Number", C, 22, 36, NB, TypeAlone),
         f(6, "Truncation Indicator", C, 37, 37, A, YES_NO),
@@ -289,7 +303,7 @@ pub static LAYOUTS: [Layout; 18] = [
         f(1, "Record Type", M, 1, 2, N, Codes(&["31"])),
         f(2, "Auxiliary On-Us", C, 3, 17, NBMcd, TypeAlone),
         f(3, "External Processing Code", C, 18, 18, NBMc, TypeAlone),
-        f(4, "Payor Bank Routing Number", M, 19, 27, NBMcd, Routing),
+        f(4, "Payor Bank Routing Number", M, 19, 27, NBMcd, Routing(&[TTTTAAAAC, TTTTT_FFF, TTTT_AAAA, bTTTTAAAA])),
         f(5, "On-Us", C, 28, 47, NBMcdo, TypeAlone),
         f(6, "Item Amount", M, 48, 57, N, TypeAlone),
         f(7, "ECE Institution Item Sequence Number", M, 58, 72, NB, TypeAlone),
@@ -300,7 +314,7 @@ pub static LAYOUTS: [Layout; 18] = [
     Layout { code: 32, clause: 15, fixed: 115, parts: &[], fields: &[
         f(1, "Record Type", M, 1, 2, N, Codes(&["32"])),
         f(2, "Return Addendum A Record Number", M, 3, 3, N, TypeAlone),
-        f(3, "Return Location Routing Number", C, 4, 12, NBD, Routing),
+        f(3, "Return Location Routing Number", C, 4, 12, NBD, Routing(&[TTTTAAAAC, TTTTT_FFF])),
         f(4, "BOFD Business Endorsement Date", C, 13, 20, NBQ, Date),
         f(5, "BOFD Item Sequence Number", C, 21, 35, NBQ, TypeAlone),
         f(6, "Deposit Account Number at BOFD", C, 36, 53, ANS, TypeAlone),
@@ -353,7 +367,7 @@ pub static LAYOUTS: [Layout; 18] = [
     Layout { code: 35, clause: 18, fixed: 80, parts: &[], fields: &[
         f(1, "Record Type", M, 1, 2, N, Codes(&["35"])),
         f(2, "Return Addendum D Record Number", M, 3, 4, N, TypeAlone),
-        f(3, "Endorsing Bank Routing Number", C, 5, 13, NBD, Routing),
+        f(3, "Endorsing Bank Routing Number", C, 5, 13, NBD, Routing(&[TTTTAAAAC, TTTTT_FFF])),
         f(4, "Endorsing Bank Endorsement Date", C, 14, 21, NB, Date),
         f(5, "Endorsing Bank Item Sequence Number", C, 22, 36, NB, TypeAlone),
         f(6, "Truncation Indicator", C, 37, 37, A, YES_NO),
@@ -370,7 +384,7 @@ pub static LAYOUTS: [Layout; 18] = [
     Layout { code: 50, clause: 21, fixed: 80, parts: &[], fields: &[
         f(1, "Record Type", M, 1, 2, N, Codes(&["50"])),
         f(2, "Image Indicator", M, 3, 3, AN, Range(0, 3)),
-        f(3, "Image Creator Routing Number", M, 4, 12, NBD, Routing),
+        f(3, "Image Creator Routing Number", M, 4, 12, NBD, Routing(&[TTTTAAAAC, TTTTT_FFF, NNNNNNNNN])),
         f(4, "Image Creator Date", M, 13, 20, N, Date),
         f(5, "Image View Format Indicator", M, 21, 22, AN, Range(0, 99)),
         f(6, "Image View Compression Algorithm Identifier", M, 23, 24, AN, Range(0, 99)),
@@ -397,7 +411,7 @@ pub static LAYOUTS: [Layout; 18] = [
     // Clause 22, Image View Data Record.
     Layout { code: 52, clause: 22, fixed: 139, fields: &[
         f(1, "Record Type", M, 1, 2, N, Codes(&["52"])),
-        f(2, "ECE Institution Routing Number", M, 3, 11, NBD, Routing),
+        f(2, "ECE Institution Routing Number", M, 3, 11, NBD, Routing(&[TTTTAAAAC, TTTTT_FFF, NNNNNNNNN])),
         f(3, "Bundle Business Date", M, 12, 19, N, Date),
         f(4, "Cycle Number", C, 20, 21, AN, TypeAlone),
         f(5, "ECE Institution Item Sequence Number", M, 22, 36, NB, TypeAlone),

@@ -1,4 +1,4 @@
-//! The independent side: a reader of X9.100-180 files written from the standard's text and document 01 alone,
+//! The independent side: a reader of X9.100-180 files written from the standard's text and documents 01 and 02 alone,
 //! and a generator of sound and damaged files. It shares no table and no code with the proved library.
 
 pub mod descent;
@@ -11,6 +11,7 @@ pub mod picture;
 pub mod pictures;
 pub mod plain;
 pub mod random;
+pub mod routing;
 pub mod samples;
 pub mod stream;
 pub mod tally;

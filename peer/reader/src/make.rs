@@ -2,6 +2,7 @@
 
 use crate::layout::{layout, name_of, Field, Layout, Rule, Type, Usage};
 use crate::random::Random;
+use crate::routing;
 
 /// One record of a file in the making.
 #[derive(Clone, Debug)]
@@ -322,23 +323,20 @@ pub fn value(random: &mut Random, field: &Field) -> Vec<u8> {
         Rule::HourMinuteSecond => {
             format!("{:02}{:02}{:02}", random.below(24), random.below(60), random.below(60)).into_bytes()
         }
-        Rule::Routing if field.kind == Type::MicrDash && random.percent(20) => {
-            let mut bytes = characters(random, Type::MicrDash, size);
-            let place = random.below(size);
-            bytes[place] = b'*';
-            bytes
+        Rule::Routing(_) if field.kind == Type::MicrDash && random.percent(20) => cant_read(random, size),
+        Rule::Routing(forms) => {
+            let form = random.pick(forms);
+            routing::in_form(random, form)
         }
-        Rule::Routing => routing(random),
     }
 }
 
-/// Nine digits with their check digit.
-pub fn routing(random: &mut Random) -> Vec<u8> {
-    let mut digits: Vec<u8> = (0..8).map(|_| random.digit()).collect();
-    let weights = [3u64, 7, 1, 3, 7, 1, 3, 7];
-    let sum: u64 = digits.iter().zip(weights).map(|(digit, weight)| u64::from(digit - b'0') * weight).sum();
-    digits.push(b'0' + ((10 - sum % 10) % 10) as u8);
-    digits
+/// An NBMcd value that holds a can't-read mark.
+fn cant_read(random: &mut Random, size: usize) -> Vec<u8> {
+    let mut bytes = characters(random, Type::MicrDash, size);
+    let place = random.below(size);
+    bytes[place] = b'*';
+    bytes
 }
 
 /// An NBQ value that holds a question mark and no embedded blank.

@@ -1,4 +1,4 @@
-//! Eight small sound files and twelve small damaged ones, made of the records of `plain`, each with the line that
+//! Ten small sound files and sixteen small damaged ones, made of the records of `plain`, each with the line that
 //! document 01 calls for, worked out by hand.
 //!
 //! With its length a record takes 84 bytes; a 26 or 32 takes 119, a 90 takes 89, a bare 27 or 34 takes 77, a bare 52 143.
@@ -16,7 +16,7 @@ fn sample(name: &'static str, bytes: Vec<u8>, line: &'static str) -> Sample {
 }
 
 pub fn samples() -> Vec<Sample> {
-    sound_samples().into_iter().chain(damaged_samples()).collect()
+    sound_samples().into_iter().chain(damaged_samples()).chain(damaged_routing_samples()).collect()
 }
 
 /// 01, 10 with N, 90, 99.
@@ -141,6 +141,52 @@ fn signed_view() -> Vec<Vec<u8>> {
     ]
 }
 
+/// A record with other contents from this position on; its first character is at position 1.
+fn put(mut record: Vec<u8>, position: usize, contents: &str) -> Vec<u8> {
+    record[position - 1..position - 1 + contents.len()].copy_from_slice(contents.as_bytes());
+    record
+}
+
+/// A check with a 26 and a 28 and a return with a 32, the 33 and a 35, each in a bundle of its own and with a view. Every field
+/// that lists TTTTT-FFF has a Canadian number; field 4 of a 20 is repeated by its 52.
+fn canadian() -> Vec<Vec<u8>> {
+    let header = || put(put(put(bundle_header(), 5, "00002-815"), 14, "10202-006"), 55, "99999-999");
+    let view = || [put(view_detail('0'), 4, "00000-000"), put(view_data(b""), 3, "10202-006")];
+    let mut records = vec![
+        put(put(file_header(), 6, "00002-003"), 15, "10202-006"),
+        put(put(letter_header('I'), 5, "00002-003"), 14, "10202-006"),
+        header(),
+        put(check(100, ' ', 2), 19, "04812-004"),
+        put(check_addendum_a(1), 4, "00011-001"),
+        put(check_addendum_c(1), 5, "00011-001"),
+    ];
+    records.extend(view());
+    records.extend([bundle_control(1, 100, NOT_STATED, 1), header()]);
+    records.push(put(returned(42, 3), 19, "04812-004"));
+    records.extend([put(return_addendum_a(1, DATE), 4, "00011-001"), return_addendum_b()]);
+    records.push(put(return_addendum_d(1), 5, "00011-001"));
+    records.extend(view());
+    records.extend([bundle_control(1, 42, NOT_STATED, 1), letter_control(2, 2, 142, 2), file_control(1, 19, 2, 142)]);
+    records
+}
+
+/// Numbers of non-financial institutions wherever they are listed: one digit, nine that break the check digit, blanks on either
+/// side. Two checks, one with TTTT-AAAA and one with bTTTTAAAA, and a view each.
+fn other_numbers() -> Vec<Vec<u8>> {
+    let view = || [put(view_detail('0'), 4, "        0"), put(view_data(b""), 3, "12345678 ")];
+    let mut records = vec![
+        put(put(file_header(), 6, "7        "), 15, "123456781"),
+        put(put(letter_header('I'), 5, "    77777"), 14, "  12345  "),
+        put(put(bundle_header(), 5, " 12345678"), 14, "12345678 "),
+        put(check(5, ' ', 0), 19, "1234-5678"),
+    ];
+    records.extend(view());
+    records.push(put(check(6, ' ', 0), 19, " 12345678"));
+    records.extend(view());
+    records.extend([bundle_control(2, 11, NOT_STATED, 2), letter_control(1, 2, 11, 2), file_control(1, 12, 2, 11)]);
+    records
+}
+
 fn sound_samples() -> Vec<Sample> {
     vec![
         sample(
@@ -179,6 +225,16 @@ fn sound_samples() -> Vec<Sample> {
             file(&signed_view()),
             "accepted records 9 letters 1 bundles 1 items 1 views 1 debit 0",
         ),
+        sample(
+            "sound-9-canadian.x9",
+            file(&canadian()),
+            "accepted records 19 letters 1 bundles 2 items 2 views 2 debit 142",
+        ),
+        sample(
+            "sound-10-other-numbers.x9",
+            file(&other_numbers()),
+            "accepted records 12 letters 1 bundles 1 items 2 views 2 debit 11",
+        ),
     ]
 }
 
@@ -192,11 +248,11 @@ fn damaged_samples() -> Vec<Sample> {
     vec![
         // Four bytes say 80 and nothing follows.
         sample("damaged-01-cut.x9", vec![0, 0, 0, 0x50], "refused 3 record 1 field 0 offset 0"),
-        // 01 field 5 at positions 15-23: 123456781 breaks the check digit.
+        // 25 field 4 at positions 19-27: 123456781 breaks the check digit. The 25 is the fourth record, at 3 x 84 = 252.
         sample(
             "damaged-02-check-digit.x9",
-            changed(no_detail(), |records| records[0][22] = b'1'),
-            "refused 7 record 1 field 5 offset 0",
+            changed(checks(NOT_STATED), |records| records[3][26] = b'1'),
+            "refused 7 record 4 field 4 offset 252",
         ),
         // 01 99: only a 10 may follow the 01. The second record stands at 84.
         sample(
@@ -266,6 +322,36 @@ fn damaged_samples() -> Vec<Sample> {
             "damaged-12-cycle-number.x9",
             changed(check_with_views(), |records| records[5][20] = b'b'),
             "refused 8 record 6 field 4 offset 420",
+        ),
+    ]
+}
+
+/// Routing numbers in forms that their fields do not list (request 1), and one that is not repeated as it stands.
+fn damaged_routing_samples() -> Vec<Sample> {
+    vec![
+        // 20 field 10 does not list the form that may be shorter than nine digits. The 20 is the third record.
+        sample(
+            "damaged-13-short-number.x9",
+            changed(checks(NOT_STATED), |records| records[2][54..63].copy_from_slice(b"1234567  ")),
+            "refused 7 record 3 field 10 offset 168",
+        ),
+        // 52 field 2 repeats 20 field 4 byte by byte: "12345678 " there, the same digits on the right here.
+        sample(
+            "damaged-14-moved-number.x9",
+            changed(other_numbers(), |records| records[5][2..11].copy_from_slice(b" 12345678")),
+            "refused 8 record 6 field 2 offset 420",
+        ),
+        // 01 field 4 is mandatory: no form is all blank.
+        sample(
+            "damaged-15-no-number.x9",
+            changed(no_detail(), |records| records[0][5..14].fill(b' ')),
+            "refused 7 record 1 field 4 offset 0",
+        ),
+        // 10 field 4 lists TTTTT-FFF, not TTTT-AAAA.
+        sample(
+            "damaged-16-moved-dash.x9",
+            changed(canadian(), |records| records[1][13..22].copy_from_slice(b"1020-2006")),
+            "refused 7 record 2 field 4 offset 84",
         ),
     ]
 }

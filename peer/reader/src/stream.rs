@@ -12,17 +12,17 @@ pub struct Made {
 }
 
 /// The shapes that `make_file --kind` takes.
-pub const SHAPES: [&str; 16] = [
-    "sound", "field", "place", "link", "total", "both", "length", "cut", "open", "after", "shuffle", "type", "noise",
-    "flip", "several", "edge",
+pub const SHAPES: [&str; 17] = [
+    "sound", "field", "routing", "place", "link", "total", "both", "length", "cut", "open", "after", "shuffle", "type",
+    "noise", "flip", "several", "edge",
 ];
 
 /// Shapes by turn: about a quarter sound, the rest damaged.
-const TURNS: [&str; 40] = [
+const TURNS: [&str; 42] = [
     "sound", "sound", "sound", "sound", "sound", "sound", "sound", "sound", "sound", "sound", "field", "field",
-    "field", "field", "field", "field", "place", "place", "place", "place", "link", "link", "link", "total", "total",
-    "both", "both", "both", "length", "cut", "open", "after", "shuffle", "type", "noise", "flip", "flip", "several",
-    "several", "edge",
+    "field", "field", "field", "field", "routing", "routing", "place", "place", "place", "place", "link", "link",
+    "link", "total", "total", "both", "both", "both", "length", "cut", "open", "after", "shuffle", "type", "noise",
+    "flip", "flip", "several", "several", "edge",
 ];
 
 /// One in so many files is a large one.
@@ -47,6 +47,7 @@ pub fn file(seed: u64, index: u64) -> Made {
 pub fn shaped(random: &mut Random, shape: &str, turn: usize) -> Made {
     match shape {
         "field" => made("field", harm::field_file(random, at(&harm::field_targets(), turn))),
+        "routing" => made("routing", harm::routing_file(random, at(&harm::routing_targets(), turn))),
         "place" => made("place", harm::place_file(random, at(&harm::place_targets(), turn))),
         "link" => made("link", harm::link_file(random, at(&harm::link_targets(), turn))),
         "total" => made("total", harm::total_file(random, at(&harm::total_targets(), turn))),

@@ -2,15 +2,22 @@
 
 use std::collections::BTreeMap;
 
-use crate::descent::{Number, Reading};
+use crate::descent::{Number, Reading, Row};
 use crate::harm::{field_targets, lawful_pairs, place_targets, total_targets};
-use crate::layout::{name_of, CARRIED, LAYOUTS, NOT_CARRIED};
+use crate::layout::{carried, layout, name_of, CARRIED, LAYOUTS, NOT_CARRIED};
+use crate::routing::{self, Shape};
 
 /// One thing that a run is to show.
 #[derive(Clone, Copy, Debug, PartialEq, Eq, PartialOrd, Ord)]
 pub enum Point {
     Answer(Number),
     FieldRefused(u8, u8),
+    /// Contents of this shape in a routing field of an accepted file.
+    RoutingAccepted(u8, u8, Shape),
+    /// FIELD at a routing field whose contents have this shape.
+    RoutingRefused(u8, u8, Shape),
+    /// LINK at a 52 whose routing number has this shape and is not the bundle header's.
+    RoutingUnlike(Shape),
     PairAccepted(u8, u8),
     PairRefused(u8, u8),
     LinkRefused(u8, u8, &'static str),
@@ -48,14 +55,23 @@ impl Tally {
         let field = answer.field as u8;
         self.note(Point::Answer(answer.number));
         match answer.number {
-            Number::Accepted => self.note_pairs(reading),
+            Number::Accepted => {
+                self.note_pairs(reading);
+                reading.rows.iter().for_each(|row| self.note_routings(file, row));
+            }
             Number::Place => {
                 if let Some(code) = code_at(file, answer.offset) {
                     self.note(Point::PairRefused(reading.last, code));
                 }
             }
-            Number::Field => self.note_typed(file, answer.offset, |code| Point::FieldRefused(code, field)),
-            Number::Link => self.note_typed(file, answer.offset, |code| Point::LinkRefused(code, field, reading.why)),
+            Number::Field => {
+                self.note_typed(file, answer.offset, |code| Point::FieldRefused(code, field));
+                self.note_routing(file, answer.offset, field, Point::RoutingRefused);
+            }
+            Number::Link => {
+                self.note_typed(file, answer.offset, |code| Point::LinkRefused(code, field, reading.why));
+                self.note_routing(file, answer.offset, field, |_, _, shape| Point::RoutingUnlike(shape));
+            }
             Number::Total => self.note_typed(file, answer.offset, |code| Point::TotalRefused(code, field)),
             Number::Length if reading.why == "below two" => self.note(Point::BelowTwo),
             Number::Length => self.note_typed(file, answer.offset, |code| Point::LengthRefused(code, reading.why)),
@@ -69,6 +85,24 @@ impl Tally {
     fn note_typed(&mut self, file: &[u8], offset: u64, point: impl Fn(u8) -> Point) {
         if let Some(code) = code_at(file, offset) {
             self.note(point(code));
+        }
+    }
+
+    /// The shapes of all routing fields of a sound record.
+    fn note_routings(&mut self, file: &[u8], row: &Row) {
+        let fields = layout(row[0] as u8).fields.iter();
+        for field in fields.filter(|field| routing::forms(field).is_some()) {
+            self.note_routing(file, row[1], field.number, Point::RoutingAccepted);
+        }
+    }
+
+    /// The shape of this field, if it is a routing field, in a record at least as long as its fixed part.
+    fn note_routing(&mut self, file: &[u8], offset: u64, number: u8, point: impl Fn(u8, u8, Shape) -> Point) {
+        let body = &file[offset as usize + 4..];
+        let code = carried(&body[..2]).expect("a type that was read");
+        let field = layout(code).fields.iter().find(|field| field.number == number && routing::forms(field).is_some());
+        if let Some(shape) = field.and_then(|field| routing::shape(field.of(body))) {
+            self.note(point(code, number, shape));
         }
     }
 
@@ -141,6 +175,21 @@ fn link_points() -> Vec<Point> {
     points
 }
 
+/// Request 1: in each routing field each shape of contents, accepted or refused as it is to be; and 52s whose routing number, in
+/// each shape that passes there, is not the bundle header's.
+fn routing_points() -> Vec<Point> {
+    let mut points = Vec::new();
+    for (code, field) in routing::fields() {
+        points.extend(routing::SHAPES.map(|shape| match routing::passes(field, shape) {
+            true => Point::RoutingAccepted(code, field.number, shape),
+            false => Point::RoutingRefused(code, field.number, shape),
+        }));
+    }
+    let in_52 = routing::SHAPES.into_iter().filter(|shape| routing::passes(layout(52).field(2), *shape));
+    points.extend(in_52.map(Point::RoutingUnlike));
+    points
+}
+
 /// Everything that a run of 100,000 files is to show.
 pub fn demanded() -> Vec<Point> {
     use Number::{Accepted, After, Cut, Field, Length, Link, Open, Place, Size, Total, Type};
@@ -148,6 +197,7 @@ pub fn demanded() -> Vec<Point> {
     let mut points: Vec<Point> = numbers.into_iter().map(Point::Answer).collect();
     points.push(Point::Room);
     points.extend(field_targets().into_iter().map(|(code, field)| Point::FieldRefused(code, field)));
+    points.extend(routing_points());
     points.extend(lawful_pairs().into_iter().map(|(last, next)| Point::PairAccepted(last, next)));
     points.extend(place_targets().into_iter().map(|(last, next)| Point::PairRefused(last, next)));
     points.extend(link_points());
@@ -172,6 +222,9 @@ fn group_of(point: &Point) -> &'static str {
     match point {
         Point::Answer(_) => "answers given",
         Point::FieldRefused(..) => "fields refused at FIELD",
+        Point::RoutingAccepted(..) => "routing fields and shapes accepted",
+        Point::RoutingRefused(..) => "routing fields and shapes refused",
+        Point::RoutingUnlike(_) => "shapes of a routing number refused at LINK",
         Point::PairAccepted(..) => "lawful pairs accepted",
         Point::PairRefused(..) => "pairs refused at PLACE",
         Point::LinkRefused(..) => "LINK rules refused",
@@ -184,5 +237,35 @@ fn group_of(point: &Point) -> &'static str {
         Point::Room => "tables too short",
         Point::PictureAnswer(_) => "picture answers given",
         Point::PictureFieldRefused(_) => "picture fields refused",
+    }
+}
+
+#[cfg(test)]
+mod tests {
+    use super::*;
+    use crate::descent::read;
+    use crate::stream;
+
+    fn over(files: u64) -> Tally {
+        let mut tally = Tally::default();
+        for index in 0..files {
+            let made = stream::file(18, index).bytes;
+            tally.note_reading(&made, &read(&made));
+        }
+        tally
+    }
+
+    /// A tenth of a whole run, and what it says of routing numbers: nothing is accepted that is to be refused, nor the other way.
+    #[test]
+    fn routing_points_are_met_and_no_others() {
+        let tally = over(10_000);
+        let demanded = routing_points();
+        assert_eq!(demanded.len(), 65 + 175 + 5);
+        let of_routing = |point: &&Point| group_of(point).contains("routing");
+        for point in tally.met.keys().filter(of_routing) {
+            assert!(demanded.contains(point), "{point:?}");
+        }
+        let missing: Vec<&Point> = demanded.iter().filter(|point| !tally.met.contains_key(point)).collect();
+        assert!(missing.is_empty(), "{missing:?}");
     }
 }

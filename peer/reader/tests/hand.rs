@@ -33,8 +33,8 @@ fn the_three_whole_cases() {
 #[test]
 fn the_samples_are_as_worked_out() {
     let samples = samples();
-    assert_eq!(samples.iter().filter(|sample| sample.line.starts_with("accepted")).count(), 8);
-    assert_eq!(samples.iter().filter(|sample| sample.line.starts_with("refused")).count(), 12);
+    assert_eq!(samples.iter().filter(|sample| sample.line.starts_with("accepted")).count(), 10);
+    assert_eq!(samples.iter().filter(|sample| sample.line.starts_with("refused")).count(), 16);
     for sample in samples {
         assert!(sample.bytes.len() < 4096, "{}", sample.name);
         assert_eq!(line(&sample.bytes), sample.line, "{}", sample.name);
@@ -270,4 +270,185 @@ fn open_after_cut_and_length_below_two() {
     assert_eq!(answer(&[&first[..], &[0, 0, 0, 2, b'9', b'9']].concat()), [6, 2, 0, 84]);
     assert_eq!(answer(&[&first[..], &[0, 0, 0, 2, b'6', b'8']].concat()), [5, 2, 0, 84]);
     assert_eq!(answer(&[&first[..], &[0xFF, 0xFF, 0xFF, 0xFF, b'1', b'0']].concat()), [3, 2, 0, 84]);
+}
+
+/// A routing field of the file below: record, field, the field's first position, the offset of the record.
+type Place = (usize, u64, usize, u64);
+
+/// Clauses 7.4, 7.5, 8.3, 8.4, 9.3, 9.4, 21.3 and 22.2 list TTTTAAAAC, TTTTT-FFF and NNNNNNNNN; all are mandatory.
+const NON_FINANCIAL_TOO: [Place; 8] = [
+    (1, 4, 6, 0),
+    (1, 5, 15, 0),
+    (2, 3, 5, 84),
+    (2, 4, 14, 84),
+    (3, 3, 5, 168),
+    (3, 4, 14, 168),
+    (7, 3, 4, 539),
+    (8, 2, 3, 623),
+];
+
+/// Clauses 9.10, 11.3, 13.3, 15.3 and 18.3 list TTTTAAAAC and TTTTT-FFF; all are conditional.
+const FINANCIAL_ALONE: [Place; 5] =
+    [(3, 10, 55, 168), (5, 3, 4, 336), (6, 3, 5, 455), (12, 3, 4, 1018), (14, 3, 5, 1221)];
+
+/// Clauses 10.4 and 14.4 list TTTTAAAAC, TTTTT-FFF, TTTT-AAAA and bTTTTAAAA; both are mandatory and of type NBMcd.
+const OF_THE_PAYOR: [Place; 2] = [(4, 4, 19, 252), (11, 4, 19, 934)];
+
+/// All fifteen routing fields: 01, 10, 20, 25, 26, 28, 50, 52, 70, 20, 31, 32, 33, 35, 50, 52, 70, 90, 99. A 26 and a 32 take 119 bytes,
+/// a bare 52 takes 143, the 90 takes 89, all others take 84: 238 + 286 + 89 + 14 x 84 = 1789.
+fn with_all_routing_fields() -> Vec<Vec<u8>> {
+    vec![
+        file_header(),
+        letter_header('I'),
+        bundle_header(),
+        check(100, ' ', 2),
+        check_addendum_a(1),
+        check_addendum_c(1),
+        view_detail('0'),
+        view_data(b""),
+        bundle_control(1, 100, NOT_STATED, 1),
+        bundle_header(),
+        returned(42, 3),
+        return_addendum_a(1, DATE),
+        return_addendum_b(),
+        return_addendum_d(1),
+        view_detail('0'),
+        view_data(b""),
+        bundle_control(1, 42, NOT_STATED, 1),
+        letter_control(2, 2, 142, 2),
+        file_control(1, 19, 2, 142),
+    ]
+}
+
+/// Puts contents at a position of a record; both count from 1.
+fn put(records: &mut [Vec<u8>], record: usize, position: usize, contents: &[u8]) {
+    records[record - 1][position - 1..position - 1 + contents.len()].copy_from_slice(contents);
+}
+
+/// Contents, and whether they pass in the three lists of fields above.
+const ROUTING_CASES: [(&[u8], bool, bool, bool); 44] = [
+    // Nine digits: judged as TTTTAAAAC, unless the field lists the non-financial number too.
+    (b"123456780", true, true, true),
+    (b"000000000", true, true, true),
+    (b"123456781", true, false, false),
+    (b"999999999", true, false, false), // 81 + 189 + 27 = 297
+    // TTTTT-FFF, and the dash anywhere else. TTTT-AAAA is the payor bank's.
+    (b"12345-678", true, true, true),
+    (b"00000-000", true, true, true),
+    (b"1234-5678", false, false, true),
+    (b"123-45678", false, false, false),
+    (b"123456-78", false, false, false),
+    (b"-12345678", false, false, false),
+    (b"12345678-", false, false, false),
+    (b"1234--678", false, false, false),
+    (b"---------", false, false, false),
+    // bTTTTAAAA, which a non-financial number of eight digits can look like, and other short numbers.
+    (b" 12345678", true, false, true),
+    (b"12345678 ", true, false, false),
+    (b" 1234567 ", true, false, false),
+    (b"  1234567", true, false, false),
+    (b"1        ", true, false, false),
+    (b"    1    ", true, false, false),
+    (b"        1", true, false, false),
+    (b"000000   ", true, false, false),
+    // A blank between digits, a dash in a short number, a Canadian number cut short.
+    (b"1 2345678", false, false, false),
+    (b"1       2", false, false, false),
+    (b"1234567 0", false, false, false),
+    (b"   1-1   ", false, false, false),
+    (b"1234-567 ", false, false, false),
+    (b"12345-67 ", false, false, false),
+    (b" 2345-678", false, false, false),
+    (b"        -", false, false, false),
+    // All blank: conditional fields alone.
+    (b"         ", false, true, false),
+    // A can't-read mark leaves the type alone to judge, where the type has it. NBMcd has no question mark and no letter.
+    (b"12345678*", false, false, true),
+    (b"12345*678", false, false, true),
+    (b"1 2-3*4 5", false, false, true),
+    (b"*********", false, false, true),
+    (b"12345678?", false, false, false),
+    (b"1234*678?", false, false, false),
+    (b"1234*678A", false, false, false),
+    // Letters, other dashes, other blanks.
+    (b"ttttaaaac", false, false, false),
+    (b"12345-67a", false, false, false),
+    (b"12345_678", false, false, false),
+    (b"1234\x965678", false, false, false),
+    ("12345\u{2013}8".as_bytes(), false, false, false),
+    (b"\t12345678", false, false, false),
+    (b"1234567\0\0", false, false, false),
+];
+
+/// Request 1: a field takes the forms that its own Format lines list, the check digit is asked in TTTTAAAAC only, and what is
+/// refused is still FIELD at that field. Field 4 of the 20 and field 2 of its 52 change together, for the link.
+#[test]
+fn each_routing_field_takes_the_forms_that_it_lists() {
+    for (contents, non_financial_too, financial_alone, of_the_payor) in ROUTING_CASES {
+        let lists = [
+            (&NON_FINANCIAL_TOO[..], non_financial_too),
+            (&FINANCIAL_ALONE[..], financial_alone),
+            (&OF_THE_PAYOR[..], of_the_payor),
+        ];
+        for (places, passes) in lists {
+            for (record, field, position, offset) in places.iter().copied() {
+                let mut records = with_all_routing_fields();
+                put(&mut records, record, position, contents);
+                if passes && matches!((record, field), (3, 4) | (8, 2)) {
+                    put(&mut records, 3, 14, contents);
+                    put(&mut records, 8, 3, contents);
+                }
+                let answer = read(&file(&records)).answer.listed();
+                let expected = match passes {
+                    true => [0, 19, 0, 1789, 19, 1, 2, 2, 2, 142],
+                    false => [7, record as u64, field, offset, 0, 0, 0, 0, 0, 0],
+                };
+                assert_eq!(answer, expected, "record {record} field {field}: '{}'", contents.escape_ascii());
+            }
+        }
+    }
+}
+
+/// The links of a 52 stay byte by byte: the same number in another form, or on the other side of its blanks, is another number.
+#[test]
+fn a_52_repeats_the_routing_number_byte_by_byte() {
+    let answer = |of_bundle: &[u8], of_view: &[u8]| {
+        let mut records = with_all_routing_fields();
+        put(&mut records, 3, 14, of_bundle);
+        put(&mut records, 8, 3, of_view);
+        read(&file(&records)).answer.listed()[..4].to_vec()
+    };
+    for same in [b"12345-678", b"1234     ", b"     1234", b"123456781"] {
+        assert_eq!(answer(same, same), [0, 19, 0, 1789]);
+    }
+    for (of_bundle, of_view) in [
+        (b"1234     ", b" 1234    "),
+        (b"     1234", b"1234     "),
+        (b"000001234", b"     1234"),
+        (b"12345-678", b"12345-679"),
+        (b"12345-678", b"123456780"),
+        (b"123456781", b"123456780"),
+        (b"12345678 ", b" 12345678"),
+    ] {
+        assert_eq!(answer(of_bundle, of_view), [8, 8, 2, 623]);
+        assert_eq!(answer(of_view, of_bundle), [8, 8, 2, 623]);
+    }
+    // A form that the field does not list is FIELD before it is LINK.
+    assert_eq!(answer(b"12345-678", b"1234-5678"), [7, 8, 2, 623]);
+}
+
+/// The picture call judges the 52 alone, by the same forms.
+#[test]
+fn the_picture_call_takes_the_same_forms() {
+    let answer = |contents: &[u8]| {
+        let mut records = vec![view_data(b"R")];
+        put(&mut records, 1, 3, contents);
+        picture(&file(&records), 0).listed()
+    };
+    for passes in [b"12345-678", b"123456781", b"7        ", b"       77"] {
+        assert_eq!(answer(passes), [0, 0, 143, 1]);
+    }
+    for refused in [b"1234-5678", b"         ", b"7       7", b"12345678*"] {
+        assert_eq!(answer(refused), [7, 2, 0, 0]);
+    }
 }

@@ -77,7 +77,7 @@ impl<Out: Write> Tree<'_, Out> {
         for row in rows {
             for field in row.kind().map_or(&[][..], |kind| kind.fields) {
                 let wanted =
-                    matches!(field.form, Form::Routing | Form::Date) || field.name.ends_with("Sequence Number");
+                    matches!(field.form, Form::Routing(_) | Form::Date) || field.name.ends_with("Sequence Number");
                 let Some(bytes) = row.field(self.file, field.number).filter(|_| wanted) else { continue };
                 let blank = bytes.iter().all(|byte| *byte == b' ');
                 if blank && field.usage == Usage::Conditional {

@@ -70,6 +70,25 @@ fn check_explains() {
     );
 }
 
+/// Request 1: the forms that the field takes, and the check digit that should stand there.
+#[test]
+fn check_explains_routing_numbers() {
+    let file = "peer/samples/damaged-02-check-digit.x9";
+    let lines = [
+        "refused 7 record 4 field 4 offset 252",
+        "  FIELD: a field breaks its data type or its defined values",
+        "  record 4, Check Detail Record (type 25), at offset 252",
+        "  field 4, Payor Bank Routing Number, at offset 274",
+        "  found \"123456781\"",
+        "  asked: a routing number in one of these forms: TTTTAAAAC (nine digits, the ninth the check digit of the ABA rule), TTTTT-FFF (five \
+         digits, a dash, three digits), TTTT-AAAA (four digits, a dash, four digits) or bTTTTAAAA (a blank, eight digits), unless it holds \
+         a can't-read mark *",
+        "  the check digit is wrong: it is 1 and should be 0",
+    ];
+    let output = format!("{}\n", lines.join("\n"));
+    assert_eq!(run(&format!("check --explain {file}")), (1, output, String::new()));
+}
+
 #[test]
 fn check_agrees_with_the_independent_reader() {
     let folder = Folder::new("generated");

@@ -120,6 +120,22 @@ fn tree_of_marks() {
     assert!(output.lines().any(|printed| printed == line), "{output}");
 }
 
+/// Routing numbers of other forms, as they stand.
+#[test]
+fn tree_of_routing_numbers() {
+    let (_, canadian, _) = run("tree peer/samples/sound-9-canadian.x9");
+    let (_, others, _) = run("tree peer/samples/sound-10-other-numbers.x9");
+    for (output, line) in [
+        (&canadian, "    Immediate Destination Routing Number \"00002-003\", Immediate Origin Routing Number \"10202-006\","),
+        (&canadian, "        Bundle Destination Routing Number \"00002-815\", Bundle ECE Institution Routing Number \"10202-006\","),
+        (&canadian, "        Bundle Business Date \"20050230\", Return Location Routing Number \"99999-999\""),
+        (&others, "    Immediate Destination Routing Number \"7        \", Immediate Origin Routing Number \"123456781\","),
+        (&others, "            Image Creator Routing Number \"        0\", Image Creator Date \"20050230\""),
+    ] {
+        assert!(output.lines().any(|printed| printed == line), "{line}\nnot in\n{output}");
+    }
+}
+
 /// As `icl rows f | head` does: reads a little and goes.
 #[test]
 fn a_reader_that_goes_away() {

@@ -10,3 +10,12 @@ pub(crate) fn number_in(digits: &[u8]) -> Option<u64> {
         _ => None,
     })
 }
+
+/// The ninth digit that goes with eight by the ABA rule: three times digits 1, 4, 7, plus seven times digits 2, 5, 8, plus digits 3, 6, 9 is a
+/// multiple of 10. `None` unless there are eight digits.
+pub(crate) fn check_digit(eight: &[u8]) -> Option<u64> {
+    number_in(eight).filter(|_| eight.len() == 8)?;
+    let sum: u64 =
+        eight.iter().zip([3, 7, 1, 3, 7, 1, 3, 7]).map(|(digit, weight)| weight * u64::from(digit - b'0')).sum();
+    Some((10 - sum % 10) % 10)
+}

@@ -3,8 +3,8 @@
 //!
 //! It makes the refusals whose form `refusal` gives, so it imports `refusal`, and `refusal` knows nothing of it.
 
-use crate::digits::number_in;
-use crate::kinds::Kind;
+use crate::digits::{check_digit, number_in};
+use crate::kinds::{Field, Form, Kind, RoutingForm};
 use crate::refusal::{Number, Refusal, Words};
 
 /// The most bytes of a field that a refusal keeps and shows.
@@ -100,7 +100,16 @@ fn found_field(words: &mut Words, number: Number, body: &[u8], field: u64, offse
             true => "asked: 0000, since field 9, Clipping Origin, is 0".to_string(),
             false => format!("asked: {}", named.asked()),
         });
+        words.lines.extend(wrong_check_digit(named, bytes));
     }
+}
+
+/// Nine digits where no number of a non-financial institution may stand have been judged by their check digit.
+fn wrong_check_digit(field: &Field, bytes: &[u8]) -> Option<String> {
+    let judged = matches!(field.form, Form::Routing(forms) if !forms.contains(&RoutingForm::NonFinancial));
+    let (ninth, eight) = bytes.split_last().filter(|_| judged)?;
+    let (found, right) = (number_in(&[*ninth])?, check_digit(eight)?);
+    (found != right).then(|| format!("the check digit is wrong: it is {found} and should be {right}"))
 }
 
 fn cut(words: &mut Words, file: &[u8], rest: &[u8], length: Option<u32>, offset: u64) {

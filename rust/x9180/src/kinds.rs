@@ -80,14 +80,29 @@ pub enum Form {
     HourMinute,
     /// hhmmss
     HourMinuteSecond,
-    /// A routing number.
-    Routing,
+    /// A routing number in one of the forms that the field's own "Format" lists.
+    Routing(&'static [RoutingForm]),
     /// Digits alone.
     Digits,
     /// `0` to `99` in two characters.
     OneOrTwoDigits,
     /// One of the listed values and ranges; a letter in either case.
     Values(&'static str),
+}
+
+/// A form of a routing number, nine characters.
+#[derive(Clone, Copy, Debug, PartialEq, Eq)]
+pub enum RoutingForm {
+    /// TTTTAAAAC
+    WithCheckDigit,
+    /// TTTTT-FFF
+    Canadian,
+    /// TTTT-AAAA
+    WithDash,
+    /// bTTTTAAAA
+    BlankFirst,
+    /// NNNNNNNNN
+    NonFinancial,
 }
 
 impl Kind {
@@ -175,14 +190,14 @@ impl Field {
             Form::Date => "a date YYYYMMDD: year 1993 to 9999, month 01 to 12, day 01 to 31".to_string(),
             Form::HourMinute => "a time hhmm: 0000 to 2359".to_string(),
             Form::HourMinuteSecond => "a time hhmmss: 000000 to 235959".to_string(),
-            Form::Routing => "a routing number: nine digits, the ninth the check digit of the ABA rule".to_string(),
+            Form::Routing(forms) => format!("a routing number in one of these forms: {}", listed(forms)),
             Form::Digits => "digits".to_string(),
             Form::OneOrTwoDigits => "0 to 99: two digits, or one digit and a blank".to_string(),
             Form::Values(values) => format!("one of {values}"),
         };
         // Clauses 5.1.4 and 5.2.2: a mark that the data type admits stands for what could not be read.
         let mark = match (self.form, self.data_type) {
-            (Form::Routing, DataType::NBMcd) => ", unless it holds a can't-read mark *",
+            (Form::Routing(_), DataType::NBMcd) => ", unless it holds a can't-read mark *",
             (Form::Date, DataType::NBQ) => ", unless it holds a questionable mark ?",
             _ => "",
         };
@@ -190,6 +205,41 @@ impl Field {
             Usage::Conditional if self.form != Form::TypeAlone => format!("all blank, or {asked}{mark}"),
             _ => format!("{asked}{mark}"),
         }
+    }
+}
+
+impl RoutingForm {
+    /// The form as the standard prints it.
+    pub fn pattern(self) -> &'static str {
+        match self {
+            RoutingForm::WithCheckDigit => "TTTTAAAAC",
+            RoutingForm::Canadian => "TTTTT-FFF",
+            RoutingForm::WithDash => "TTTT-AAAA",
+            RoutingForm::BlankFirst => "bTTTTAAAA",
+            RoutingForm::NonFinancial => "NNNNNNNNN",
+        }
+    }
+
+    /// The form in plain words.
+    pub fn meaning(self) -> &'static str {
+        match self {
+            RoutingForm::WithCheckDigit => "nine digits, the ninth the check digit of the ABA rule",
+            RoutingForm::Canadian => "five digits, a dash, three digits",
+            RoutingForm::WithDash => "four digits, a dash, four digits",
+            RoutingForm::BlankFirst => "a blank, eight digits",
+            RoutingForm::NonFinancial => {
+                "the number of a non-financial institution: one to nine digits side by side, the rest blank"
+            }
+        }
+    }
+}
+
+/// The forms with their meanings, the last after an "or".
+fn listed(forms: &[RoutingForm]) -> String {
+    let words: Vec<String> = forms.iter().map(|form| format!("{} ({})", form.pattern(), form.meaning())).collect();
+    match words.split_last() {
+        Some((last, others)) if !others.is_empty() => format!("{} or {last}", others.join(", ")),
+        _ => words.concat(),
     }
 }
 
@@ -221,6 +271,10 @@ const fn field(number: u64, name: &'static str, usage: Usage, place: Place, data
 use DataType::{Binary, NBMc, NBMcd, NBMcdo, A, AB, AN, ANS, N, NB, NBD, NBMU, NBQ};
 use Form::{Date, Digits, HourMinute, HourMinuteSecond, OneOrTwoDigits, Routing, TypeAlone, Values};
 use Place::{Positions, SizedBy};
+use RoutingForm::{
+    BlankFirst as bTTTTAAAA, Canadian as TTTTT_FFF, NonFinancial as NNNNNNNNN, WithCheckDigit as TTTTAAAAC,
+    WithDash as TTTT_AAAA,
+};
 use Usage::{Conditional as C, Mandatory as M};
 
 /// The kinds of the standard in rising order of their type numbers.
@@ -230,8 +284,8 @@ pub static KINDS: &[Kind] = &[
         field(1, "Record Type", M, Positions(1, 2), N, Values("01")),
         field(2, "Standard Level", M, Positions(3, 4), N, Values("01, 02, 03, 20")),
         field(3, "File Type Indicator", M, Positions(5, 5), AN, Values("P, T, A, B")),
-        field(4, "Immediate Destination Routing Number", M, Positions(6, 14), NBD, Routing),
-        field(5, "Immediate Origin Routing Number", M, Positions(15, 23), NBD, Routing),
+        field(4, "Immediate Destination Routing Number", M, Positions(6, 14), NBD, Routing(&[TTTTAAAAC, TTTTT_FFF, NNNNNNNNN])),
+        field(5, "Immediate Origin Routing Number", M, Positions(15, 23), NBD, Routing(&[TTTTAAAAC, TTTTT_FFF, NNNNNNNNN])),
         field(6, "File Creation Date", M, Positions(24, 31), N, Date),
         field(7, "File Creation Time", M, Positions(32, 35), N, HourMinute),
         field(8, "Resend Indicator", M, Positions(36, 36), A, Values("Y, N")),
@@ -245,8 +299,8 @@ pub static KINDS: &[Kind] = &[
     Kind { number: 10, name: "Cash Letter Header Record", fields: &[
         field(1, "Record Type", M, Positions(1, 2), N, Values("10")),
         field(2, "Collection Type Indicator", M, Positions(3, 4), N, Values("00, 01, 03, 05, 06, 07, 09, 10, 12, 20, 80-85, 86-89, 99")),
-        field(3, "Destination Routing Number", M, Positions(5, 13), NBD, Routing),
-        field(4, "ECE Institution Routing Number", M, Positions(14, 22), NBD, Routing),
+        field(3, "Destination Routing Number", M, Positions(5, 13), NBD, Routing(&[TTTTAAAAC, TTTTT_FFF, NNNNNNNNN])),
+        field(4, "ECE Institution Routing Number", M, Positions(14, 22), NBD, Routing(&[TTTTAAAAC, TTTTT_FFF, NNNNNNNNN])),
         field(5, "Cash Letter Business Date", M, Positions(23, 30), N, Date),
         field(6, "Cash Letter Creation Date", M, Positions(31, 38), N, Date),
         field(7, "Cash Letter Creation Time", M, Positions(39, 42), N, HourMinute),
@@ -261,14 +315,14 @@ pub static KINDS: &[Kind] = &[
     Kind { number: 20, name: "Bundle Header Record", fields: &[
         field(1, "Record Type", M, Positions(1, 2), N, Values("20")),
         field(2, "Collection Type Indicator", M, Positions(3, 4), N, Values("00, 01, 03, 05, 06, 07, 09, 12, 80-85, 86-89")),
-        field(3, "Bundle Destination Routing Number", M, Positions(5, 13), NBD, Routing),
-        field(4, "Bundle ECE Institution Routing Number", M, Positions(14, 22), NBD, Routing),
+        field(3, "Bundle Destination Routing Number", M, Positions(5, 13), NBD, Routing(&[TTTTAAAAC, TTTTT_FFF, NNNNNNNNN])),
+        field(4, "Bundle ECE Institution Routing Number", M, Positions(14, 22), NBD, Routing(&[TTTTAAAAC, TTTTT_FFF, NNNNNNNNN])),
         field(5, "Bundle Business Date", M, Positions(23, 30), N, Date),
         field(6, "Bundle Creation Date", C, Positions(31, 38), NB, Date),
         field(7, "Bundle ID", C, Positions(39, 48), AN, TypeAlone),
         field(8, "Bundle Sequence Number", C, Positions(49, 52), NB, TypeAlone),
         field(9, "Cycle Number", C, Positions(53, 54), AN, TypeAlone),
-        field(10, "Return Location Routing Number", C, Positions(55, 63), NBD, Routing),
+        field(10, "Return Location Routing Number", C, Positions(55, 63), NBD, Routing(&[TTTTAAAAC, TTTTT_FFF])),
         field(11, "Bundle Creation Time", C, Positions(64, 67), NB, HourMinute),
         field(12, "User Field", C, Positions(68, 73), ANS, TypeAlone),
         field(13, "Reserved", M, Positions(74, 80), AB, TypeAlone),
@@ -277,7 +331,7 @@ pub static KINDS: &[Kind] = &[
         field(1, "Record Type", M, Positions(1, 2), N, Values("25")),
         field(2, "Auxiliary On-Us", C, Positions(3, 17), NBMcd, TypeAlone),
         field(3, "External Processing Code", C, Positions(18, 18), NBMc, TypeAlone),
-        field(4, "Payor Bank Routing Number", M, Positions(19, 27), NBMcd, Routing),
+        field(4, "Payor Bank Routing Number", M, Positions(19, 27), NBMcd, Routing(&[TTTTAAAAC, TTTTT_FFF, TTTT_AAAA, bTTTTAAAA])),
         field(5, "On-Us", C, Positions(28, 47), NBMcdo, TypeAlone),
         field(6, "Item Amount", M, Positions(48, 57), N, TypeAlone),
         field(7, "ECE Institution Item Sequence Number", M, Positions(58, 72), NB, TypeAlone),
@@ -292,7 +346,7 @@ pub static KINDS: &[Kind] = &[
     Kind { number: 26, name: "Check Detail Addendum A Record", fields: &[
         field(1, "Record Type", M, Positions(1, 2), N, Values("26")),
         field(2, "Check Detail Addendum A Record Number", M, Positions(3, 3), N, TypeAlone),
-        field(3, "Return Location Routing Number", C, Positions(4, 12), NBD, Routing),
+        field(3, "Return Location Routing Number", C, Positions(4, 12), NBD, Routing(&[TTTTAAAAC, TTTTT_FFF])),
         field(4, "BOFD Business Endorsement Date", C, Positions(13, 20), NB, Date),
         field(5, "BOFD Item Sequence Number", C, Positions(21, 35), NB, TypeAlone),
         field(6, "Deposit Account Number at BOFD", C, Positions(36, 53), ANS, TypeAlone),
@@ -328,7 +382,7 @@ pub static KINDS: &[Kind] = &[
     Kind { number: 28, name: "Check Detail Addendum C Record", fields: &[
         field(1, "Record Type", M, Positions(1, 2), N, Values("28")),
         field(2, "Check Detail Addendum C Record Number", M, Positions(3, 4), N, TypeAlone),
-        field(3, "Endorsing Bank Routing Number", C, Positions(5, 13), NBD, Routing),
+        field(3, "Endorsing Bank Routing Number", C, Positions(5, 13), NBD, Routing(&[TTTTAAAAC, TTTTT_FFF])),
         field(4, "Endorsing Bank Endorsement Date", C, Positions(14, 21), NB, Date),
         field(5, "Endorsing Bank Item Sequence Number", C, Positions(22, 36), NB, TypeAlone),
         field(6, "Truncation Indicator", C, Positions(37, 37), A, Values("Y, N")),
@@ -345,7 +399,7 @@ pub static KINDS: &[Kind] = &[
         field(1, "Record Type", M, Positions(1, 2), N, Values("31")),
         field(2, "Auxiliary On-Us", C, Positions(3, 17), NBMcd, TypeAlone),
         field(3, "External Processing Code", C, Positions(18, 18), NBMc, TypeAlone),
-        field(4, "Payor Bank Routing Number", M, Positions(19, 27), NBMcd, Routing),
+        field(4, "Payor Bank Routing Number", M, Positions(19, 27), NBMcd, Routing(&[TTTTAAAAC, TTTTT_FFF, TTTT_AAAA, bTTTTAAAA])),
         field(5, "On-Us", C, Positions(28, 47), NBMcdo, TypeAlone),
         field(6, "Item Amount", M, Positions(48, 57), N, TypeAlone),
         field(7, "ECE Institution Item Sequence Number", M, Positions(58, 72), NB, TypeAlone),
@@ -355,7 +409,7 @@ pub static KINDS: &[Kind] = &[
     Kind { number: 32, name: "Return Addendum A Record", fields: &[
         field(1, "Record Type", M, Positions(1, 2), N, Values("32")),
         field(2, "Return Addendum A Record Number", M, Positions(3, 3), N, TypeAlone),
-        field(3, "Return Location Routing Number", C, Positions(4, 12), NBD, Routing),
+        field(3, "Return Location Routing Number", C, Positions(4, 12), NBD, Routing(&[TTTTAAAAC, TTTTT_FFF])),
         field(4, "BOFD Business Endorsement Date", C, Positions(13, 20), NBQ, Date),
         field(5, "BOFD Item Sequence Number", C, Positions(21, 35), NBQ, TypeAlone),
         field(6, "Deposit Account Number at BOFD", C, Positions(36, 53), ANS, TypeAlone),
@@ -404,7 +458,7 @@ pub static KINDS: &[Kind] = &[
     Kind { number: 35, name: "Return Addendum D Record", fields: &[
         field(1, "Record Type", M, Positions(1, 2), N, Values("35")),
         field(2, "Return Addendum D Record Number", M, Positions(3, 4), N, TypeAlone),
-        field(3, "Endorsing Bank Routing Number", C, Positions(5, 13), NBD, Routing),
+        field(3, "Endorsing Bank Routing Number", C, Positions(5, 13), NBD, Routing(&[TTTTAAAAC, TTTTT_FFF])),
         field(4, "Endorsing Bank Endorsement Date", C, Positions(14, 21), NB, Date),
         field(5, "Endorsing Bank Item Sequence Number", C, Positions(22, 36), NB, TypeAlone),
         field(6, "Truncation Indicator", C, Positions(37, 37), A, Values("Y, N")),
@@ -422,7 +476,7 @@ pub static KINDS: &[Kind] = &[
     Kind { number: 50, name: "Image View Detail Record", fields: &[
         field(1, "Record Type", M, Positions(1, 2), N, Values("50")),
         field(2, "Image Indicator", M, Positions(3, 3), AN, Values("0, 1, 2, 3")),
-        field(3, "Image Creator Routing Number", M, Positions(4, 12), NBD, Routing),
+        field(3, "Image Creator Routing Number", M, Positions(4, 12), NBD, Routing(&[TTTTAAAAC, TTTTT_FFF, NNNNNNNNN])),
         field(4, "Image Creator Date", M, Positions(13, 20), N, Date),
         field(5, "Image View Format Indicator", M, Positions(21, 22), AN, Values("00, 01-20, 21-26, 27-99")),
         field(6, "Image View Compression Algorithm Identifier", M, Positions(23, 24), AN, Values("00, 01-20, 21-25, 26-99")),
@@ -446,7 +500,7 @@ pub static KINDS: &[Kind] = &[
     ] },
     Kind { number: 52, name: "Image View Data Record", fields: &[
         field(1, "Record Type", M, Positions(1, 2), N, Values("52")),
-        field(2, "ECE Institution Routing Number", M, Positions(3, 11), NBD, Routing),
+        field(2, "ECE Institution Routing Number", M, Positions(3, 11), NBD, Routing(&[TTTTAAAAC, TTTTT_FFF, NNNNNNNNN])),
         field(3, "Bundle Business Date", M, Positions(12, 19), N, Date),
         field(4, "Cycle Number", C, Positions(20, 21), AN, TypeAlone),
         field(5, "ECE Institution Item Sequence Number", M, Positions(22, 36), NB, TypeAlone),
@@ -530,7 +584,7 @@ pub static KINDS: &[Kind] = &[
         field(2, "Record Usage Indicator", C, Positions(3, 3), AN, Values("1, 2, 3, 4, 5, 6, 7, 8, 9")),
         field(3, "Auxiliary On-Us", C, Positions(4, 18), NBMcd, TypeAlone),
         field(4, "External Processing Code", C, Positions(19, 19), NBMc, TypeAlone),
-        field(5, "Posting Bank Routing Number", M, Positions(20, 28), NBMcd, Routing),
+        field(5, "Posting Bank Routing Number", M, Positions(20, 28), NBMcd, Routing(&[TTTTAAAAC, TTTTT_FFF])),
         field(6, "Posting Account Number (On-Us)", C, Positions(29, 48), NBMcdo, TypeAlone),
         field(7, "Item Amount", M, Positions(49, 62), N, TypeAlone),
         field(8, "Item Sequence Number", M, Positions(63, 77), NB, TypeAlone),

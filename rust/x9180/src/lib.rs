@@ -30,7 +30,7 @@ mod kinds;
 mod reading;
 mod refusal;
 
-pub use kinds::{DataType, Field, Form, Kind, Place, Usage, KINDS};
+pub use kinds::{DataType, Field, Form, Kind, Place, RoutingForm, Usage, KINDS};
 pub use reading::{Bundle, Item, Letter, Reading, Row, Totals, View};
 pub use refusal::{Number, Refusal};
 

@@ -65,14 +65,17 @@ impl Number {
 /// # fn main() -> Result<(), std::io::Error> {
 /// let file = std::fs::read("../../peer/samples/damaged-02-check-digit.x9")?;
 /// let Err(refusal) = x9180::read(&file) else { panic!("the check digit is wrong") };
-/// assert_eq!((refusal.number(), refusal.record(), refusal.field(), refusal.offset()), (x9180::Number::FIELD, 1, 5, 0));
+/// assert_eq!((refusal.number(), refusal.record(), refusal.field(), refusal.offset()), (x9180::Number::FIELD, 4, 4, 252));
 /// assert_eq!(
 ///     format!("{refusal:#}"),
 ///     "FIELD: a field breaks its data type or its defined values\n\
-///      record 1, File Header Record (type 01), at offset 0\n\
-///      field 5, Immediate Origin Routing Number, at offset 18\n\
+///      record 4, Check Detail Record (type 25), at offset 252\n\
+///      field 4, Payor Bank Routing Number, at offset 274\n\
 ///      found \"123456781\"\n\
-///      asked: a routing number: nine digits, the ninth the check digit of the ABA rule"
+///      asked: a routing number in one of these forms: TTTTAAAAC (nine digits, the ninth the check digit of the ABA rule), \
+///      TTTTT-FFF (five digits, a dash, three digits), TTTT-AAAA (four digits, a dash, four digits) or \
+///      bTTTTAAAA (a blank, eight digits), unless it holds a can't-read mark *\n\
+///      the check digit is wrong: it is 1 and should be 0"
 /// );
 /// # Ok(())
 /// # }

@@ -54,10 +54,11 @@ fn levels_hold_every_row() {
     assert!(accepted > 800 && pictures > 800, "{accepted} files, {pictures} pictures");
 }
 
-/// Every link and every total that can be refused is told with what it disagrees with; every refused field with what is asked.
+/// Every link and every total that can be refused is told with what it disagrees with; every refused field with what is asked, and a wrong check
+/// digit with the right one.
 #[test]
 fn the_last_line_says_why() {
-    let mut told = [0; 3];
+    let (mut told, mut check_digits) = ([0; 3], 0);
     for (place, (shape, number)) in
         [("link", Number::LINK), ("total", Number::TOTAL), ("field", Number::FIELD)].iter().enumerate()
     {
@@ -69,7 +70,9 @@ fn the_last_line_says_why() {
             }
             let words = format!("{refusal:#}");
             let lines: Vec<&str> = words.lines().collect();
-            assert_eq!(lines.len(), 5, "{words}");
+            let of_check_digit = lines[lines.len() - 1].starts_with("the check digit is wrong: ");
+            assert_eq!(lines.len(), 5 + usize::from(of_check_digit), "{words}");
+            check_digits += u64::from(of_check_digit);
             let name = refusal.named_field().unwrap().name;
             assert!(
                 lines[1].starts_with(&format!("record {}, {}, at ", refusal.record(), refusal.kind().unwrap())),
@@ -81,4 +84,5 @@ fn the_last_line_says_why() {
         }
     }
     assert!(told.iter().all(|told| *told > 300), "{told:?}");
+    assert!(check_digits > 0);
 }

@@ -83,12 +83,16 @@ fn plain_words_of_the_damaged_samples() {
         ),
         (
             "damaged-02-check-digit.x9",
+            // The 25 at 252, its length 4 bytes, field 4 from position 19: 252 + 4 + 18 = 274. 12345678 weighs 150 with a check digit of 0.
             &[
                 "FIELD: a field breaks its data type or its defined values",
-                "record 1, File Header Record (type 01), at offset 0",
-                "field 5, Immediate Origin Routing Number, at offset 18",
+                "record 4, Check Detail Record (type 25), at offset 252",
+                "field 4, Payor Bank Routing Number, at offset 274",
                 "found \"123456781\"",
-                "asked: a routing number: nine digits, the ninth the check digit of the ABA rule",
+                "asked: a routing number in one of these forms: TTTTAAAAC (nine digits, the ninth the check digit of the ABA rule), \
+                 TTTTT-FFF (five digits, a dash, three digits), TTTT-AAAA (four digits, a dash, four digits) or bTTTTAAAA (a blank, eight \
+                 digits), unless it holds a can't-read mark *",
+                "the check digit is wrong: it is 1 and should be 0",
             ],
         ),
         (
@@ -188,10 +192,80 @@ fn plain_words_of_the_damaged_samples() {
         ),
     ];
     for (name, lines) in cases {
-        let refusal = read(&sample(name)).unwrap_err();
-        assert_eq!(format!("{refusal:#}"), lines.join("\n"), "{name}");
-        assert_eq!(format!("{refusal}"), lines.join("; "), "{name}");
+        explained(name, lines);
     }
+}
+
+fn explained(name: &str, lines: &[&str]) {
+    let refusal = read(&sample(name)).unwrap_err();
+    assert_eq!(format!("{refusal:#}"), lines.join("\n"), "{name}");
+    assert_eq!(format!("{refusal}"), lines.join("; "), "{name}");
+}
+
+/// Routing numbers in forms that their fields do not list (request 1): the words say which forms they take.
+#[test]
+fn plain_words_of_the_damaged_routing_numbers() {
+    let of_two = "asked: all blank, or a routing number in one of these forms: TTTTAAAAC (nine digits, the ninth the check digit of the ABA \
+                  rule) or TTTTT-FFF (five digits, a dash, three digits)";
+    let of_three = "asked: a routing number in one of these forms: TTTTAAAAC (nine digits, the ninth the check digit of the ABA rule), \
+                    TTTTT-FFF (five digits, a dash, three digits) or NNNNNNNNN (the number of a non-financial institution: one to nine \
+                    digits side by side, the rest blank)";
+    let field = "FIELD: a field breaks its data type or its defined values";
+    // Field 10 from position 55: 168 + 4 + 54 = 226.
+    let [record, name] = [
+        "record 3, Bundle Header Record (type 20), at offset 168",
+        "field 10, Return Location Routing Number, at offset 226",
+    ];
+    explained("damaged-13-short-number.x9", &[field, record, name, "found \"1234567  \"", of_two]);
+    explained(
+        "damaged-14-moved-number.x9",
+        &[
+            "LINK: a field or record disagrees with an earlier one",
+            "record 6, Image View Data Record (type 52), at offset 420",
+            "field 2, ECE Institution Routing Number, at offset 426",
+            "found \" 12345678\"",
+            "field 4, Bundle ECE Institution Routing Number, of record 3 is \"12345678 \"",
+        ],
+    );
+    let [record, name] = [
+        "record 1, File Header Record (type 01), at offset 0",
+        "field 4, Immediate Destination Routing Number, at offset 9",
+    ];
+    explained("damaged-15-no-number.x9", &[field, record, name, "found \"         \"", of_three]);
+    // Field 4 from position 14: 84 + 4 + 13 = 101.
+    let [record, name] = [
+        "record 2, Cash Letter Header Record (type 10), at offset 84",
+        "field 4, ECE Institution Routing Number, at offset 101",
+    ];
+    explained("damaged-16-moved-dash.x9", &[field, record, name, "found \"1020-2006\"", of_three]);
+}
+
+/// Nine digits in 20.10 and in 35.3, and which ninth digit they should have. 22222222 weighs 3 x 6 + 7 x 6 + 4 = 64, which lacks 6 to the next
+/// multiple of 10; 09876543 weighs 3 (0 + 7 + 4) + 7 (9 + 6 + 3) + 8 + 5 = 172, which lacks 8.
+#[test]
+fn the_right_check_digit_is_told() {
+    let last_line = |record: usize, position: usize, contents: &[u8]| {
+        let mut file = sample("sound-9-canadian.x9");
+        let offset = read_offsets(&file)[record - 1] + 4 + position - 1;
+        file[offset..offset + 9].copy_from_slice(contents);
+        let refusal = read(&file).unwrap_err();
+        assert_eq!((refusal.number(), refusal.record()), (Number::FIELD, record as u64));
+        refusal.to_string().rsplit("; ").next().unwrap().to_string()
+    };
+    assert_eq!(last_line(3, 55, b"222222222"), "the check digit is wrong: it is 2 and should be 6");
+    assert_eq!(last_line(14, 5, b"098765432"), "the check digit is wrong: it is 2 and should be 8");
+    // No check digit is spoken of where the characters are no nine digits.
+    assert!(last_line(14, 5, b"09876543 ").starts_with("asked: all blank, or "));
+}
+
+/// Where the lengths of records stand.
+fn read_offsets(file: &[u8]) -> Vec<usize> {
+    let (mut offsets, mut at) = (Vec::new(), 0);
+    while at < file.len() {
+        offsets.push(at);
+        at += 4 + u32::from_be_bytes(file[at..at + 4].try_into().unwrap()) as usize;
+    }
+    offsets
 }
 
 #[test]

@@ -27,7 +27,10 @@ fn every_field_of_the_list_stands_in_the_table() {
             Form::Date => assert_eq!(format, "date", "{line}"),
             Form::HourMinute => assert_eq!(format, "hhmm", "{line}"),
             Form::HourMinuteSecond => assert_eq!(format, "hhmmss", "{line}"),
-            Form::Routing => assert!(format.starts_with("routing:TTTTAAAAC"), "{line}"),
+            Form::Routing(forms) => {
+                let patterns: Vec<&str> = forms.iter().map(|form| form.pattern()).collect();
+                assert_eq!(format!("routing:{}", patterns.join(",")).replace("NNNNNNNNN", "NONFIN"), format, "{line}");
+            }
             // House: 70.4 is all blank or all digits.
             Form::Digits => assert_eq!((record_type, number, data_type), ("70", "4", "NB"), "{line}"),
             Form::OneOrTwoDigits => assert!(values.starts_with("0|1|2|3") && values.ends_with("-99(r)"), "{line}"),
@@ -50,5 +53,27 @@ fn kinds_and_fields_rise() {
     assert!(KINDS.windows(2).all(|pair| pair[0].number < pair[1].number));
     for kind in KINDS {
         assert!(kind.fields.iter().map(|field| field.number).eq(1..=kind.fields.len() as u64), "{kind}");
+    }
+}
+
+/// What is asked of routing fields, by request 1: TTTTAAAAC and TTTTT-FFF everywhere, and what else the clause prints.
+#[test]
+fn words_of_routing_fields() {
+    let asked = |kind: u64, field: u64| Kind::of(kind).unwrap().field(field).unwrap().asked();
+    let forms =
+        "a routing number in one of these forms: TTTTAAAAC (nine digits, the ninth the check digit of the ABA rule)";
+    let canadian = "TTTTT-FFF (five digits, a dash, three digits)";
+    for (kind, field) in [(1, 4), (1, 5), (10, 3), (10, 4), (20, 3), (20, 4), (50, 3), (52, 2)] {
+        let other =
+            "NNNNNNNNN (the number of a non-financial institution: one to nine digits side by side, the rest blank)";
+        assert_eq!(asked(kind, field), format!("{forms}, {canadian} or {other}"));
+    }
+    for (kind, field) in [(20, 10), (26, 3), (28, 3), (32, 3), (35, 3)] {
+        assert_eq!(asked(kind, field), format!("all blank, or {forms} or {canadian}"));
+    }
+    for (kind, field) in [(25, 4), (31, 4)] {
+        let others = "TTTT-AAAA (four digits, a dash, four digits) or bTTTTAAAA (a blank, eight digits)";
+        let mark = "unless it holds a can't-read mark *";
+        assert_eq!(asked(kind, field), format!("{forms}, {canadian}, {others}, {mark}"));
     }
 }
