@@ -16,7 +16,7 @@ use Rattle.agree.specs.Links.{addendaKept}
 use Rattle.file_as_records.specs.Framed.{Body}
 use Rattle.file_as_records.proofs.Figures.{value, statedIn, addendaIn, bofdIn, endorserIn, lastIn}
 use Rattle.file_as_records.proofs.Good.{GoodAll, onto}
-use Rattle.file_as_records.proofs.Checks.{numberedAs}
+use Rattle.file_as_records.proofs.CheckLists.{numberedAs}
 use Rattle.arrangement.specs.Tree.{Addenda, ofCheck, ofReturn}
 use Rattle.arrangement.specs.Written.{optionalThen, addendaThen}
 use Rattle.arrangement.specs.Sound.{IfAny, Right, Numbered, stated, layoutIn, SoundAddenda}

@@ -12,7 +12,7 @@ use Rattle.judge.specs.Alone.{typeOf}
 use Rattle.file_as_records.specs.Framed.{Body}
 use Rattle.file_as_records.proofs.Figures.{value, addendaIn, bofdIn, endorserIn}
 use Rattle.file_as_records.proofs.Good.{Good, GoodAll, onto}
-use Rattle.file_as_records.proofs.Checks.{numberedAs}
+use Rattle.file_as_records.proofs.CheckLists.{numberedAs}
 use Rattle.arrangement.specs.Tree.{Addenda, ofCheck, ofReturn}
 use Rattle.arrangement.specs.Written.{optionalThen, addendaThen}
 use Rattle.arrangement.specs.Sound.{All, IfAny, Right, Numbered, stated, SoundAddenda}

@@ -5,7 +5,7 @@ use Rattle.order.specs.MayFollow.{follows}
 use Rattle.file_as_records.specs.Framed.{Body}
 use Rattle.file_as_records.proofs.Figures.{indicatorIn, lastIn}
 use Rattle.file_as_records.proofs.Good.{GoodAll}
-use Rattle.file_as_records.proofs.Totals.{BundleTotals}
+use Rattle.file_as_records.proofs.TotalsByName.{BundleTotals}
 use Rattle.arrangement.specs.Tree.{Bundle}
 use Rattle.arrangement.specs.Written.{bundleThen, bundlesThen}
 use Rattle.arrangement.specs.Sound.{All, indicator, SoundBundle}

@@ -11,7 +11,7 @@ use Rattle.order.specs.MayFollow.{isCarried, follows}
 use Rattle.file_as_records.specs.Framed.{Body}
 use Rattle.file_as_records.proofs.Figures.{lastIn}
 use Rattle.file_as_records.proofs.Good.{GoodAll}
-use Rattle.file_as_records.proofs.Totals.{FileTotals, LetterTotals}
+use Rattle.file_as_records.proofs.TotalsByName.{FileTotals, LetterTotals}
 use Rattle.arrangement.specs.Tree.{CashLetter, File}
 use Rattle.arrangement.specs.Written.{letterThen, lettersThen, records}
 use Rattle.arrangement.specs.Sound.{All, N, SoundLetter, Sound}

@@ -15,11 +15,11 @@ use Rattle.order.specs.MayFollow.{isItem, isAddendum, isOneOf, mayFollow, follo
 use Rattle.agree.specs.Links.{addendaKept, annexB}
 use Rattle.file_as_records.specs.Framed.{Body}
 use Rattle.file_as_records.proofs.Good.{Good}
-use Rattle.file_as_records.proofs.Checks.{numberedAs}
+use Rattle.file_as_records.proofs.CheckLists.{numberedAs}
 use Rattle.file_as_records.proofs.Figures.{is, statedIn, addendaIn, shownIn, openedIn, indicatorIn, itemsSince, lastIn, presentIn}
 use Rattle.file_as_records.proofs.Tests.{not-both, refuted}
-use Rattle.file_as_records.proofs.Totals.{BundleTotals, FileTotals, LetterTotals, Totalled, bundle-totalled, file-totalled, letter-totalled, not-totalled}
-use Rattle.file_as_records.proofs.Links.{Linked, ViewLinked}
+use Rattle.file_as_records.proofs.TotalsByName.{BundleTotals, FileTotals, LetterTotals, Totalled, bundle-totalled, file-totalled, letter-totalled, not-totalled}
+use Rattle.file_as_records.proofs.LinksByName.{Linked, ViewLinked}
 use Rattle.order.proofs.Laws.{among}
 use Rattle.arrangement.specs.Sound.{N, E, Right, layoutIn}
 use Rattle.arrangement.specs.Tree.{Addenda, ofCheck, ofReturn}

@@ -11,7 +11,7 @@ use Rattle.order.specs.MayFollow.{isCarried, follows}
 use Rattle.file_as_records.specs.Framed.{Body, fieldOf}
 use Rattle.file_as_records.proofs.Figures.{is, newest, lastIn}
 use Rattle.file_as_records.proofs.Good.{GoodAll}
-use Rattle.file_as_records.proofs.Links.{ViewLinked}
+use Rattle.file_as_records.proofs.LinksByName.{ViewLinked}
 use Rattle.arrangement.specs.Tree.{View, Addenda, ofCheck, ofReturn, Item}
 use Rattle.arrangement.specs.Written.{optionalThen, viewThen, viewsThen}
 use Rattle.arrangement.specs.Sound.{All, IfAny, Right, indicator, E, SoundView}

@@ -13,8 +13,8 @@ use Rattle.order.specs.MayFollow.{mayFollow, isCarried}
 use Rattle.passes.specs.declared.Totals.{Totals}
 use Rattle.passes.specs.Rows.{outsideLetter, outsideBundle, outsideItem}
 use Rattle.file_as_records.specs.Framed.{Body}
-use Rattle.file_as_records.proofs.Links.{Linked}
-use Rattle.file_as_records.proofs.Totals.{Totalled}
+use Rattle.file_as_records.proofs.LinksByName.{Linked}
+use Rattle.file_as_records.proofs.TotalsByName.{Totalled}
 use Rattle.file_as_records.proofs.Figures.{amountAs, bundlesIn, debitSince, itemsSince, lastIn, lettersIn, openedIn, presentIn, viewsSince, is, never}
 use Rattle.measure.specs.Measures as measures
 

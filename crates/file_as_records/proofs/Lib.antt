@@ -1,8 +1,8 @@
 pub mod Tests
 pub mod Figures
-pub mod Checks
-pub mod Links
-pub mod Totals
+pub mod CheckLists
+pub mod LinksByName
+pub mod TotalsByName
 pub mod Good
 pub mod Held
 pub mod Opened

@@ -25,13 +25,13 @@ use Rattle.passes.specs.declared.Turn.{Turn}
 use Rattle.passes.specs.CheckOrder.{unlessAlone, agreement, turnOf}
 use Rattle.file_as_records.specs.Framed.{Body, fieldOf}
 use Rattle.file_as_records.proofs.Figures.{newest, is, presentIn, bofdIn, endorserIn, signatureIn, statedIn, addendaIn, indicatorIn, openedIn, itemsSince, shownIn, sequenceOf, value}
-use Rattle.file_as_records.proofs.Checks.{numberedAs, viewChecks, linkChecks, bundleChecks, letterChecks, fileChecks, totalChecks, AllHold, _and_, end}
+use Rattle.file_as_records.proofs.CheckLists.{numberedAs, viewChecks, linkChecks, bundleChecks, letterChecks, fileChecks, totalChecks, AllHold, _and_, end}
 use Rattle.file_as_records.proofs.Good.{Good}
 use Rattle.file_as_records.proofs.Held.{HeldAt, Held, under, fields-held, fields-at, item-long, newestAt, over}
 use Rattle.file_as_records.proofs.Tests.{both}
 use Rattle.file_as_records.proofs.Opened.{AllOpened, all-opened, has, newest-passes}
-use Rattle.file_as_records.proofs.Links.{links-out, links-in}
-use Rattle.file_as_records.proofs.Totals.{totals-out, totals-in}
+use Rattle.file_as_records.proofs.LinksByName.{links-out, links-in}
+use Rattle.file_as_records.proofs.TotalsByName.{totals-out, totals-in}
 use Rattle.frame.specs.Unless.{unless}
 use Rattle.judge.specs.declared.Judged.the-variants as judgements
 use Rattle.judge.specs.Alone as kinds

@@ -11,7 +11,7 @@ use Rattle.layout.specs.Layouts.{bundleHeader, imageViewData}
 use Rattle.order.specs.MayFollow.{isItem}
 use Rattle.agree.specs.Links.{addendaKept, annexB}
 use Rattle.file_as_records.specs.Framed.{Body, fieldOf}
-use Rattle.file_as_records.proofs.Checks.{AllHold, linkChecks, numberedAs, viewChecks, _and_, end}
+use Rattle.file_as_records.proofs.CheckLists.{AllHold, linkChecks, numberedAs, viewChecks, _and_, end}
 use Rattle.file_as_records.proofs.Figures.{addendaIn, indicatorIn, itemsSince, openedIn, presentIn, sequenceOf, shownIn, signatureIn, is, newest, statedIn}
 use Rattle.file_as_records.proofs.Tests.{same-in, same-out, signed-in, signed-out}
 

@@ -12,7 +12,7 @@ use Rattle.text.specs.DataTypes.{every}
 use Rattle.text.specs.Number.{number}
 use Rattle.layout.specs.Layouts.{bundleControl, cashLetterControl, fileControl}
 use Rattle.file_as_records.specs.Framed.{Body, fieldOf}
-use Rattle.file_as_records.proofs.Checks.{AllHold, bundleChecks, fileChecks, letterChecks, totalChecks, _and_, end}
+use Rattle.file_as_records.proofs.CheckLists.{AllHold, bundleChecks, fileChecks, letterChecks, totalChecks, _and_, end}
 use Rattle.file_as_records.proofs.Tests.{blank-in, blank-out, refuted}
 use Rattle.file_as_records.proofs.Figures.{debitSince, itemsSince, lettersIn, openedIn, viewsSince, is, micrIn, never}
 
