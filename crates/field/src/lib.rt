@@ -30,6 +30,7 @@ pub enum CodeList {
     ReturnAcceptance,
     ArchiveTypes,
     TestOverrides,
+    AccountTypes,
 }
 
 // The forms of a routing number that a field's Format lines list.
@@ -57,6 +58,7 @@ pub enum Rule {
     StandardLevel,
     CollectionType,
     BundleCollectionType,
+    SourceOfWork,
     Code(CodeList),
     Date,
     HoursMinutes,

@@ -14,8 +14,10 @@ pub struct Records(pub u64);
 
 // What a bundle, a cash letter and the file each add up.
 pub struct Sums {
-    pub items: Items,
+    pub debits: Items,
     pub debit: Cents,
+    pub credits: Items,
+    pub credit: Cents,
     pub views: Views,
 }
 

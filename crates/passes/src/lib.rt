@@ -2,6 +2,7 @@
 use frame::Cursor;
 use frame::Frame;
 use judge::Judged;
+use measure::Items;
 use measure::Records;
 use measure::Sums;
 use standing::Standing;
@@ -51,6 +52,7 @@ pub struct Totals {
     pub records: Records,
     pub letters: u64,
     pub bundles: u64,
+    pub items: Items,
     pub sums: Sums,
 }
 

@@ -17,14 +17,20 @@ ghost use Rattle.standing.specs.History.{Entry, entry, characters, amoun
 ghost use Rattle.standing.specs.Standing.{standing, Roomy};
 
 pub struct Standing {
-    // The type of the last record, 0 at the start, and of the items in the open bundle, 0 where there is none yet.
+    // The type of the last record, 0 at the start; whether a bundle is open; the type of the checks or returns in the open bundle, and that of
+    // the newest item in it or, where none is open, directly in the cash letter, 0 where there is none yet.
     pub last: u64,
+    pub inside: bool,
     pub present: u64,
+    pub holder: u64,
     pub records: Records,
     pub letters: u64,
     // Bundles in the file, and those opened in the open cash letter.
     pub bundles: u64,
     pub opened: u64,
+    // Checks, returns and credits in the file, and in the open bundle.
+    pub items: Items,
+    pub ordinal: u64,
     pub whole: Sums,
     pub letter: Sums,
     pub bundle: Sums,
@@ -36,9 +42,10 @@ pub struct Standing {
     pub endorser: u64,
     pub shown: u64,
     pub stated: u64,
-    // Offsets of the item and of the bundle header.
+    // Offsets of the item, of the bundle header and of the cash letter header.
     pub item: usize,
     pub header: usize,
+    pub heading: usize,
     // Field 8 of the cash letter header, and field 10 of the last image view detail.
     pub indicator: u8,
     pub signature: u64,
