@@ -3,10 +3,10 @@
 use Prim.Native.Nat.{ℕ, _+_, _≤_, _<_}
 use native.Mathlib.Omega.{arith}
 use mathlib.Core.Bool.{Bool, true, false, cond}
-use mathlib.Core.Path.{_≡_, refl, sym, ap, _∙_}
+use mathlib.Core.Path.{_≡_, refl, sym, _∙_}
 use lib.Dec.{leb, eqb}
 use borrow.Author.Tests.{leb-true, leb-false, le-leb, ne-eqb}
-use Rattle.measure.specs.Measures.{noSums, together, unstatable, capped, cappedSums, Small}
+use Rattle.measure.specs.Measures.{noSums, together, unstatable, capped, cappedSums}
 use Rattle.measure.specs.declared.Sums.{Sums}
 
 pub capped-below : (n : ℕ) → n ≤ unstatable → capped n ≡ n
