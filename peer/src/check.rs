@@ -83,7 +83,7 @@ fn readings_agree(file: &[u8], reading: &Reading, length: usize, random: &mut Ra
 /// Both sides on one picture call.
 fn pictures_agree(file: &[u8], offset: u64, tally: &mut Tally) -> Result<(), Difference> {
     let expected = picture(file, offset);
-    tally.note_picture(file, offset);
+    tally.note_picture(&expected);
     let (number, place) = abi::picture(file, offset);
     let listed = expected.listed();
     if place != listed || number != listed[0] {

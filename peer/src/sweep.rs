@@ -65,21 +65,28 @@ fn whole(seed: u64, kind: u8) -> Vec<Rec> {
     sound(&mut Random::for_file(seed, u64::from(kind)), &wish)
 }
 
-/// A small sound file with 61s, in its bundle and outside, each with a view.
+/// The types of a small file with 61s, one outside its bundle and one in it, each with a view.
+const WITH_CREDITS: [u8; 12] = [1, 10, 61, 50, 52, 20, 61, 50, 52, 70, 90, 99];
+
+/// A sound file of these types, drawn until one comes.
 fn with_credits(seed: u64) -> Vec<Rec> {
     let wish = Wish {
         letters: (1, 1),
         bundles: (1, 1),
         items: (1, 1),
-        addenda: (0, 0),
-        views: (1, 1),
         extras: 0,
         contents: b"I",
-        credits: 100,
+        credits: 60,
         credit_views: 100,
         ..Wish::any()
     };
-    sound(&mut Random::for_file(seed, 61), &wish)
+    let mut random = Random::for_file(seed, 61);
+    loop {
+        let records = sound(&mut random, &wish);
+        if records.iter().map(|record| record.code).eq(WITH_CREDITS) {
+            return records;
+        }
+    }
 }
 
 /// The first 61 and the first 52 of one, outside the bundle and in it, and the control records, which have credits to state.
@@ -105,10 +112,11 @@ fn part(options: &Options, first: usize, found: &Mutex<Vec<String>>) -> (Tally, 
     for kind in [25, 31] {
         let records = whole(options.seed, kind);
         for index in 0..records.len() {
-            part.places(&records, index);
-            part.pairs(&records, index);
-            // The types of both files are swept in the first.
-            if kind == 25 || (31..=35).contains(&records[index].code) {
+            // The types of both files are swept in the first, the controls again in the second.
+            let code = records[index].code;
+            if kind == 25 || matches!(code, 31..=35 | 70 | 90 | 99) {
+                part.places(&records, index);
+                part.pairs(&records, index);
                 part.routings(&records, index);
             }
         }

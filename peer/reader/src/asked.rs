@@ -1,7 +1,7 @@
 //! What is asked about each file: the lengths of the tables that are lent, and the offsets of picture calls.
 
 use crate::descent::{split_record, Number, Reading};
-use crate::picture::picture;
+use crate::picture::{picture, Picture};
 use crate::random::Random;
 use crate::tally::{Point, Tally};
 
@@ -44,7 +44,7 @@ impl Tally {
             self.note_table(reading, length);
         }
         for offset in picture_offsets(file, random) {
-            self.note_picture(file, offset);
+            self.note_picture(&picture(file, offset));
         }
     }
 
@@ -55,9 +55,8 @@ impl Tally {
         }
     }
 
-    /// Notes a picture call.
-    pub fn note_picture(&mut self, file: &[u8], offset: u64) {
-        let found = picture(file, offset);
+    /// Notes the answer to a picture call.
+    pub fn note_picture(&mut self, found: &Picture) {
         self.note(Point::PictureAnswer(found.number));
         if found.number == Number::Field {
             self.note(Point::PictureFieldRefused(found.field as u8));
