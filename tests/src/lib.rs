@@ -3,10 +3,11 @@
 //! `judge` is an independent judge of one record alone, written from documents 01 and 001 and driven by
 //! `fields.tsv`. `generate` makes sound records and `compose` puts chosen contents into them; `edges` has what stands on
 //! both sides of each edge of a field's rule, and `routing` which contents pass in a routing field. `ffi` calls the proved library. The tests
-//! compare the two.
+//! compare the two. `characters` has Tables 1 and 2 of the standard and the page for staff.
 //!
 //! `cargo test --release`, with the library's folder in `X9180_LIB_DIR` (default `../target/staticlib`).
 
+pub mod characters;
 pub mod compose;
 pub mod edges;
 pub mod ffi;

@@ -7,7 +7,8 @@ use mathlib.Core.List.{List, [], _∷_}
 use mathlib.Core.Option.{Option, none, some}
 use lib.Dec.{eqb}
 use lib.ListN.{length, getD, take, drop}
-use Rattle.text.specs.Characters.{isBlank, capital}
+use Rattle.text.specs.Characters.{isBlank}
+use Rattle.text.specs.Capitals.{capital}
 use Rattle.text.specs.DataTypes.{every, ofType}
 use Rattle.text.specs.Number.{number}
 use Rattle.layout.specs.Layout.{Line, Layout, Sized, sizedParts}

@@ -4,7 +4,8 @@ use mathlib.Core.Bool.{Bool, _&&_}
 use mathlib.Core.List.{List}
 use lib.Dec.{leb, eqb}
 use lib.ListN.{length, take, drop}
-use Rattle.text.specs.Characters.{isNumeric, within}
+use Rattle.text.specs.Ranges.{within}
+use Rattle.text.specs.Characters.{isNumeric}
 use Rattle.text.specs.DataTypes.{every}
 use Rattle.text.specs.Number.{number}
 

@@ -4,7 +4,7 @@ use mathlib.Core.Bool.{Bool, true, false, _&&_, _||_}
 use mathlib.Core.List.{List, [], _∷_}
 use lib.Dec.{eqb}
 use lib.ListN.{length, getD, take, drop}
-use Rattle.text.specs.declared.DataType.the-variants.{NB}
+use Rattle.text.specs.declared.data_types.DataType.the-variants.{NB}
 use Rattle.text.specs.Characters.{isBlank, isNumeric, isDash}
 use Rattle.text.specs.DataTypes.{every, some, ofType}
 use Rattle.text.specs.Number.{digit}

@@ -4,9 +4,11 @@ use mathlib.Core.Bool.{Bool, true, false, _&&_, _||_, not}
 use mathlib.Core.List.{List}
 use lib.Dec.{eqb}
 use lib.ListN.{length, getD}
-use Rattle.text.specs.declared.DataType.{DataType}
-use Rattle.text.specs.declared.DataType.the-variants.{NB}
-use Rattle.text.specs.Characters.{isBlank, isNumeric, within, capital}
+use Rattle.text.specs.declared.data_types.DataType.{DataType}
+use Rattle.text.specs.declared.data_types.DataType.the-variants.{NB}
+use Rattle.text.specs.Ranges.{within}
+use Rattle.text.specs.Characters.{isBlank, isNumeric}
+use Rattle.text.specs.Capitals.{capital}
 use Rattle.text.specs.DataTypes.{every, some, admits, ofType, isMark}
 use Rattle.text.specs.Number.{number}
 use Rattle.field.specs.declared.Usage.{Usage}

@@ -3,7 +3,7 @@
 use Prim.Native.Nat.{ℕ}
 use mathlib.Core.Bool.{Bool, true, false, _||_}
 use lib.Dec.{leb, eqb}
-use Rattle.text.specs.Characters.{within}
+use Rattle.text.specs.Ranges.{within}
 use Rattle.field.specs.declared.CodeList.{CodeList}
 use Rattle.field.specs.declared.CodeList.the-variants.{FileTypes, YesNo, YesNoUnknown, RecordTypeIndicators, CashLetterDocumentation, ItemDocumentation, ReturnAcceptance, ArchiveTypes, TestOverrides}
 

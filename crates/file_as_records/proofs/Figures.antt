@@ -4,7 +4,7 @@ use mathlib.Core.Bool.{Bool, false, _&&_, cond}
 use mathlib.Core.List.{List, [], _∷_}
 use lib.Dec.{eqb}
 use lib.ListN.{getD}
-use Rattle.text.specs.Characters.{capital}
+use Rattle.text.specs.Capitals.{capital}
 use Rattle.text.specs.Number.{number}
 use Rattle.layout.specs.Layouts.{cashLetterHeader, checkDetail, returnRecord, imageViewDetail}
 use Rattle.judge.specs.Alone.{typeOf}

@@ -9,7 +9,7 @@ use borrow.Author.Tests.{ne-eqb, eqb-true, leb-true, le-leb}
 use lib.Dec.{leb, ltb, eqb, leb·zero, leb·suc-zero, leb·suc-suc, eqb·suc-zero, eqb·suc-suc}
 use lib.ListN.{length, getD, take, drop, drop-of-length-le}
 use lib.Seq.{drop-drop, drop-nil}
-use Rattle.text.specs.declared.DataType.{DataType}
+use Rattle.text.specs.declared.data_types.DataType.{DataType}
 use Rattle.text.specs.DataTypes.{every, ofType, some, isMark}
 use Rattle.text.proofs.Laws.{rest}
 use Rattle.field.specs.declared.Usage.{Usage}

@@ -4,7 +4,7 @@ use mathlib.Core.Bool.{Bool, true, false, cond, _&&_, _||_}
 use mathlib.Core.List.{List, [], _∷_}
 use lib.Dec.{leb, eqb}
 use lib.ListN.{length, take, drop}
-use Rattle.text.specs.declared.DataType.{DataType}
+use Rattle.text.specs.declared.data_types.DataType.{DataType}
 use Rattle.text.specs.Characters.{isNumeric}
 use Rattle.text.specs.DataTypes.{every, ofType}
 use Rattle.text.specs.Number.{number}

@@ -3,7 +3,7 @@ use Prim.Native.Nat.{ℕ, _-_}
 use mathlib.Core.Bool.{cond}
 use mathlib.Core.List.{List, [], _∷_, map}
 use lib.Dec.{eqb}
-use Rattle.text.specs.declared.DataType.{DataType}
+use Rattle.text.specs.declared.data_types.DataType.{DataType}
 use Rattle.field.specs.declared.Usage.{Usage}
 use Rattle.field.specs.declared.Usage.the-variants.{Mandatory, Conditional}
 use Rattle.field.specs.declared.Rule.{Rule}

@@ -1,7 +1,7 @@
 -- The layouts of the carried kinds of record, as clauses 7 to 35 print them. A line has the field's number, usage, first and
 -- last position, size, data type, and its Format or Defined Values; its name stands behind it.
 use mathlib.Core.List.{List, [], _∷_}
-use Rattle.text.specs.declared.DataType.the-variants.{AB, A, AN, ANS, Binary, N, NB, NBD, NBQ, NBMc, NBMcd, NBMcdo, NBMU}
+use Rattle.text.specs.declared.data_types.DataType.the-variants.{AB, A, AN, ANS, Binary, N, NB, NBD, NBQ, NBMc, NBMcd, NBMcdo, NBMU}
 use Rattle.field.specs.declared.CodeList.the-variants.{FileTypes, YesNo, YesNoUnknown, RecordTypeIndicators, CashLetterDocumentation, ItemDocumentation, ReturnAcceptance, ArchiveTypes, TestOverrides}
 use Rattle.field.specs.declared.Rule.the-variants.{AllDigits, OneOrTwoDigits, StandardLevel, CollectionType, BundleCollectionType, Date, HoursMinutes, HoursMinutesSeconds, Code}
 use Rattle.field.specs.RoutingForms.{TTTTAAAAC, TTTTT-FFF, TTTT-AAAA, bTTTTAAAA, NNNNNNNNN}

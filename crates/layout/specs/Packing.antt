@@ -9,8 +9,8 @@ use mathlib.Core.Path.{_≡_}
 use lib.Dec.{leb, eqb}
 use lib.ListN.{length, take, drop}
 use Rattle.text.specs.DataTypes.{every}
-use Rattle.text.specs.declared.DataType.{DataType}
-use Rattle.text.specs.declared.DataType.the-variants.{AB, A, AN, ANS, Binary, N, NB, NBD, NBQ, NBMc, NBMcd, NBMcdo, NBMU}
+use Rattle.text.specs.declared.data_types.DataType.{DataType}
+use Rattle.text.specs.declared.data_types.DataType.the-variants.{AB, A, AN, ANS, Binary, N, NB, NBD, NBQ, NBMc, NBMcd, NBMcdo, NBMU}
 use Rattle.field.specs.declared.Usage.{Usage}
 use Rattle.field.specs.declared.Usage.the-variants.{Mandatory, Conditional}
 use Rattle.field.specs.declared.CodeList.the-variants.{FileTypes, YesNo, YesNoUnknown, RecordTypeIndicators, CashLetterDocumentation, ItemDocumentation, ReturnAcceptance, ArchiveTypes, TestOverrides}

@@ -3,7 +3,7 @@ use Prim.Native.Nat.{ℕ}
 use mathlib.Core.Bool.{Bool, true, false, _&&_, _||_, not, cond}
 use mathlib.Core.List.{List, [], _∷_}
 use lib.Dec.{leb, eqb}
-use Rattle.text.specs.Characters.{within}
+use Rattle.text.specs.Ranges.{within}
 
 -- a type, and those that may come after it
 pub record After : Type 0 where

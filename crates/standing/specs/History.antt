@@ -4,7 +4,7 @@ use mathlib.Core.Bool.{Bool, true, false, _&&_, _||_, cond}
 use mathlib.Core.List.{List, [], _∷_, map}
 use lib.Dec.{eqb}
 use lib.ListN.{length, getD}
-use Rattle.text.specs.Characters.{capital}
+use Rattle.text.specs.Capitals.{capital}
 use Rattle.text.specs.Number.{number}
 use Rattle.frame.specs.Frames.{part}
 use Rattle.layout.specs.Layout.{Line, Layout}

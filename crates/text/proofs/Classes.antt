@@ -7,8 +7,9 @@ use native.Mathlib.Nat.{not-suc-le-zero}
 use native.Mathlib.Omega.{arith}
 use borrow.Author.Tests.{leb-true, eqb-true, eqb-false, ne-eqb}
 use lib.Dec.{leb, eqb}
-use Rattle.text.specs.Characters.{within, isBlank, isNumeric}
-use Rattle.text.specs.declared.DataType.the-variants.{ANS}
+use Rattle.text.specs.Ranges.{within}
+use Rattle.text.specs.Characters.{isBlank, isNumeric}
+use Rattle.text.specs.declared.data_types.DataType.the-variants.{ANS}
 use Rattle.text.specs.DataTypes.{every, admits, blankAfter}
 
 and-left : (a b : Bool) → a && b ≡ true → a ≡ true

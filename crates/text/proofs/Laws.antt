@@ -11,8 +11,8 @@ use lib.Dec.{leb}
 use lib.ListN.{length, getD, take, drop, drop-of-length-le, length-take}
 use lib.Seq.{drop-cons}
 use Rattle.text.specs.Characters.{isBlank, isNumeric}
-use Rattle.text.specs.declared.DataType.{DataType}
-use Rattle.text.specs.declared.DataType.the-variants.{Binary}
+use Rattle.text.specs.declared.data_types.DataType.{DataType}
+use Rattle.text.specs.declared.data_types.DataType.the-variants.{Binary}
 use Rattle.text.specs.DataTypes.{every, some, blankAfter, blankEmbedded, admits, keepsDigitsTogether, ofType}
 use Rattle.text.specs.Number.{digit, valueAfter, number}
 

@@ -3,8 +3,8 @@ use Prim.Native.Nat.{ℕ}
 use mathlib.Core.Bool.{Bool, true, false, _&&_, _||_, not}
 use mathlib.Core.List.{List, [], _∷_}
 use Rattle.text.specs.Characters.{isBlank, isAlphabetic, isNumeric, isQuestionable, isSpecial, isAmountSymbol, isCannotRead, isDash, isOnUsSymbol, isTransitSymbol}
-use Rattle.text.specs.declared.DataType.{DataType}
-use Rattle.text.specs.declared.DataType.the-variants.{AB, A, AN, ANS, Binary, N, NB, NBD, NBQ, NBMc, NBMcd, NBMcdo, NBMU}
+use Rattle.text.specs.declared.data_types.DataType.{DataType}
+use Rattle.text.specs.declared.data_types.DataType.the-variants.{AB, A, AN, ANS, Binary, N, NB, NBD, NBQ, NBMc, NBMcd, NBMcdo, NBMU}
 
 -- the test passes at every character; at some character
 abbrev pub every : (ℕ → Bool) → List ℕ → Bool

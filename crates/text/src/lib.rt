@@ -1,91 +1,28 @@
 // Clause 5: characters, field data types, and the number in a run of digits.
+mod characters;
+mod data_types;
+
+pub use characters::is_alphabetic;
+pub use characters::is_amount_symbol;
+pub use characters::is_blank;
+pub use characters::is_cannot_read;
+pub use characters::is_dash;
+pub use characters::is_numeric;
+pub use characters::is_on_us_symbol;
+pub use characters::is_questionable;
+pub use characters::is_special;
+pub use characters::is_transit_symbol;
+pub use data_types::DataType;
+pub use data_types::admits_character;
+pub use data_types::is_alphanumeric_special;
+pub use data_types::is_mark;
 ghost use mathlib.Core.Path.{_≡_};
 ghost use Prim.Native.Nat.{_<_, _≤_, _^_};
 ghost use lib.ListN.{length, take};
-ghost use Rattle.text.specs.Characters.{isBlank, isAlphabetic, isNumeric, isQuestionable, isSpecial, isAmountSymbol, isCannotRead, isDash, isOnUsSymbol, isTransitSymbol, capital};
-ghost use Rattle.text.specs.DataTypes.{every, some, admits, keepsDigitsTogether, blankEmbedded, ofType, isMark};
+ghost use Rattle.text.specs.Characters.{isBlank, isNumeric};
+ghost use Rattle.text.specs.Capitals.{capital};
+ghost use Rattle.text.specs.DataTypes.{every, some, admits, blankEmbedded, ofType, isMark};
 ghost use Rattle.text.specs.Number.{digit, valueAfter, number};
-ghost use Rattle.text.specs.declared.DataType.the-variants.{ANS};
-ghost use mathlib.Core.Bool.{true};
-
-// The field data types of clause 5.3, by the names that the standard gives them.
-pub enum DataType {
-    AB,
-    A,
-    AN,
-    ANS,
-    Binary,
-    N,
-    NB,
-    NBD,
-    NBQ,
-    NBMc,
-    NBMcd,
-    NBMcdo,
-    NBMU,
-}
-
-pub fn is_blank(x: u8) -> bool
-    ensures { λ r. ⌜ r ≡ isBlank x ⌝ }
-{
-    x == b' '
-}
-
-pub fn is_alphabetic(x: u8) -> bool
-    ensures { λ r. ⌜ r ≡ isAlphabetic x ⌝ }
-{
-    ((b'A' <= x) & (x <= b'Z')) | (((b'a' <= x) & (x <= b'z')) | (x == b' '))
-}
-
-pub fn is_numeric(x: u8) -> bool
-    ensures { λ r. ⌜ r ≡ isNumeric x ⌝ }
-{
-    (b'0' <= x) & (x <= b'9')
-}
-
-pub fn is_questionable(x: u8) -> bool
-    ensures { λ r. ⌜ r ≡ isQuestionable x ⌝ }
-{
-    x == b'?'
-}
-
-pub fn is_special(x: u8) -> bool
-    ensures { λ r. ⌜ r ≡ isSpecial x ⌝ }
-{
-    ((b'!' <= x) & (x <= b'/'))
-        | (((b':' <= x) & (x <= b'@'))
-            | (((b'[' <= x) & (x <= b'`')) | ((b'{' <= x) & (x <= b'~'))))
-}
-
-pub fn is_amount_symbol(x: u8) -> bool
-    ensures { λ r. ⌜ r ≡ isAmountSymbol x ⌝ }
-{
-    x == b'$'
-}
-
-pub fn is_cannot_read(x: u8) -> bool
-    ensures { λ r. ⌜ r ≡ isCannotRead x ⌝ }
-{
-    x == b'*'
-}
-
-pub fn is_dash(x: u8) -> bool
-    ensures { λ r. ⌜ r ≡ isDash x ⌝ }
-{
-    x == b'-'
-}
-
-pub fn is_on_us_symbol(x: u8) -> bool
-    ensures { λ r. ⌜ r ≡ isOnUsSymbol x ⌝ }
-{
-    x == b'/'
-}
-
-pub fn is_transit_symbol(x: u8) -> bool
-    ensures { λ r. ⌜ r ≡ isTransitSymbol x ⌝ }
-{
-    x == b'#'
-}
 
 // A lower case letter has the meaning of its upper case letter (clause 5.1.1).
 pub fn capital_of(x: u8) -> u8
@@ -97,66 +34,6 @@ pub fn capital_of(x: u8) -> u8
         }
     }
     x
-}
-
-// The alphabetic, the numeric and the special characters, which stand together in Table 1.
-fn is_printable(x: u8) -> bool
-    ensures { λ r. ⌜ r ≡ admits ANS x ⌝ }
-{
-    (b' ' <= x) & (x <= b'~')
-}
-
-// Table 2: the characters of each data type.
-pub fn admits_character(t: DataType, x: u8) -> bool
-    ensures { λ r. ⌜ r ≡ admits t x ⌝ }
-{
-    let blank = is_blank(x);
-    let alphabetic = is_alphabetic(x);
-    let numeric = is_numeric(x);
-    let printable = is_printable(x);
-    let cannot_read = is_cannot_read(x);
-    let dash = is_dash(x);
-    let on_us = is_on_us_symbol(x);
-    let amount = is_amount_symbol(x);
-    let transit = is_transit_symbol(x);
-    match t {
-        DataType::AB => blank,
-        DataType::A => alphabetic,
-        DataType::AN => alphabetic | numeric,
-        DataType::ANS => printable,
-        DataType::Binary => true,
-        DataType::N => numeric,
-        DataType::NB => numeric | blank,
-        DataType::NBD => numeric | (blank | dash),
-        DataType::NBQ => numeric | (blank | is_questionable(x)),
-        DataType::NBMc => numeric | (blank | cannot_read),
-        DataType::NBMcd => numeric | (blank | (cannot_read | dash)),
-        DataType::NBMcdo => numeric | (blank | (cannot_read | (dash | on_us))),
-        DataType::NBMU => numeric | (blank | (amount | (cannot_read | (dash | (on_us | transit))))),
-    }
-}
-
-// The can't-read or questionable mark, where the data type admits it (clauses 5.1.4 and 5.2.2).
-pub fn is_mark(t: DataType, x: u8) -> bool
-    ensures { λ r. ⌜ r ≡ isMark t x ⌝ }
-{
-    let questionable = is_questionable(x);
-    let cannot_read = is_cannot_read(x);
-    match t {
-        DataType::AB => false,
-        DataType::A => false,
-        DataType::AN => false,
-        DataType::ANS => false,
-        DataType::Binary => false,
-        DataType::N => false,
-        DataType::NB => false,
-        DataType::NBD => false,
-        DataType::NBQ => questionable,
-        DataType::NBMc => cannot_read,
-        DataType::NBMcd => cannot_read,
-        DataType::NBMcdo => cannot_read,
-        DataType::NBMU => cannot_read,
-    }
 }
 
 // No early end: a branch on each character costs more than the rest of the characters.

@@ -1,6 +1,6 @@
 use mathlib.Core.Path.{refl, _∙_}
 use denote.Ref.{now}
-use Rattle.text.specs.declared.DataType.the-variants.{AB, A, AN, ANS, N, NB, NBD, NBQ, NBMc, NBMcd, NBMcdo, NBMU}
+use Rattle.text.specs.declared.data_types.DataType.the-variants.{AB, A, AN, ANS, N, NB, NBD, NBQ, NBMc, NBMcd, NBMcdo, NBMU}
 use Rattle.text.proofs.Laws.{binary-passes, together, apart}
 use borrow.Author.Needs.{needs}
 use Rattle.text.proofs.of_type.Statement.{statement}

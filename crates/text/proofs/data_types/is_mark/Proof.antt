@@ -1,6 +1,6 @@
 use borrow.Author.Needs.{needs}
-use Rattle.text.proofs.is_mark.Statement.{statement}
-use Rattle.text.proofs.is_mark.Tie as tie
+use Rattle.text.proofs.data_types.is_mark.Statement.{statement}
+use Rattle.text.proofs.data_types.is_mark.Tie as tie
 
 is-questionable-requires : tie.Need-is-questionable-requires
 is-questionable-requires c κs = search needs

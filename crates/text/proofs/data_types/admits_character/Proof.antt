@@ -1,6 +1,6 @@
 use borrow.Author.Needs.{needs}
-use Rattle.text.proofs.admits_character.Statement.{statement}
-use Rattle.text.proofs.admits_character.Tie as tie
+use Rattle.text.proofs.data_types.admits_character.Statement.{statement}
+use Rattle.text.proofs.data_types.admits_character.Tie as tie
 
 is-blank-requires : tie.Need-is-blank-requires
 is-blank-requires c κs = search needs

@@ -1,0 +1,117 @@
+//! Request 3: the character rules can be laid beside clause 5.
+use record_tests::characters::expected_lines;
+use record_tests::characters::page;
+use std::fs;
+use std::path::Path;
+use std::path::PathBuf;
+use std::process::Command;
+
+fn root() -> PathBuf {
+    Path::new(env!("CARGO_MANIFEST_DIR")).parent().expect("tests/ stands in the repository").to_path_buf()
+}
+
+fn text(path: &str) -> String {
+    fs::read_to_string(root().join(path)).unwrap_or_else(|error| panic!("{path}: {error}"))
+}
+
+/// What the proved code answers, from the program that the gate has built.
+fn answers() -> String {
+    let program = root().join("target/bin/characters");
+    let output = Command::new(&program).output().unwrap_or_else(|error| panic!("{}: {error}", program.display()));
+    String::from_utf8(output.stdout).expect("lines of text")
+}
+
+/// The program's expected output, which the gate holds against it, comes from Tables 1 and 2 and not from the program.
+#[test]
+fn the_lines_expected_of_the_program_are_those_of_tables_1_and_2() {
+    assert!(text("crates/characters/stdout") == expected_lines(), "crates/characters/stdout is not Tables 1 and 2");
+    assert!(answers() == expected_lines(), "the proved code does not answer as Tables 1 and 2");
+}
+
+#[test]
+fn the_page_for_staff_is_that_of_the_proved_answers() {
+    assert_eq!(text("docs/CHARACTERS.md"), page(&answers()), "docs/CHARACTERS.md is stale: it says how it is made");
+}
+
+/// The sources of the proved code.
+fn sources() -> Vec<(PathBuf, String)> {
+    let mut sources = Vec::new();
+    for entry in fs::read_dir(root().join("crates")).expect("the crates") {
+        let folder = entry.expect("a crate").path().join("src");
+        for file in fs::read_dir(&folder).expect("a crate has a folder src") {
+            let path = file.expect("a file").path();
+            let code = fs::read_to_string(&path).expect("a source of text");
+            let bare: Vec<&str> = code.lines().map(|line| line.split("//").next().unwrap_or("")).collect();
+            sources.push((path, bare.join("\n")));
+        }
+    }
+    sources
+}
+
+/// The pieces between brackets, an inner pair with its outer one.
+fn bracketed(code: &str) -> Vec<&str> {
+    let mut open = Vec::new();
+    let mut pieces = Vec::new();
+    for (at, character) in code.char_indices() {
+        match character {
+            '[' => open.push(at + 1),
+            ']' => pieces.extend(open.pop().map(|start| &code[start..at])),
+            _ => {}
+        }
+    }
+    pieces
+}
+
+/// How many entries an array has, by its length or by those written out.
+fn entries(piece: &str) -> usize {
+    match piece.rsplit_once(';') {
+        Some((_, length)) => length.trim().replace('_', "").parse().unwrap_or(0),
+        None => piece.trim().trim_end_matches(',').split(',').count(),
+    }
+}
+
+fn holds_a_lookup(code: &str) -> bool {
+    bracketed(code).iter().any(|piece| [128, 256].contains(&entries(piece)))
+}
+
+/// No character is classed by a lookup: no array has an entry for each byte or each ASCII character, and the crate `text` has no array at all.
+#[test]
+fn no_lookup_of_256_entries_stands_in_the_proved_code() {
+    let sources = sources();
+    assert!(sources.len() > 20, "the sources of the crates are looked through");
+    for (path, code) in &sources {
+        assert!(!holds_a_lookup(code), "{} has an array with an entry for each byte", path.display());
+    }
+    for (path, code) in sources.iter().filter(|(path, _)| path.starts_with(root().join("crates/text"))) {
+        assert!(!code.contains("const ") && !code.contains("static "), "{} has a constant", path.display());
+    }
+}
+
+#[test]
+fn the_search_for_lookups_finds_them() {
+    assert!(holds_a_lookup("const CLASSES: [u8; 256] = table();"));
+    assert!(holds_a_lookup(&format!("let classes = [{}];", "0, ".repeat(256))));
+    assert!(holds_a_lookup("f(&[0; 1_28])"));
+    assert!(!holds_a_lookup("const LAYOUTS: [u64; 309] = [1, 2];"));
+    assert!(!holds_a_lookup("x[256]"));
+}
+
+/// A file that holds the functions of one clause holds nothing else, in the order of the clause.
+#[test]
+fn the_basic_types_stand_alone_in_the_order_of_the_clause() {
+    let clauses = ["5.1.1", "5.1.2", "5.1.3", "5.1.4", "5.1.5", "5.2.1", "5.2.2", "5.2.3", "5.2.4", "5.2.5"];
+    for (path, comment, opening) in [
+        ("crates/text/src/characters.rt", "// ", "pub fn "),
+        ("crates/text/specs/Characters.antt", "-- ", "abbrev pub "),
+    ] {
+        let text = text(path);
+        let said: Vec<&str> = text
+            .lines()
+            .filter_map(|line| line.strip_prefix(comment))
+            .filter_map(|line| line.split(' ').next())
+            .filter(|word| word.starts_with("5."))
+            .collect();
+        assert_eq!(said, clauses, "{path}: the clauses in their order");
+        assert_eq!(text.matches(opening).count(), clauses.len(), "{path}: a function for each clause and no other");
+    }
+}
