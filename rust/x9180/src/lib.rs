@@ -14,6 +14,9 @@
 //! # }
 //! ```
 //!
+//! A cash letter holds bundles, and credits between them ([`Letter::contents`]); the items of a bundle are checks or returns, and credits among
+//! them ([`Bundle::items`]). Every item is a debit or a credit ([`Item::is_debit`]), and every level has the sums of both ([`Totals`]).
+//!
 //! No call panics, whatever the bytes. The words of a refusal are not proved: they tell what stands in the file at the place that the
 //! proved library names.
 #![warn(missing_docs)]
