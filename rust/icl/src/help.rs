@@ -75,11 +75,11 @@ icl pictures [--force] FILE DIR
 
 Writes the picture of every view of an accepted file into the folder DIR, made where it is missing, under
 the ordinals of its cash letter, bundle, item and view: letter-001_bundle-001_item-0001_view-01.tif. A
-credit in a bundle is one of its items; the pictures of the first that stands directly in a cash letter are
-letter-001_credit-0001_view-01.tif and so on. The ending is the one that the standard gives for the view's
-format (field 5 of its type 50 record), or img.
-A view without image bytes gives an empty file. All pictures are written under temporary names first and
-then renamed, so that on any fault none is left behind.
+credit (type 61) in a bundle is one of its items. Those directly in a cash letter are counted by themselves,
+with views or without, and their pictures are letter-001_credit-0001_view-01.tif and so on. The ending is the
+one that the standard gives for the view's format (field 5 of its type 50 record), or img. A view without
+image bytes gives an empty file. All pictures are written under temporary names first and then renamed, so
+that on any fault none is left behind.
   --force     overwrite pictures that are there already; otherwise none is written if one is there
 Exit status: 0 written, 1 refused (told on standard error), 2 something could not be read or written.
 ";
