@@ -175,6 +175,43 @@ pub fn count<'a>(bodies: impl IntoIterator<Item = &'a [u8]>, way: Way) -> Count 
     counter.count
 }
 
+/// The rows of a sound file: ordinals and amounts by its types and positions alone (document 01, and point 12 of the readings).
+pub fn rows(bodies: &[&[u8]]) -> Vec<[u64; 7]> {
+    let (mut offset, mut letter, mut bundle, mut item, mut in_bundle) = (0, 0, 0, 0, false);
+    let mut rows = Vec::new();
+    for (at, body) in bodies.iter().enumerate() {
+        let code = code_of(body);
+        match code {
+            10 => (letter, bundle) = (letter + 1, 0),
+            20 => (bundle, item, in_bundle) = (bundle + 1, 0, true),
+            25 | 31 | 61 => item += 1,
+            _ => {}
+        }
+        let in_letter = if matches!(code, 1 | 99) { 0 } else { letter };
+        let of_bundle = if in_bundle { bundle } else { 0 };
+        let of_item = if in_bundle && !matches!(code, 20 | 70) { item } else { 0 };
+        let length = body.len() as u64;
+        rows.push([u64::from(code), offset, length, in_letter, of_bundle, of_item, amount(bodies, at)]);
+        in_bundle &= code != 70;
+        offset += 4 + length;
+    }
+    rows
+}
+
+/// What the row of the record at this place has for an amount.
+fn amount(bodies: &[&[u8]], at: usize) -> u64 {
+    let debit_cents = |field: u8| stated(bodies, at, field, Way::Right).expect("a sum");
+    let cents = match code_of(bodies[at]) {
+        25 | 31 => number_at(bodies[at], 48, 57),
+        61 => number_at(bodies[at], 49, 62),
+        70 => debit_cents(3),
+        90 => debit_cents(4),
+        99 => debit_cents(5),
+        _ => 0,
+    };
+    cents as u64
+}
+
 /// Where the level of the control record at this place begins.
 fn level_start(bodies: &[&[u8]], at: usize) -> usize {
     let header = match code_of(bodies[at]) {

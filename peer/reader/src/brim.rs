@@ -1,6 +1,6 @@
-//! Files whose 61s fill a control field to the brim, or pass it, or pass 64 bits. Control fields have 12, 14 and 16 digits, a 61's amount 14;
-//! a sum past them cannot be stated, so that the answer is TOTAL whatever stands there (points 11 and 14 of the readings). What is stated is
-//! what a reader would take for right that cuts its sums, stops them at all nines, or lets them wrap.
+//! Files whose 61s fill a control field to the brim, or pass it, or pass 64 bits. Control fields have 12, 14 and 16 digits, a 61's amount
+//! has 14; a sum past them cannot be stated, so that the answer is TOTAL whatever stands there (points 11 and 14 of the readings). What is
+//! stated is what a reader would take for right that cuts its sums, stops them at all nines, or lets them wrap.
 
 use crate::make::{record, Rec};
 use crate::random::Random;
@@ -272,16 +272,16 @@ pub fn file_past_64_bits(random: &mut Random, debit: bool) -> Vec<u8> {
     maker.file_control(random, count + 1, debit, count + 1, above)
 }
 
-/// 184,468 credits in one bundle. Their count passes four digits, so that field 6 is at fault before field 7: the 70 states the last
-/// four digits of the one and what 64 bits leave of the other.
-pub fn bundle_past_64_bits(random: &mut Random) -> Vec<u8> {
+/// 184,468 debits or credits in one bundle. Their count passes four digits, so that field 2 is at fault before field 3, or 6 before 7:
+/// the 70 states the last four digits of the one and what 64 bits leave of the other.
+pub fn bundle_past_64_bits(random: &mut Random, debit: bool) -> Vec<u8> {
     let (count, left) = up_to_64_bits(1);
     let above = remainder(random, left, 12);
     let mut maker = Maker::begin(random);
     maker.letter_header(random, b'E');
     maker.control(random, 20, &[]);
-    maker.many_credits(random, false, count, MOST, left + above);
-    close_bundle(random, maker, false, count + 1, count as u128 + 1, above, above)
+    maker.many_credits(random, debit, count, MOST, left + above);
+    close_bundle(random, maker, debit, count + 1, count as u128 + 1, above, above)
 }
 
 #[cfg(test)]
@@ -321,7 +321,8 @@ mod tests {
         assert_eq!(answer(&letter_past_64_bits(random, true, Stated::Nines)), [9, 184_471, 4]);
         assert_eq!(answer(&file_past_64_bits(random, false)), [9, 553_406, 8]);
         assert_eq!(answer(&file_past_64_bits(random, true)), [9, 553_406, 5]);
-        assert_eq!(answer(&bundle_past_64_bits(random)), [9, 184_472, 6]);
+        assert_eq!(answer(&bundle_past_64_bits(random, false)), [9, 184_472, 6]);
+        assert_eq!(answer(&bundle_past_64_bits(random, true)), [9, 184_472, 2]);
         assert_eq!(answer(&bundle_of_many(random, 9_999))[0], 0);
         assert_eq!(answer(&bundle_of_many(random, 10_000))[0], 9);
     }

@@ -1001,23 +1001,9 @@ pub fn one_record(random: &mut Random, records: &mut Vec<Rec>, at: usize) {
             let field = random.pick(&fields);
             harm_total(random, &mut records[at], field);
         }
-        4 | 5 if whole && matches!(code, 25 | 31) => {
-            let count = random.below(5) as u64;
-            set_count(&mut records[at], count);
+        4 | 5 if whole && matches!(code, 10 | 25 | 26 | 28 | 31 | 32 | 35 | 50 | 61) => {
+            loosen(random, &mut records[at]);
         }
-        4 | 5 if whole && matches!(code, 26 | 28 | 32 | 35) => {
-            let number = random.below(5) as u64;
-            records[at].set_number(2, number);
-        }
-        4 | 5 if whole && code == 61 => {
-            let usage = random.pick(b"123456789 9");
-            records[at].set(2, &[usage]);
-        }
-        4 | 5 if whole && code == 10 => {
-            let letter = random.pick(b"NEIFneif");
-            records[at].set(8, &[letter]);
-        }
-        4 | 5 if whole && code == 50 => records[at].set(10, b"1"),
         6 => {
             let sort = random.below(LENGTH_SORTS);
             if whole {
@@ -1030,6 +1016,17 @@ pub fn one_record(random: &mut Random, records: &mut Vec<Rec>, at: usize) {
             records[at].body.splice(0..named, strange);
         }
         _ => shuffle(random, records),
+    }
+}
+
+/// Another sound value where others hang on it: counts, record numbers, the content of a cash letter, a signature, a 61's usage.
+fn loosen(random: &mut Random, record: &mut Rec) {
+    match record.code {
+        25 | 31 => set_count(record, random.below(5) as u64),
+        26 | 28 | 32 | 35 => record.set_number(2, random.below(5) as u64),
+        10 => record.set(8, &[random.pick(b"NEIFneif")]),
+        61 => record.set(2, &[random.pick(b"123456789 9")]),
+        _ => record.set(10, b"1"),
     }
 }
 

@@ -503,7 +503,7 @@ mod tests {
     use crate::books::{self, Way};
     use crate::descent::{read, Number};
 
-    /// Accepted, with the totals that came together while the file was made and with those of the books.
+    /// Accepted, with the totals that came together while the file was made, and with the totals and rows of the books.
     #[test]
     fn sound_files_are_accepted_with_the_totals_they_were_made_with() {
         let mut with_credits = 0;
@@ -512,9 +512,10 @@ mod tests {
             let (records, totals) = sound_with_totals(&mut random, &Wish::any());
             let reading = read(&encode(&records));
             assert_eq!(reading.answer.number, Number::Accepted, "file {index}: {reading:?}");
-            assert_eq!(reading.rows.len(), records.len());
             assert_eq!(reading.answer.listed()[4..], totals, "file {index}");
-            let counted = books::count(records.iter().map(|record| record.body.as_slice()), Way::Right);
+            let bodies: Vec<&[u8]> = records.iter().map(|record| record.body.as_slice()).collect();
+            assert_eq!(reading.rows, books::rows(&bodies), "file {index}");
+            let counted = books::count(bodies, Way::Right);
             assert_eq!([counted.items, counted.views], [totals[3], totals[4]].map(u128::from));
             assert_eq!([counted.debit_cents, counted.credit_cents], [totals[5], totals[7]].map(u128::from));
             assert_eq!([counted.bundles, counted.credit_items], [totals[2], totals[6]].map(u128::from));

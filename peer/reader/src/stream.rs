@@ -318,7 +318,10 @@ pub fn rare(random: &mut Random, turn: usize) -> Made {
         10 => large("rare: a letter's debits past 64 bits", brim::letter_past_64_bits(random, true, Stated::Wrapped)),
         11 => large("rare: a file's credits past 64 bits", brim::file_past_64_bits(random, false)),
         12 => large("rare: a file's debits past 64 bits", brim::file_past_64_bits(random, true)),
-        _ => large("rare: a bundle's credits past 64 bits", brim::bundle_past_64_bits(random)),
+        _ => {
+            let debit = random.percent(50);
+            large("rare: a bundle's 61s past 64 bits", brim::bundle_past_64_bits(random, debit))
+        }
     }
 }
 

@@ -294,7 +294,7 @@ const FINANCIAL_ALONE: [Place; 5] =
 /// Clauses 10.4 and 14.4 list TTTTAAAAC, TTTTT-FFF, TTTT-AAAA and bTTTTAAAA; both are mandatory and of type NBMcd.
 const OF_THE_PAYOR: [Place; 2] = [(4, 4, 19, 252), (11, 4, 19, 934)];
 
-/// All fifteen routing fields: 01, 10, 20, 25, 26, 28, 50, 52, 70, 20, 31, 32, 33, 35, 50, 52, 70, 90, 99. A 26 and a 32 take 119 bytes,
+/// Every routing field but 61.5, which is tried in `hand_credits.rs`: 01, 10, 20, 25, 26, 28, 50, 52, 70, 20, 31, 32, 33, 35, 50, 52, 70, 90, 99. A 26 and a 32 take 119 bytes,
 /// a bare 52 takes 143, the 90 takes 89, all others take 84: 238 + 286 + 89 + 14 x 84 = 1789.
 fn with_all_routing_fields() -> Vec<Vec<u8>> {
     vec![
