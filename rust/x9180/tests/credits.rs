@@ -278,11 +278,13 @@ fn links_of_records() {
         ],
     );
     let view = "field 8, Cash Letter Record Type Indicator, of record 2 is \"E\": no view may come";
+    // The check before the 61 has all its addenda, and owes nothing any more: 336 + 119 + 88 = 543.
+    let check_and_addendum = [bundle_header(), check(1, ' ', 1), check_addendum_a(1)];
+    let behind_a_check = with_fault('E', &[&check_and_addendum[..], &[credit('3', 1), view_detail('0')]].concat());
     for (file, record, offset) in [
         (sample("damaged-21-view-under-e.x9"), 4, 256),
         (with_fault('E', &[bundle_header(), credit('3', 1), view_detail('0')]), 5, 340),
-        // Nor does the check before the 61, which owes nothing any more, change what is said.
-        (with_fault('E', &[bundle_header(), check(1, ' ', 0), credit('3', 1), view_detail('0')]), 6, 424),
+        (behind_a_check, 7, 543),
     ] {
         let head = format!("record {record}, Image View Detail Record (type 50), at offset {offset}");
         link(&file, [&head, &format!("field 1, Record Type, at offset {}", offset + 4), "found \"50\"", view]);
