@@ -48,7 +48,7 @@ inside =
     []
 
 abbrev pub table : Bool → List After
-table open = cond open inside outside
+table opened = cond opened inside outside
 
 abbrev pub isOneOf : ℕ → List ℕ → Bool
 isOneOf t [] = false
@@ -60,7 +60,7 @@ inTable [] last next = false
 inTable (line ∷ lines) last next = eqb last (line .last) && isOneOf next (line .next) || inTable lines last next
 
 unfoldable pub follows : Bool → ℕ → ℕ → Bool
-follows open last next = inTable (table open) last next
+follows opened last next = inTable (table opened) last next
 
 -- an item is a 25, a check; a 31, a return; or a 61, a credit (request 2)
 abbrev pub isCheckOrReturn : ℕ → Bool
@@ -98,7 +98,7 @@ oneItemType inBundle next = not (isCheckOrReturn next) || (eqb inBundle 0 || eqb
 
 -- a type may come next, with a bundle open or not, after a last type, and with checks or returns of a type in the open bundle
 unfoldable pub mayFollow : Bool → ℕ → ℕ → ℕ → Bool
-mayFollow open last inBundle next = follows open last next && oneItemType inBundle next
+mayFollow opened last inBundle next = follows opened last next && oneItemType inBundle next
 
 -- "Carried record types", and 61 (request 2)
 abbrev pub carried : List ℕ
