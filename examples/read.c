@@ -1,7 +1,7 @@
-/* Reads an X9.100-180 file named on the command line and prints the answer, then the place of each picture.
+/* Reads an X9.100-180 file named on the command line and prints the answer, the credits where there are any, then the place of each picture.
  *
  *     cc -std=c99 -Iinclude examples/read.c target/staticlib/libabi.a -o target/read
- *     target/read samples/two-letters-with-pictures.x9
+ *     target/read samples/credits-with-pictures.x9
  *
  * Exit code: 0 accepted, 1 refused, 2 the file could not be read. */
 
@@ -11,6 +11,7 @@
 #include <stdlib.h>
 
 enum { LIMIT = 268435456, ROW = 7, ACCEPTED = 0, ROOM = 2 };
+enum { CASH_LETTER_HEADER = 10, IMAGE_VIEW_DATA = 52, CREDIT = 61 };
 
 /* The bytes of a file, one more than the limit at most; a null pointer where it cannot be read. */
 static uint8_t *bytes_of(const char *name, size_t *length) {
@@ -52,12 +53,37 @@ static uint8_t *bytes_of(const char *name, size_t *length) {
     return bytes;
 }
 
+/* The place of each picture among the rows of an accepted file. */
+static void print_pictures(const uint8_t *file, size_t length, const uint64_t *table, uint64_t rows) {
+    uint64_t credit = 0; /* which of the credits that stand directly in the cash letter */
+    uint64_t row;
+
+    for (row = 0; row < rows; row++) {
+        const uint64_t *r = table + ROW * row;
+        uint64_t type = r[0], offset = r[1], letter = r[3], bundle = r[4], item = r[5];
+        uint64_t place[4];
+        if (type == CASH_LETTER_HEADER) {
+            credit = 0;
+        } else if (type == CREDIT && bundle == 0) {
+            credit++;
+        } else if (type == IMAGE_VIEW_DATA && x9_picture(file, length, offset, place) == ACCEPTED) {
+            /* The picture is the place[3] bytes from file + place[2] on. Bundle 0: it is a picture of that credit. */
+            printf("letter %llu ", (unsigned long long)letter);
+            if (bundle == 0) {
+                printf("credit %llu", (unsigned long long)credit);
+            } else {
+                printf("bundle %llu item %llu", (unsigned long long)bundle, (unsigned long long)item);
+            }
+            printf(": picture of %llu bytes at %llu\n", (unsigned long long)place[3], (unsigned long long)place[2]);
+        }
+    }
+}
+
 int main(int count, char **words) {
-    uint64_t answer[10];
+    uint64_t answer[12];
     uint64_t none;
     uint64_t *table = NULL;
     uint64_t number;
-    uint64_t row;
     size_t length;
     uint8_t *file;
 
@@ -88,16 +114,10 @@ int main(int count, char **words) {
         printf("accepted records %llu letters %llu bundles %llu items %llu views %llu debit %llu\n",
                (unsigned long long)answer[4], (unsigned long long)answer[5], (unsigned long long)answer[6],
                (unsigned long long)answer[7], (unsigned long long)answer[8], (unsigned long long)answer[9]);
-        for (row = 0; row < answer[4]; row++) {
-            const uint64_t *r = table + ROW * row;
-            uint64_t place[4];
-            if (r[0] == 52 && x9_picture(file, length, r[1], place) == ACCEPTED) {
-                /* The picture is the place[3] bytes from file + place[2] on. */
-                printf("letter %llu bundle %llu item %llu: picture of %llu bytes at %llu\n", (unsigned long long)r[3],
-                       (unsigned long long)r[4], (unsigned long long)r[5], (unsigned long long)place[3],
-                       (unsigned long long)place[2]);
-            }
+        if (answer[10] != 0) {
+            printf("credits %llu of %llu cents\n", (unsigned long long)answer[10], (unsigned long long)answer[11]);
         }
+        print_pictures(file, length, table, answer[4]);
     }
     free(table);
     free(file);

@@ -1,21 +1,53 @@
 /* Planted faults, to see that the target finds them: the library's calls are renamed proved_*, and these stand before them. PLANT says
  * which fault. Compiled without AddressSanitizer, like the library. */
+#include <stdlib.h>
 #include <string.h>
 
 #include "x9180.h"
 
-uint64_t proved_x9_read(const uint8_t *file, size_t file_len, uint64_t *table, size_t table_len, uint64_t answer[10]);
+uint64_t proved_x9_read(const uint8_t *file, size_t file_len, uint64_t *table, size_t table_len, uint64_t answer[12]);
 uint64_t proved_x9_picture(const uint8_t *file, size_t file_len, uint64_t offset, uint64_t place[4]);
 uint64_t proved_x9_record(const uint8_t *body, size_t body_len, uint64_t answer[2]);
 
 static volatile uint8_t sink;
 static unsigned calls;
 
-uint64_t x9_read(const uint8_t *file, size_t file_len, uint64_t *table, size_t table_len, uint64_t answer[10]) {
+/* A wrong refusal in the place of an acceptance: the table as it was, no totals. The row of the record at fault is taken first. */
+static uint64_t refuse(uint64_t *table, size_t table_len, const uint64_t *before, uint64_t answer[12], uint64_t number, size_t row, uint64_t field) {
+    uint64_t offset = table[row + 1];
+    memcpy(table, before, table_len * 8);
+    memset(answer, 0, 12 * 8);
+    answer[0] = number, answer[1] = row / 7 + 1, answer[2] = field, answer[3] = offset;
+    return number;
+}
+
+/* The first record that a planted rule refuses, in numbers of the table; `used` if none. */
+static size_t refused_row(const uint8_t *file, const uint64_t *table, size_t used) {
+    const uint8_t *bundle = NULL;
+    int credit = 0;
+    for (size_t i = 0; i < used; i += 7) {
+        const uint8_t *body = file + table[i + 1] + 4;
+        int outside = table[i + 4] == 0;
+        if (table[i] == 10) bundle = NULL, credit = 0;
+        if (table[i] == 20) bundle = body;
+#if PLANT == 24
+        if (table[i] == 61 && outside && body[2] != '9' && table[i + 6]) credit = 1;
+        if (table[i] == 90 && credit) return i;
+#else
+        if (table[i] == 52 && outside && bundle && memcmp(body + 2, bundle + 13, 9)) return i;
+#endif
+    }
+    (void)credit, (void)bundle;
+    return used;
+}
+
+uint64_t x9_read(const uint8_t *file, size_t file_len, uint64_t *table, size_t table_len, uint64_t answer[12]) {
+    uint64_t *before = malloc(table_len * 8 + 8);
+    memcpy(before, table, table_len * 8);
     uint64_t number = proved_x9_read(file, file_len, table, table_len, answer);
-    size_t used = number ? 0 : 7 * answer[4];
+    size_t used = number ? 0 : 7 * answer[4], row = refused_row(file, table, used);
     calls++;
-    (void)used;
+    (void)row, (void)refuse;
 #if PLANT == 1 /* reads a byte past the file */
     sink = file[file_len];
 #elif PLANT == 2 /* reads a byte before the file */
@@ -45,8 +77,21 @@ uint64_t x9_read(const uint8_t *file, size_t file_len, uint64_t *table, size_t t
 #elif PLANT == 14 /* a number of the answer is not written */
     if (number == 10) answer[2] = ~UINT64_C(0);
 #elif PLANT == 19 /* writes past the answer */
-    if (number == 4) answer[10] = 0;
+    if (number == 4) answer[12] = 0;
+#elif PLANT == 23 /* credits are counted as debits */
+    if (!number) answer[9] += answer[11], answer[10] = answer[11] = 0;
+#elif PLANT == 24 /* a credit outside a bundle is left out of the cash letter's sum */
+    if (row < used) number = refuse(table, table_len, before, answer, 9, row, 9);
+#elif PLANT == 25 /* a view of a 61 outside a bundle is compared with the bundle header */
+    if (row < used) number = refuse(table, table_len, before, answer, 8, row, 2);
+#elif PLANT == 26 /* credits are no items */
+    if (!number) answer[7] -= answer[10];
+#elif PLANT == 27 /* what is missing at a 61 is faulted at the record after it */
+    if (number == 8 && answer[2] == 1 && file[answer[3] + 4] == '6') answer[1]++, answer[3] += 88;
+#elif PLANT == 28 /* a 61 outside a bundle has an item ordinal */
+    for (size_t i = 0; i < used; i += 7) if (table[i] == 61 && !table[i + 4]) table[i + 5] = 1;
 #endif
+    free(before);
     return number;
 }
 
@@ -72,6 +117,8 @@ uint64_t x9_record(const uint8_t *body, size_t body_len, uint64_t answer[2]) {
     if (number == 7 && answer[1] == 4 && !memcmp(body, "10", 2) && body[17] == '-') number = answer[0] = answer[1] = 0;
 #elif PLANT == 22 /* a routing number with a blank before it is refused in a 52 */
     if (!number && !memcmp(body, "52", 2) && body[2] == ' ') { number = answer[0] = 7; answer[1] = 2; }
+#elif PLANT == 29 /* sources of work 12 to 20, which are not listed, pass in a 61 */
+    if (number == 7 && answer[1] == 11 && !memcmp(body, "61", 2) && body[79] == '1') number = answer[0] = answer[1] = 0;
 #endif
     return number;
 }

@@ -20,12 +20,14 @@
 
 #include "x9180.h"
 
+#define ANSWER 12 /* numbers of an answer of x9_read */
+
 /* The independent reader (peer_c). */
 typedef struct reading reading;
 reading *peer_open(const uint8_t *file, size_t len);
 void peer_close(reading *r);
 size_t peer_rows(const reading *r);
-uint64_t peer_fill(const reading *r, uint64_t *table, size_t len, uint64_t answer[10]);
+uint64_t peer_fill(const reading *r, uint64_t *table, size_t len, uint64_t answer[ANSWER]);
 uint64_t peer_picture(const uint8_t *file, size_t len, uint64_t offset, uint64_t place[4]);
 uint64_t peer_record(const uint8_t *body, size_t len, uint64_t answer[2]);
 void peer_setup(void);
@@ -68,7 +70,7 @@ static void show(const char *who, const uint64_t *numbers, int count) {
  * type of the record at fault and field. */
 
 #define BLOCKS_MOST 8192
-#define TYPES 19
+#define TYPES 20
 #define FIELDS 64
 #define ANSWERS (NUMBERS * TYPES * FIELDS)
 
@@ -90,8 +92,8 @@ static uint64_t inputs, reads, pictures, records, long_reads;
 static uint64_t by_number[NUMBERS];
 
 static int type_index(const uint8_t *two, size_t left) {
-    static const char types[] = "011020252627283132333435505254709099";
-    for (int i = 0; left >= 2 && i < 18; i++)
+    static const char types[] = "01102025262728313233343550525461709099";
+    for (int i = 0; left >= 2 && i < TYPES - 1; i++)
         if (two[0] == types[2 * i] && two[1] == types[2 * i + 1]) return i + 1;
     return 0;
 }
@@ -253,8 +255,8 @@ static void walk_file(walk *w, const uint8_t *file, size_t len) {
 
 static int has_field(uint64_t number) { return number == FIELD || number == LINK || number == TOTAL; }
 
-static void check_refused(const uint8_t *file, size_t len, const walk *w, size_t rows, const uint64_t a[10]) {
-    for (int i = 4; i < 10; i++) MUST(a[i] == 0, "refused with %" PRIu64 ", yet total %d is %" PRIu64, a[0], i, a[i]);
+static void check_refused(const uint8_t *file, size_t len, const walk *w, size_t rows, const uint64_t a[ANSWER]) {
+    for (int i = 4; i < ANSWER; i++) MUST(a[i] == 0, "refused with %" PRIu64 ", yet total %d is %" PRIu64, a[0], i, a[i]);
     MUST((a[0] == SIZE) == (len == 0 || len > LARGEST), "SIZE or not: answer %" PRIu64, a[0]);
     if (a[0] == SIZE) {
         MUST(!a[1] && !a[2] && !a[3], "SIZE with record, field or offset");
@@ -282,9 +284,18 @@ static void check_refused(const uint8_t *file, size_t len, const walk *w, size_t
     if (a[0] == PLACE || has_field(a[0])) MUST(told(at) >= 2 && type_index(at + 4, left - 4), "number %" PRIu64 " at no carried type", a[0]);
 }
 
-static void check_accepted(const uint8_t *file, size_t len, const walk *w, size_t rows, const uint64_t a[10], const uint64_t *table) {
+/* The number at positions of the record whose length field stands here. */
+static uint64_t digits(const uint8_t *at, int first, int last) {
+    uint64_t number = 0;
+    for (int d = first; d <= last; d++) number = number * 10 + (uint64_t)(at[3 + d] - '0');
+    return number;
+}
+
+static void check_accepted(const uint8_t *file, size_t len, const walk *w, size_t rows, const uint64_t a[ANSWER], const uint64_t *table) {
     uint64_t letters = 0, bundles = 0, items = 0, views = 0, cents = 0, letter_cents = 0, bundle_cents = 0;
+    uint64_t credits = 0, credit_cents = 0;
     uint64_t bundle = 0, item = 0;
+    int open = 0; /* within a bundle */
     MUST(len >= 1 && len <= LARGEST, "accepted at this size");
     MUST(a[1] == a[4] && a[2] == 0 && a[3] == len, "accepted: record %" PRIu64 " of %" PRIu64 ", field %" PRIu64 ", offset %" PRIu64, a[1], a[4], a[2], a[3]);
     MUST(a[4] == w->count && w->at[w->count] == len, "accepted: %" PRIu64 " records, %zu by the lengths", a[4], w->count);
@@ -294,27 +305,32 @@ static void check_accepted(const uint8_t *file, size_t len, const walk *w, size_
         const uint8_t *at = file + w->at[i];
         uint64_t type = (uint64_t)(at[4] - '0') * 10 + (uint64_t)(at[5] - '0');
         uint64_t in_letter, in_bundle, in_item, amount = 0;
-        MUST(told(at) >= 57 && type_index(at + 4, 2), "accepted with record %zu short or of no carried type", i + 1);
+        MUST(told(at) >= 73 && type_index(at + 4, 2), "accepted with record %zu short or of no carried type", i + 1);
         if (type == 10) letters++, bundle = 0, letter_cents = 0;
-        if (type == 20) bundles++, bundle++, item = 0, bundle_cents = 0;
+        if (type == 20) bundles++, bundle++, item = 0, bundle_cents = 0, open = 1;
         if (type == 50) views++;
-        if (type == 25 || type == 31) {
+        if (type == 25 || type == 31 || type == 61) {
+            int credit = type == 61 && at[6] != '9'; /* field 2 (clause 26) */
             items++, item++;
-            for (int d = 48; d <= 57; d++) amount = amount * 10 + (uint64_t)(at[3 + d] - '0'); /* field 6 (clauses 10 and 14) */
-            cents += amount, letter_cents += amount, bundle_cents += amount;
+            if (type == 61) amount = digits(at, 49, 62); /* field 7 */
+            else amount = digits(at, 48, 57); /* field 6 (clauses 10 and 14) */
+            if (credit) credits++, credit_cents += amount;
+            else cents += amount, letter_cents += amount, bundle_cents += amount;
         }
         if (type == 70) amount = bundle_cents;
         if (type == 90) amount = letter_cents;
         if (type == 99) amount = cents;
         in_letter = type == 1 || type == 99 ? 0 : letters;
-        in_bundle = type == 1 || type == 99 || type == 10 || type == 90 ? 0 : bundle;
+        in_bundle = open ? bundle : 0;
         in_item = in_bundle && type != 20 && type != 70 ? item : 0;
+        if (type == 70) open = 0;
         uint64_t due[7] = {type, w->at[i], told(at), in_letter, in_bundle, in_item, amount};
         for (int c = 0; c < 7; c++)
             MUST(row[c] == due[c], "row %zu number %d is %" PRIu64 ", not %" PRIu64, i + 1, c + 1, row[c], due[c]);
         MUST((i == 0) == (type == 1) && (i + 1 == w->count) == (type == 99), "accepted with type %" PRIu64 " as record %zu", type, i + 1);
     }
-    MUST(a[5] == letters && a[6] == bundles && a[7] == items && a[8] == views && a[9] == cents, "totals are not what the rows add up to");
+    MUST(a[5] == letters && a[6] == bundles && a[7] == items && a[8] == views && a[9] == cents && a[10] == credits && a[11] == credit_cents,
+         "totals are not what the rows add up to");
 }
 
 /* ---- The calls ---- */
@@ -333,10 +349,10 @@ static void drop(int place, void *lent) {
 
 /* One reading with everything lent at one place; the answer is copied out, and the table compared. */
 static void read_at(int place, const uint8_t *file, size_t len, const walk *w, size_t table_len, uint64_t pattern, const reading *peer,
-                    uint64_t out[10]) {
+                    uint64_t out[ANSWER]) {
     static uint64_t due_table[TABLE_MOST];
-    uint64_t due[10];
-    uint64_t *answer = lend_answer(place, 10, ~pattern);
+    uint64_t due[ANSWER];
+    uint64_t *answer = lend_answer(place, ANSWER, ~pattern);
     uint64_t *table = place == HEAP ? malloc(table_len * 8) : (uint64_t *)stand(table_region, place, table_len * 8);
     size_t rows = table_len / 7, used;
     for (size_t i = 0; i < table_len; i++) table[i] = due_table[i] = pattern;
@@ -351,8 +367,8 @@ static void read_at(int place, const uint8_t *file, size_t len, const walk *w, s
 
     peer_fill(peer, due_table, table_len, due);
     if (memcmp(answer, due, sizeof due) || memcmp(table, due_table, table_len * 8)) {
-        show("proved     ", answer, 10);
-        show("independent", due, 10);
+        show("proved     ", answer, ANSWER);
+        show("independent", due, ANSWER);
         fail("DIFFERENCE", "x9_read with a table of %zu", table_len);
     }
     memcpy(out, answer, sizeof due);
@@ -362,8 +378,8 @@ static void read_at(int place, const uint8_t *file, size_t len, const walk *w, s
 
 /* The same table length twice, at two places and with two patterns. */
 static void read_twice(const uint8_t *const files[PLACES], size_t len, const walk *w, size_t table_len, uint64_t pattern,
-                       const reading *peer, uint64_t out[10]) {
-    uint64_t again[10];
+                       const reading *peer, uint64_t out[ANSWER]) {
+    uint64_t again[ANSWER];
     int first = turn++ % PLACES, second = turn % PLACES;
     read_at(first, files[first], len, w, table_len, pattern, peer, out);
     read_at(second, files[second], len, w, table_len, ~pattern * 3, peer, again);
@@ -442,7 +458,7 @@ static void record_alone(const uint8_t *body, size_t len) {
 /* The same bytes at the head of a file of the largest size, zeros behind, and of one byte more. */
 static void with_long_tail(const uint8_t *file, size_t len, size_t table_len, uint64_t pattern, uint64_t offset) {
     static walk w;
-    uint64_t answer[10];
+    uint64_t answer[ANSWER];
     memcpy(long_file, file, len);
     const uint8_t *files[PLACES] = {long_file, long_file, long_file};
     for (size_t size = LARGEST; size <= LARGEST + 1; size++) {
@@ -469,7 +485,7 @@ int LLVMFuzzerTestOneInput(const uint8_t *data, size_t size);
 int LLVMFuzzerTestOneInput(const uint8_t *data, size_t size) {
     static walk w;
     uint8_t c[CONTROL] = {0};
-    uint64_t answer[10], offset;
+    uint64_t answer[ANSWER], offset;
     size_t held = size < CONTROL ? size : CONTROL;
     memcpy(c, data, held);
     const uint8_t *file = data + held;

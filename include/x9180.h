@@ -19,12 +19,15 @@ extern "C" {
 /* The reading of a whole file. `table_len` counts numbers, not rows: a row is seven numbers, and the rows available are the whole
  * sevens. Returns the number and fills `answer` with
  *   [0] the number   [1] the record, from 1   [2] the field, 0 for the whole record   [3] the offset of the record's length field
- *   [4] records   [5] cash letters   [6] bundles   [7] items   [8] views   [9] debit cents
+ *   [4] records   [5] cash letters   [6] bundles   [7] items: checks, returns and credits (types 25, 31 and 61)   [8] views   [9] debit cents
+ *   [10] credits: 61s whose usage indicator is not 9   [11] credit cents
  * Accepted: the record is the record count, the field 0, the offset the file's length; the totals are those of the whole file; and the
  * table has a row for each record: record type; offset of the record's length field; the length; cash letter ordinal in the file; bundle
- * ordinal in its cash letter; item ordinal in its bundle; amount in cents. Numbers after the last row are untouched.
+ * ordinal in its cash letter; item ordinal in its bundle; amount in cents. An ordinal is 0 where the record lies outside that level: a 61
+ * directly in a cash letter, with its views, has bundle and item ordinal 0. The amount of a 25, 31 or 61 is its own, that of a 70, 90 or 99
+ * the debit cents as added up, any other 0. Numbers after the last row are untouched.
  * Refused: the totals are 0 and the whole table is untouched. ROOM gives the rows needed as the record. */
-uint64_t x9_read(const uint8_t *file, size_t file_len, uint64_t *table, size_t table_len, uint64_t answer[10]);
+uint64_t x9_read(const uint8_t *file, size_t file_len, uint64_t *table, size_t table_len, uint64_t answer[12]);
 
 /* The picture call. In the file, at `offset`, the four-byte length of an Image View Data record (type 52) is to stand. Returns the
  * number and fills `place` with

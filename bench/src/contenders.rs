@@ -3,28 +3,31 @@
 use std::alloc::{GlobalAlloc, Layout, System};
 use std::sync::atomic::{AtomicU64, Ordering::Relaxed};
 
-use peer_reader::descent;
+use peer_reader::descent::{self, LISTED};
+
+/// The numbers of an answer.
+pub type Answer = [u64; LISTED];
 
 extern "C" {
-    fn x9_read(file: *const u8, file_len: usize, table: *mut u64, table_len: usize, answer: *mut [u64; 10]) -> u64;
+    fn x9_read(file: *const u8, file_len: usize, table: *mut u64, table_len: usize, answer: *mut Answer) -> u64;
 }
 
 /// The proved library.
-pub fn proved(file: &[u8], table: &mut [u64]) -> [u64; 10] {
-    let mut answer = [u64::MAX; 10];
-    // SAFETY: each pointer goes with its slice's own length, and the answer holds the ten numbers the call fills.
+pub fn proved(file: &[u8], table: &mut [u64]) -> Answer {
+    let mut answer = [u64::MAX; LISTED];
+    // SAFETY: each pointer goes with its slice's own length, and the answer holds the twelve numbers the call fills.
     let number = unsafe { x9_read(file.as_ptr(), file.len(), table.as_mut_ptr(), table.len(), &mut answer) };
     assert_eq!(number, answer[0]);
     answer
 }
 
 /// The independent reader, which fills the lent table from rows it has allocated.
-pub fn independent(file: &[u8], table: &mut [u64]) -> [u64; 10] {
+pub fn independent(file: &[u8], table: &mut [u64]) -> Answer {
     descent::read_into(file, table).listed()
 }
 
 /// Walks the lengths and adds up every byte of the records but the Image Data of the 52s. Nothing is judged.
-pub fn walk(file: &[u8], _: &mut [u64]) -> [u64; 10] {
+pub fn walk(file: &[u8], _: &mut [u64]) -> Answer {
     let add = |bytes: &[u8]| bytes.iter().fold(0, |sum: u64, byte| sum.wrapping_add(u64::from(*byte)));
     let (mut left, mut sum, mut records) = (file, 0u64, 0);
     while let Some((length, rest)) = left.split_first_chunk() {
@@ -34,7 +37,9 @@ pub fn walk(file: &[u8], _: &mut [u64]) -> [u64; 10] {
         let picture = if body.starts_with(b"52") { image_data(body) } else { body.len()..body.len() };
         sum = sum.wrapping_add(add(&body[..picture.start])).wrapping_add(add(&body[picture.end..]));
     }
-    [sum, records, 0, 0, 0, 0, 0, 0, 0, 0]
+    let mut answer = [0; LISTED];
+    (answer[0], answer[1]) = (sum, records);
+    answer
 }
 
 /// Clause 22: fields 15 to 19, at positions 104 to 127, size the parts before the picture; field 20, 128 to 134, sizes it.

@@ -9,7 +9,7 @@ use std::env;
 use std::hint::black_box;
 use std::thread;
 
-use contenders::{allocations, independent, proved, walk, Counted};
+use contenders::{allocations, independent, proved, walk, Answer, Counted};
 use inputs::{file, Batch, Shape, MIB};
 use timing::{median, now, ratio, rounds};
 
@@ -17,7 +17,7 @@ use timing::{median, now, ratio, rounds};
 static ALLOCATOR: Counted = Counted;
 
 /// Reads one file into a table.
-type Reader = fn(&[u8], &mut [u64]) -> [u64; 10];
+type Reader = fn(&[u8], &mut [u64]) -> Answer;
 
 /// The rows of the longest file here: 256 MiB of records of 80 bytes, and some.
 const ROWS: usize = 3_400_000;
@@ -112,19 +112,21 @@ fn main() {
     let pictures = Batch::one(file(seed, Shape::Pictures, 200 * MIB));
     let plain = Batch::one(file(seed, Shape::NoPictures, 32 * MIB));
     let small = Batch::small(seed, 10_000);
+    let lockbox = Batch::one(file(seed, Shape::Lockbox, 32 * MIB));
     eprintln!("inputs made in {:.1} s", (now() - start).as_secs_f64());
     println!("| input | independent / proved | proved / memory walk |");
     println!("|---|---|---|");
     case("(a) 200 MiB with pictures", &pictures, &mut table, &mut other, 6.0);
     case("(b) 32 MiB without pictures", &plain, &mut table, &mut other, 6.0);
     case("(c) 10,000 small files", &small, &mut table, &mut other, 6.0);
+    case("(d) 32 MiB of lockbox deposits", &lockbox, &mut table, &mut other, 6.0);
     println!();
     println!("| proved, time for a MiB | 1 MiB | 4 MiB | 16 MiB | 64 MiB | 256 MiB |");
     println!("|---|---|---|---|---|---|");
     growth("with pictures", seed, Shape::Pictures, &mut table, &mut other);
     growth("without pictures", seed, Shape::NoPictures, &mut table, &mut other);
     thread::scope(|scope| {
-        let work = || [&pictures, &plain, &small].map(|batch| run(proved, batch, &mut table));
+        let work = || [&pictures, &plain, &small, &lockbox].map(|batch| run(proved, batch, &mut table));
         let joined = thread::Builder::new().stack_size(STACK).spawn_scoped(scope, work).map(|thread| thread.join());
         assert!(matches!(joined, Ok(Ok(_))), "the thread with the small stack fails");
     });

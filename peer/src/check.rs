@@ -1,9 +1,10 @@
 //! One file put to both sides.
 
-use peer_reader::descent::{read, split_record, Number, Reading};
+use peer_reader::asked::{picture_offsets, table_lengths};
+use peer_reader::descent::{read, Number, Reading};
 use peer_reader::picture::picture;
 use peer_reader::random::Random;
-use peer_reader::tally::{Point, Tally};
+use peer_reader::tally::Tally;
 
 use crate::abi;
 
@@ -32,9 +33,6 @@ impl Counts {
     }
 }
 
-/// After so many offsets in one file only some of its 52s are asked for.
-const MANY: usize = 500;
-
 /// Compares both sides on one file.
 pub fn check(file: &[u8], random: &mut Random, tally: &mut Tally, counts: &mut Counts) -> Result<(), Difference> {
     let reading = read(file);
@@ -45,9 +43,7 @@ pub fn check(file: &[u8], random: &mut Random, tally: &mut Tally, counts: &mut C
     for length in table_lengths(&reading, random) {
         readings_agree(file, &reading, length, random)?;
         counts.readings += 1;
-        if reading.with_rows(length / 7).number == Number::Room {
-            tally.note(Point::Room);
-        }
+        tally.note_table(&reading, length);
     }
     if reading.answer.number == Number::Accepted {
         counts.accepted += 1;
@@ -58,16 +54,6 @@ pub fn check(file: &[u8], random: &mut Random, tally: &mut Tally, counts: &mut C
         counts.pictures += 1;
     }
     Ok(())
-}
-
-/// Table lengths in numbers: more than enough, exactly enough, one number short, one row short, none.
-fn table_lengths(reading: &Reading, random: &mut Random) -> Vec<usize> {
-    let enough = reading.rows.len() * 7;
-    let ample = enough + random.below(30);
-    if reading.answer.number == Number::Accepted {
-        return vec![ample, enough, enough - 1, enough - 7, random.below(enough), 0];
-    }
-    vec![random.below(60), 0]
 }
 
 /// Both sides on one file and one table length: the number, the answer, every row, every number left alone.
@@ -97,10 +83,7 @@ fn readings_agree(file: &[u8], reading: &Reading, length: usize, random: &mut Ra
 /// Both sides on one picture call.
 fn pictures_agree(file: &[u8], offset: u64, tally: &mut Tally) -> Result<(), Difference> {
     let expected = picture(file, offset);
-    tally.note(Point::PictureAnswer(expected.number));
-    if expected.number == Number::Field {
-        tally.note(Point::PictureFieldRefused(expected.field as u8));
-    }
+    tally.note_picture(&expected);
     let (number, place) = abi::picture(file, offset);
     let listed = expected.listed();
     if place != listed || number != listed[0] {
@@ -109,22 +92,4 @@ fn pictures_agree(file: &[u8], offset: u64, tally: &mut Tally) -> Result<(), Dif
         ));
     }
     Ok(())
-}
-
-/// Every 52 that the lengths lead to, some other records, and offsets that lead nowhere.
-fn picture_offsets(file: &[u8], random: &mut Random) -> Vec<u64> {
-    let mut offsets = Vec::new();
-    let mut at = 0;
-    while let Some(body) = split_record(&file[at..]) {
-        let pictured = body.starts_with(b"52") && (offsets.len() < MANY || random.percent(1));
-        if pictured || (at < 20_000 && random.percent(20)) {
-            offsets.push(at as u64);
-        }
-        at += 4 + body.len();
-    }
-    let size = file.len() as u64;
-    offsets.extend([at as u64, size, size.saturating_sub(random.draw() % 6), random.draw() % (size + 10)]);
-    let far = [u64::MAX, u64::MAX - 3, u64::MAX - 4, 1 << 32, 1 << 63, size + 1, size.wrapping_sub(1)];
-    offsets.push(random.pick(&far));
-    offsets
 }

@@ -1,8 +1,9 @@
-//! The largest files, once in a whole run: exactly the limit, and one byte more.
+//! The largest files, once in a whole run: exactly the limit, one byte more, and 61s whose sums pass 64 bits.
 
 use std::path::Path;
 use std::sync::Mutex;
 
+use peer_reader::brim::{letter_past, letter_past_64_bits, Stated};
 use peer_reader::descent::LARGEST;
 use peer_reader::make::{encode, sound, Wish};
 use peer_reader::random::Random;
@@ -12,17 +13,32 @@ use peer_reader::tally::Tally;
 use crate::check::{check, Counts};
 use crate::report;
 
-/// Puts both to both sides.
+/// Puts all of them to both sides.
 pub fn check_largest(save: &Path, tally: &mut Tally, counts: &mut Counts, found: &Mutex<Vec<String>>) {
     let mut random = Random::new(27);
-    let mut file = largest(&mut random);
-    for name in ["largest", "one-more"] {
-        if let Err(difference) = check(&file, &mut random, tally, counts) {
-            report(save, name, "large", &file, &difference, found);
+    let mut put = |name: &str, file: &[u8], random: &mut Random| {
+        if let Err(difference) = check(file, random, tally, counts) {
+            report(save, name, "large", file, &difference, found);
         }
-        file.push(b' ');
+    };
+    let mut file = largest(&mut random);
+    put("largest", &file, &mut random);
+    file.push(b' ');
+    put("one-more", &file, &mut random);
+    for (name, debit, how) in PAST_64_BITS {
+        let file = letter_past_64_bits(&mut random, debit, how);
+        put(name, &file, &mut random);
     }
+    let file = letter_past(&mut random, false, Stated::Wrapped, TIMES);
+    put("credits-past-64-bits-three-times", &file, &mut random);
 }
+
+/// A cash letter's sum past 64 bits, stated as a reader would have it that cuts it, or stops it. Those that wrap are in the stream.
+const PAST_64_BITS: [(&str, bool, Stated); 2] =
+    [("credits-cut", false, Stated::Cut), ("debits-nines", true, Stated::Nines)];
+
+/// So many times 2^64: 3 x 184,467.44 records of 88 bytes, 48.7 million bytes.
+const TIMES: u128 = 3;
 
 /// A sound file of exactly the limit: images of 9,999,999 bytes, the last one as long as still fits.
 fn largest(random: &mut Random) -> Vec<u8> {
@@ -36,7 +52,7 @@ fn largest(random: &mut Random) -> Vec<u8> {
         contents: b"I",
         kinds: &[25],
         image: 0,
-        ..Wish::any()
+        ..Wish::no_credits()
     };
     let mut records = sound(random, &wish);
     let mut left = LARGEST as usize - encode(&records).len();

@@ -3,6 +3,8 @@
 
 use std::sync::Mutex;
 
+use peer_reader::descent::Inside;
+use peer_reader::harm::insides;
 use peer_reader::layout::layout;
 use peer_reader::make::{encode, sound, Rec, Wish};
 use peer_reader::random::Random;
@@ -13,8 +15,21 @@ use crate::check::{check, Counts};
 use crate::{report, Options};
 
 /// The two-character fields with defined values.
-const PAIRS: [(u8, u8); 12] =
-    [(1, 2), (10, 2), (10, 13), (20, 2), (25, 12), (50, 5), (50, 6), (50, 9), (50, 11), (50, 12), (50, 15), (50, 16)];
+const PAIRS: [(u8, u8); 13] = [
+    (1, 2),
+    (10, 2),
+    (10, 13),
+    (20, 2),
+    (25, 12),
+    (50, 5),
+    (50, 6),
+    (50, 9),
+    (50, 11),
+    (50, 12),
+    (50, 15),
+    (50, 16),
+    (61, 11),
+];
 
 /// Contents of each form of a routing number, and none: what is one character away from them is tried.
 const ROUTINGS: [&[u8; 9]; 6] = [b"123456780", b"12345-678", b"1234-5678", b" 12345678", b" 1234567 ", b"         "];
@@ -33,7 +48,7 @@ pub fn sweep(options: &Options, tally: &mut Tally, counts: &mut Counts, found: &
     });
 }
 
-/// A small sound file with every record type that its item kind allows.
+/// A small sound file with every record type that its item kind allows, 61s aside.
 fn whole(seed: u64, kind: u8) -> Vec<Rec> {
     let kinds: &'static [u8] = if kind == 25 { &[25] } else { &[31] };
     let wish = Wish {
@@ -45,9 +60,44 @@ fn whole(seed: u64, kind: u8) -> Vec<Rec> {
         extras: 100,
         contents: b"I",
         kinds,
-        ..Wish::any()
+        ..Wish::no_credits()
     };
     sound(&mut Random::for_file(seed, u64::from(kind)), &wish)
+}
+
+/// The types of a small file with 61s, one outside its bundle and one in it, each with a view.
+const WITH_CREDITS: [u8; 12] = [1, 10, 61, 50, 52, 20, 61, 50, 52, 70, 90, 99];
+
+/// A sound file of these types, drawn until one comes.
+fn with_credits(seed: u64) -> Vec<Rec> {
+    let wish = Wish {
+        letters: (1, 1),
+        bundles: (1, 1),
+        items: (1, 1),
+        extras: 0,
+        contents: b"I",
+        credits: 60,
+        credit_views: 100,
+        ..Wish::any()
+    };
+    let mut random = Random::for_file(seed, 61);
+    loop {
+        let records = sound(&mut random, &wish);
+        if records.iter().map(|record| record.code).eq(WITH_CREDITS) {
+            return records;
+        }
+    }
+}
+
+/// The first 61 and the first 52 of one, outside the bundle and in it, and the control records, which have credits to state.
+fn credit_places(records: &[Rec]) -> Vec<usize> {
+    let insides = insides(records.iter().map(|record| record.code));
+    let first =
+        |code: u8, inside: Inside| (0..records.len()).find(|at| records[*at].code == code && insides[*at] == inside);
+    let of_credits =
+        [Inside::CreditInLetter, Inside::CreditInBundle].map(|inside| [first(61, inside), first(52, inside)]);
+    let controls = [first(70, Inside::Bundle), first(90, Inside::Letter), first(99, Inside::File)];
+    of_credits.concat().into_iter().chain(controls).flatten().collect()
 }
 
 fn part(options: &Options, first: usize, found: &Mutex<Vec<String>>) -> (Tally, Counts) {
@@ -62,13 +112,20 @@ fn part(options: &Options, first: usize, found: &Mutex<Vec<String>>) -> (Tally, 
     for kind in [25, 31] {
         let records = whole(options.seed, kind);
         for index in 0..records.len() {
-            part.places(&records, index);
-            part.pairs(&records, index);
-            // The types of both files are swept in the first.
-            if kind == 25 || (31..=35).contains(&records[index].code) {
+            // The types of both files are swept in the first, the controls again in the second.
+            let code = records[index].code;
+            if kind == 25 || matches!(code, 31..=35 | 70 | 90 | 99) {
+                part.places(&records, index);
+                part.pairs(&records, index);
                 part.routings(&records, index);
             }
         }
+    }
+    let records = with_credits(options.seed);
+    for index in credit_places(&records) {
+        part.places(&records, index);
+        part.pairs(&records, index);
+        part.routings(&records, index);
     }
     (part.tally, part.counts)
 }
@@ -150,7 +207,7 @@ impl Part<'_> {
     }
 }
 
-/// The records with these contents in a routing field. A 52 and its bundle header change together where the contents pass.
+/// The records with these contents in a routing field. A 52 and the headers change together where the contents pass.
 fn with_routing(records: &[Rec], index: usize, number: u8, contents: &[u8]) -> Vec<Rec> {
     let mut changed = records.to_vec();
     changed[index].set(number, contents);
@@ -159,7 +216,7 @@ fn with_routing(records: &[Rec], index: usize, number: u8, contents: &[u8]) -> V
     if passes && matches!((records[index].code, number), (20, 4) | (52, 2)) {
         for record in &mut changed {
             match record.code {
-                20 => record.set(4, contents),
+                10 | 20 => record.set(4, contents),
                 52 => record.set(2, contents),
                 _ => {}
             }

@@ -11,8 +11,8 @@
 //! - what takes more than one record, on whole files, library beside the independent reader: `compare` in `peer/`. A run of 100,000 files, as
 //!   in `.ci/run`, fails unless it met every point of `demanded` in `peer/reader/src/tally.rs`: each lawful pair of types accepted and each
 //!   other pair refused at PLACE, each LINK rule, each control field at TOTAL, each way of CUT, OPEN after each type, AFTER and ROOM. Bundles of
-//!   9,999 and 10,000 items are in it by `rare` in `peer/reader/src/stream.rs`, sums beyond twelve digits by `edge` there, and the largest file
-//!   and one byte more by `peer/src/large.rs`.
+//!   9,999 and 10,000 items are in it by `rare` in `peer/reader/src/stream.rs`, sums beyond twelve digits by `edge` there, sums of 61s that fill
+//!   a control field, pass it or pass 64 bits by `peer/reader/src/brim.rs`, and the largest file and one byte more by `peer/src/large.rs`.
 
 use record_tests::compose::Fields;
 use record_tests::edges::{edges, has, marks_of, no_blank_among_digits, runs_of, strangers_to, Asked};

@@ -31,8 +31,11 @@ fn the_table_is_whole() {
     let table = Table::read();
     let fields: usize = table.kinds.iter().map(|kind| kind.fields.len()).sum();
     let lengths: Vec<usize> = table.kinds.iter().map(|kind| kind.fixed_length).collect();
-    // 01 10 20 25, 26, 27, 28 31, 32, 33, 34, 35 50, 52, 54 70, 90, 99
-    assert_eq!(lengths, [80, 80, 80, 80, 115, 73, 80, 80, 115, 80, 73, 80, 80, 139, 80, 80, 85, 80]);
+    // 01 10 20 25, 26, 27, 28 31, 32, 33, 34, 35 50, 52, 54, 61, 70, 90, 99
+    assert_eq!(lengths, [80, 80, 80, 80, 115, 73, 80, 80, 115, 80, 73, 80, 80, 139, 80, 84, 80, 85, 80]);
+    // In words, the first sentence of each clause: "contains fourteen fields" and so on.
+    let counts: Vec<usize> = table.kinds.iter().map(|kind| kind.fields.len()).collect();
+    assert_eq!(counts, [14, 14, 13, 14, 14, 18, 14, 9, 14, 11, 18, 14, 23, 28, 47, 12, 9, 9, 8]);
     report(&format!("table: {} kinds, {fields} fields, no gap between fixed fields", table.kinds.len()));
 }
 
@@ -88,6 +91,18 @@ const STATED: &[Stated] = &[
     ("52", 15, &[], &["    "]),
     ("54", 2, &["2"], &[" ", "3"]),
     ("54", 13, &[" "], &["0"]),
+    ("61", 2, &["1", "8", "9", " "], &["0", "A", "-"]),
+    ("61", 3, &["1-2* 3         ", "               "], &["1-2/ 3         ", "1-2? 3         "]),
+    ("61", 4, &["*", "0", " "], &["-", "A"]),
+    ("61", 5, &["123456780", "12345-678", "12345678*", "1 2-3*4 5"], &["123456781", "1234-5678", " 12345678"]),
+    ("61", 5, &["*********"], &["         ", "1        ", "12345678 ", "12345*78A", "12345678?"]),
+    ("61", 6, &["1/2-3 *             ", "                    "], &["A                   ", "1#                  "]),
+    ("61", 7, &["00000000000000", "99999999999999"], &["              ", "             1", "1             "]),
+    ("61", 8, &["               ", " 12            ", "000000000000001"], &["1 2            ", "-              "]),
+    ("61", 9, &["A", "M", "a", "m", " "], &["N", "n", "@", "1"]),
+    ("61", 10, &["1", "5", "A", "J", "a", "j", " "], &["0", "6", "9", "K", "k", "@"]),
+    ("61", 11, &["01", "09", "10", "11", "21", "50", "51", "99", "  "], &["00", "12", "20", "1 ", " 1", "A1", "1A"]),
+    ("61", 12, &["   "], &["  0", "0  ", "A  "]),
     ("70", 4, &["            ", "000000000012"], &["1           "]),
     ("90", 2, &["000000"], &["     0"]),
 ];
@@ -254,7 +269,7 @@ fn wrong_lengths() {
 #[test]
 fn every_type_number() {
     let table = Table::read();
-    for code in ["40", "41", "55", "56", "61", "64", "68", "75", "85", "00", "AB"] {
+    for code in ["40", "41", "55", "56", "64", "68", "75", "85", "00", "AB"] {
         for length in [2, 3, 73, 80, 84, 115, 200] {
             let body = format!("{code:length$}");
             assert_eq!(agreed(&table, body.as_bytes()), whole(TYPE), "{code}");
@@ -267,7 +282,7 @@ fn every_type_number() {
         let carried = table.named(&body[..2]).is_some();
         assert_eq!(agreed(&table, &body) == whole(TYPE), !carried, "{}", body.escape_ascii());
     }
-    report("type numbers: each of the 65536 pairs of bytes, and 77 records of types not carried");
+    report("type numbers: each of the 65536 pairs of bytes, and 70 records of types not carried");
 }
 
 #[test]

@@ -1,4 +1,4 @@
-//! Routing numbers: every form, every near miss and every string of digits, dashes and blanks in each of the fifteen routing fields. What
+//! Routing numbers: every form, every near miss and every string of digits, dashes and blanks in each of the sixteen routing fields. What
 //! passes comes from request 1 and its readings (`src/routing.rs`); the judge, the independent reader of `peer/` and the proved library are
 //! each held against it.
 
@@ -66,7 +66,9 @@ fn counted(field: &Field) -> (usize, usize) {
     match field.format {
         // 45 runs of digits, TTTTAAAAC and bTTTTAAAA among them, and TTTTT-FFF.
         "routing:TTTTAAAAC,TTTTT-FFF,NONFIN" => (46, 46),
-        // TTTTAAAAC, TTTTT-FFF, and all blank, since these fields are conditional; without the first.
+        // TTTTAAAAC and TTTTT-FFF in 61.5, which is mandatory; without the first.
+        "routing:TTTTAAAAC,TTTTT-FFF" if field.mandatory => (2, 1),
+        // The same, and all blank, since these fields are conditional.
         "routing:TTTTAAAAC,TTTTT-FFF" => (3, 2),
         // The four forms; without TTTTAAAAC.
         "routing:TTTTAAAAC,TTTTT-FFF,TTTT-AAAA,bTTTTAAAA" => (4, 3),
@@ -86,10 +88,11 @@ fn try_all(judge: Judge, name: &str) {
         tried += 2 * OF_THREE + near.len();
         passed += both[0] + both[1] + put(&table, place, judge, near.into_iter());
         if field.data_type == "NBMcd" {
-            // With a mark all pass; without one, the four forms.
+            // With a mark all pass; without one, the forms that the field lists: four in 25.4 and 31.4, two in 61.5.
             let marked = strings_over(b"9- *").map(|pattern| filled(&pattern, true, &mut random));
-            assert_eq!(put(&table, place, judge, marked), OF_FOUR - OF_THREE + 4);
-            (tried, passed) = (tried + OF_FOUR, passed + OF_FOUR - OF_THREE + 4);
+            let all = OF_FOUR - OF_THREE + if place.0.code == "61" { 2 } else { 4 };
+            assert_eq!(put(&table, place, judge, marked), all);
+            (tried, passed) = (tried + OF_FOUR, passed + all);
         }
     }
     report(&format!("routing numbers, {name}: {tried} contents over {} fields, {passed} pass", fields(&table).len()));
@@ -112,7 +115,7 @@ fn the_library_takes_what_the_readings_say() {
 
 /// Request 1 by hand: the forms of each field, as its clause prints them.
 #[test]
-fn fifteen_fields_and_their_forms() {
+fn sixteen_fields_and_their_forms() {
     let table = Table::read();
     let listed: Vec<(&str, u64, &str)> = fields(&table)
         .iter()
@@ -137,8 +140,9 @@ fn fifteen_fields_and_their_forms() {
         ("35", 3, financial_alone),
         ("50", 3, non_financial_too),
         ("52", 2, non_financial_too),
+        ("61", 5, financial_alone),
     ];
     assert_eq!(listed, expected);
     assert!(fields(&table).iter().all(|(_, field)| field.size == SIZE));
-    report("routing fields: 15 with the forms of their clauses");
+    report("routing fields: 16 with the forms of their clauses");
 }

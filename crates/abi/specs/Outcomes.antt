@@ -17,7 +17,7 @@ use Rattle.picture.specs.Picture as picture
 one : {A : Type 0} {x y z : A} → x ≡ z → y ≡ z → x ≡ y
 one e q = e ∙ sym q
 
--- x9_read: the number, the table afterwards, the ten numbers, and what they say of the file's arrangement
+-- x9_read: the number, the table afterwards, the twelve numbers, and what they say of the file's arrangement
 pub record Reading (file table : List ℕ) (n : ℕ) (after numbers : List ℕ) : Type 0 where
   pub number : n ≡ answerNumber (answerOf file (length table))
   pub rows : after ≡ tableOf file table

@@ -3,9 +3,9 @@ use passes::Answer;
 ghost use Rattle.abi.specs.Outcomes.{Reading, Picturing, Judging};
 
 // The reading of a whole file: the number, in `table` the rows of an accepted file, and in `answer` number, record, field, offset, and
-// the totals: records, cash letters, bundles, items, views, debit cents.
+// the totals: records, cash letters, bundles, items, views, debit cents, credits, credit cents.
 #[no_mangle]
-pub extern "C" fn x9_read(file: &[u8], table: &mut [u64], answer: &mut [u64; 10]) -> u64
+pub extern "C" fn x9_read(file: &[u8], table: &mut [u64], answer: &mut [u64; 12]) -> u64
     ensures { λ r. ⌜ Reading (now (file .entry)) (now (table .entry)) r (now (table .exit)) (now (answer .exit)) ⌝ }
 {
     let size = file.len() as u64;
@@ -15,9 +15,11 @@ pub extern "C" fn x9_read(file: &[u8], table: &mut [u64], answer: &mut [u64; 10]
             let records = totals.records.0;
             let letters = totals.letters;
             let bundles = totals.bundles;
-            let items = sums.items.0;
+            let items = totals.items.0;
             let views = sums.views.0;
             let cents = sums.debit.0;
+            let credits = sums.credits.0;
+            let credit_cents = sums.credit.0;
             *answer = [
                 0,
                 records,
@@ -29,13 +31,15 @@ pub extern "C" fn x9_read(file: &[u8], table: &mut [u64], answer: &mut [u64; 10]
                 items,
                 views,
                 cents,
+                credits,
+                credit_cents,
             ];
             0
         }
         Answer::Refused(fault, record, offset) => {
             let number = fault.number();
             let field = fault.field() as u64;
-            *answer = [number, record, field, offset as u64, 0, 0, 0, 0, 0, 0];
+            *answer = [number, record, field, offset as u64, 0, 0, 0, 0, 0, 0, 0, 0];
             number
         }
     }

@@ -1,5 +1,5 @@
 -- TOTAL (document 01): "a control field is not what its part adds up to". The checks of a control record, in the order of their fields.
--- Sums are whole numbers, never cut to a field's width; without type 61 all credit fields are zero.
+-- Sums are whole numbers, never cut to a field's width.
 use Prim.Native.Nat.{ℕ, _+_}
 use mathlib.Core.Bool.{Bool, _||_, cond}
 use mathlib.Core.List.{List, [], _∷_}
@@ -18,43 +18,43 @@ use Rattle.agree.specs.Checks.{Check, check, firstFailing}
 abbrev pub states : Layout → List ℕ → ℕ → ℕ → ℕ → Bool
 states k file offset n value = eqb (number (field k n file offset)) value
 
--- clause 31: items, debit cents, cents of the 25s with a valid MICR line ("blank is not compared"), views, no credits
+-- clause 31: debits, debit cents, cents of the 25s with a valid MICR line ("blank is not compared"), views, credits, credit cents
 abbrev pub bundleTotals : List ℕ → Sums → ℕ → ℕ → List Check
 bundleTotals file s micr offset =
-    check 2 (states bundleControl file offset 2 (s .items .0)) ∷
+    check 2 (states bundleControl file offset 2 (s .debits .0)) ∷
     check 3 (states bundleControl file offset 3 (s .debit .0)) ∷
     check 4 (every isBlank (field bundleControl 4 file offset) || states bundleControl file offset 4 micr) ∷
     check 5 (states bundleControl file offset 5 (s .views .0)) ∷
-    check 6 (states bundleControl file offset 6 0) ∷
-    check 7 (states bundleControl file offset 7 0) ∷
+    check 6 (states bundleControl file offset 6 (s .credits .0)) ∷
+    check 7 (states bundleControl file offset 7 (s .credit .0)) ∷
     []
 
--- clause 34: bundles, items, debit cents, views, no credits
+-- clause 34: bundles, debits, debit cents, views, credits, credit cents
 abbrev pub letterTotals : List ℕ → ℕ → Sums → ℕ → List Check
 letterTotals file bundles s offset =
     check 2 (states cashLetterControl file offset 2 bundles) ∷
-    check 3 (states cashLetterControl file offset 3 (s .items .0)) ∷
+    check 3 (states cashLetterControl file offset 3 (s .debits .0)) ∷
     check 4 (states cashLetterControl file offset 4 (s .debit .0)) ∷
     check 5 (states cashLetterControl file offset 5 (s .views .0)) ∷
-    check 8 (states cashLetterControl file offset 8 0) ∷
-    check 9 (states cashLetterControl file offset 9 0) ∷
+    check 8 (states cashLetterControl file offset 8 (s .credits .0)) ∷
+    check 9 (states cashLetterControl file offset 9 (s .credit .0)) ∷
     []
 
--- clause 35: cash letters, "all records with 01 and 99 included", items, debit cents, no credits
-abbrev pub fileTotals : List ℕ → ℕ → ℕ → Sums → ℕ → List Check
-fileTotals file letters recordsBefore s offset =
+-- clause 35: cash letters, "all records with 01 and 99 included", items (35.4: every 25, 31 and 61), debit cents, credit cents
+abbrev pub fileTotals : List ℕ → ℕ → ℕ → ℕ → Sums → ℕ → List Check
+fileTotals file letters recordsBefore items s offset =
     check 2 (states fileControl file offset 2 letters) ∷
     check 3 (states fileControl file offset 3 (recordsBefore + 1)) ∷
-    check 4 (states fileControl file offset 4 (s .items .0)) ∷
+    check 4 (states fileControl file offset 4 items) ∷
     check 5 (states fileControl file offset 5 (s .debit .0)) ∷
-    check 8 (states fileControl file offset 8 0) ∷
+    check 8 (states fileControl file offset 8 (s .credit .0)) ∷
     []
 
 abbrev pub totalChecks : List ℕ → Standing → ℕ → ℕ → List Check
 totalChecks file s k offset =
     cond (eqb k 70) (bundleTotals file (s .bundle) (s .micr .0) offset)
     (cond (eqb k 90) (letterTotals file (s .opened) (s .letter) offset)
-    (cond (eqb k 99) (fileTotals file (s .letters) (s .records .0) (s .whole) offset) []))
+    (cond (eqb k 99) (fileTotals file (s .letters) (s .records .0) (s .items .0) (s .whole) offset) []))
 
 -- "TOTAL by lowest field", or 0
 unfoldable pub totalFault : List ℕ → Standing → ℕ → ℕ → ℕ

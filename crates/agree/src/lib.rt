@@ -1,12 +1,13 @@
 // What is judged of a record against those before it: links, and the totals of a control record.
 use measure::Cents;
+use measure::Items;
 use measure::Records;
 use measure::Sums;
 use standing::Standing;
 use standing::characters_at;
 use standing::number_at;
 ghost use mathlib.Core.Path.{_≡_};
-ghost use mathlib.Core.Bool.{_||_};
+ghost use mathlib.Core.Bool.{_||_, not, cond};
 ghost use Prim.Native.Nat.{ℕ, _+_, _-_, _<_, _≤_};
 ghost use lib.Dec.{eqb};
 ghost use lib.ListN.{length};
@@ -44,15 +45,15 @@ pub fn addenda_kept(kind: u64, stated: u64, read: u64) -> bool
     stated <= read
 }
 
-// Annex B: N, E, I and F.
-pub fn annex_b_kept(kind: u64, indicator: u8, opened: u64, items: u64, shown: u64) -> bool
-    ensures { λ r. ⌜ r ≡ annexB kind indicator opened items shown ⌝ }
+// Annex B: N, E, I and F. `holder` is the type of the newest item; no view is demanded of a 61.
+pub fn annex_b_kept(kind: u64, indicator: u8, opened: u64, holder: u64, shown: u64) -> bool
+    ensures { λ r. ⌜ r ≡ annexB kind indicator opened holder shown ⌝ }
 {
     let closes_item = order::is_item(kind) | (kind == 70);
     let wants_view = (indicator == b'I') | (indicator == b'F');
     !((kind == 20) & (indicator == b'N'))
         & (!((kind == 50) & (indicator == b'E'))
-            & (!(closes_item & (wants_view & ((1 <= items) & (shown == 0))))
+            & (!(closes_item & (wants_view & (order::is_check_or_return(holder) & (shown == 0))))
                 & !((kind == 90) & (!(indicator == b'N') & (opened == 0)))))
 }
 
@@ -96,33 +97,42 @@ fn is_signed(file: &[u8], signature: u64, offset: usize, first: usize) -> bool
     !text::all_blank(characters_at(file, offset, first, 16))
 }
 
-// The links of a 52 with the bundle header, the item and the 50.
-fn view_fault(
-    file: &[u8],
-    header: usize,
-    item: usize,
-    present: u64,
-    signature: u64,
-    offset: usize,
-) -> usize
-    ensures { λ r. ⌜ r ≡ firstFailing (viewLinks (now (file .entry)) header item present signature offset) ⌝ }
+fn pick(test: bool, yes: usize, other: usize) -> usize
+    ensures { λ r. ⌜ r ≡ cond test yes other ⌝ }
 {
-    if !same_at(file, offset, 3, header, 14, 9) {
+    if test { yes } else { other }
+}
+
+// A cash letter header has no cycle number to compare.
+fn same_cycle(file: &[u8], s: Standing, offset: usize) -> bool
+    ensures { λ r. ⌜ r ≡ (not (s .inside) || same (characters (now (file .entry)) offset 20 2) (characters (now (file .entry)) (s .header) 53 2)) ⌝ }
+{
+    !s.inside | same_at(file, offset, 20, s.header, 53, 2)
+}
+
+// The links of a 52 with the header over it, the item and the 50. Institution and date, fields 4 and 5, stand at the same positions of a bundle
+// header and of a cash letter header. A sequence number is field 7 of a 25 or a 31 and field 8 of a 61.
+fn view_fault(file: &[u8], s: Standing, offset: usize) -> usize
+    ensures { λ r. ⌜ r ≡ firstFailing (viewLinks (now (file .entry)) s offset) ⌝ }
+{
+    let over = pick(s.inside, s.header, s.heading);
+    let place = pick(s.holder == 61, 63, 58);
+    if !same_at(file, offset, 3, over, 14, 9) {
         return 2;
     }
-    if !same_at(file, offset, 12, header, 23, 8) {
+    if !same_at(file, offset, 12, over, 23, 8) {
         return 3;
     }
-    if !same_at(file, offset, 20, header, 53, 2) {
+    if !same_cycle(file, s, offset) {
         return 4;
     }
-    if !same_at(file, offset, 22, item, 58, 15) {
+    if !same_at(file, offset, 22, s.item, place, 15) {
         return 5;
     }
-    if !is_signed(file, signature, offset, 53) {
+    if !is_signed(file, s.signature, offset, 53) {
         return 7;
     }
-    if !is_signed(file, signature, offset, 69) {
+    if !is_signed(file, s.signature, offset, 69) {
         return 8;
     }
     0
@@ -136,8 +146,7 @@ pub fn link_fault(file: &[u8], s: Standing, kind: u64, offset: usize) -> usize
     if !addenda_kept(kind, s.stated, s.addenda) {
         return 1;
     }
-    let items = s.bundle.items;
-    if !annex_b_kept(kind, s.indicator, s.opened, items.0, s.shown) {
+    if !annex_b_kept(kind, s.indicator, s.opened, s.holder, s.shown) {
         return 1;
     }
     if !numbered_on(file, s.bofd, s.endorser, kind, offset) {
@@ -146,7 +155,7 @@ pub fn link_fault(file: &[u8], s: Standing, kind: u64, offset: usize) -> usize
     if kind != 52 {
         return 0;
     }
-    view_fault(file, s.header, s.item, s.present, s.signature, offset)
+    view_fault(file, s, offset)
 }
 
 // A control field states a number.
@@ -170,7 +179,7 @@ fn states_micr(file: &[u8], offset: usize, micr: u64) -> bool
 fn bundle_fault(file: &[u8], s: Sums, micr: Cents, offset: usize) -> usize
     ensures { λ r. ⌜ r ≡ firstFailing (bundleTotals (now (file .entry)) s (micr .0) offset) ⌝ }
 {
-    if !states_number(file, offset, 3, 4, s.items.0) {
+    if !states_number(file, offset, 3, 4, s.debits.0) {
         return 2;
     }
     if !states_number(file, offset, 7, 12, s.debit.0) {
@@ -182,10 +191,10 @@ fn bundle_fault(file: &[u8], s: Sums, micr: Cents, offset: usize) -> usize
     if !states_number(file, offset, 31, 5, s.views.0) {
         return 5;
     }
-    if !states_number(file, offset, 36, 4, 0) {
+    if !states_number(file, offset, 36, 4, s.credits.0) {
         return 6;
     }
-    if !states_number(file, offset, 40, 12, 0) {
+    if !states_number(file, offset, 40, 12, s.credit.0) {
         return 7;
     }
     0
@@ -198,7 +207,7 @@ fn letter_fault(file: &[u8], bundles: u64, s: Sums, offset: usize) -> usize
     if !states_number(file, offset, 3, 6, bundles) {
         return 2;
     }
-    if !states_number(file, offset, 9, 8, s.items.0) {
+    if !states_number(file, offset, 9, 8, s.debits.0) {
         return 3;
     }
     if !states_number(file, offset, 17, 14, s.debit.0) {
@@ -207,19 +216,26 @@ fn letter_fault(file: &[u8], bundles: u64, s: Sums, offset: usize) -> usize
     if !states_number(file, offset, 31, 9, s.views.0) {
         return 5;
     }
-    if !states_number(file, offset, 64, 8, 0) {
+    if !states_number(file, offset, 64, 8, s.credits.0) {
         return 8;
     }
-    if !states_number(file, offset, 72, 14, 0) {
+    if !states_number(file, offset, 72, 14, s.credit.0) {
         return 9;
     }
     0
 }
 
-// Clause 35; the 99 itself counts among the records.
-fn file_fault(file: &[u8], letters: u64, before: Records, s: Sums, offset: usize) -> usize
+// Clause 35; the 99 itself counts among the records, and credits count among the items.
+fn file_fault(
+    file: &[u8],
+    letters: u64,
+    before: Records,
+    items: Items,
+    s: Sums,
+    offset: usize,
+) -> usize
     requires { ⌜ before .0 < 0x4000_0000_0000_0000 ⌝ }
-    ensures { λ r. ⌜ r ≡ firstFailing (fileTotals (now (file .entry)) letters (before .0) s offset) ⌝ }
+    ensures { λ r. ⌜ r ≡ firstFailing (fileTotals (now (file .entry)) letters (before .0) (items .0) s offset) ⌝ }
 {
     if !states_number(file, offset, 3, 6, letters) {
         return 2;
@@ -227,13 +243,13 @@ fn file_fault(file: &[u8], letters: u64, before: Records, s: Sums, offset: usize
     if !states_number(file, offset, 9, 8, before.0 + 1) {
         return 3;
     }
-    if !states_number(file, offset, 17, 8, s.items.0) {
+    if !states_number(file, offset, 17, 8, items.0) {
         return 4;
     }
     if !states_number(file, offset, 25, 16, s.debit.0) {
         return 5;
     }
-    if !states_number(file, offset, 65, 16, 0) {
+    if !states_number(file, offset, 65, 16, s.credit.0) {
         return 8;
     }
     0
@@ -257,7 +273,8 @@ pub fn total_fault(file: &[u8], s: Standing, kind: u64, offset: usize) -> usize
         99 => {
             let sums = s.whole;
             let before = s.records;
-            file_fault(file, s.letters, before, sums, offset)
+            let items = s.items;
+            file_fault(file, s.letters, before, items, sums, offset)
         }
         _ => 0,
     }

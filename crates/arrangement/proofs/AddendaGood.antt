@@ -1,5 +1,5 @@
 -- The records of sound addenda are good, one after the other. Assumes nothing.
-use Prim.Native.Nat.{ℕ, _+_}
+use Prim.Native.Nat.{ℕ, _+_, _<_}
 use native.Mathlib.Omega.{arith}
 use mathlib.Core.Bool.{true, false}
 use mathlib.Core.Option.{Option, none, some}
@@ -14,61 +14,69 @@ use Rattle.layout.specs.Layouts.{checkDetailAddendumA, checkDetailAddendumB, ch
 use Rattle.order.specs.MayFollow.{isOneOf, isCarried, follows}
 use Rattle.agree.specs.Links.{addendaKept}
 use Rattle.file_as_records.specs.Framed.{Body}
-use Rattle.file_as_records.proofs.Figures.{value, statedIn, addendaIn, bofdIn, endorserIn, lastIn}
+use Rattle.file_as_records.proofs.Figures.{value, statedIn, addendaIn, bofdIn, endorserIn, insideIn, lastIn}
 use Rattle.file_as_records.proofs.Good.{GoodAll, onto}
 use Rattle.file_as_records.proofs.CheckLists.{numberedAs}
-use Rattle.arrangement.specs.Tree.{Addenda, ofCheck, ofReturn}
+use Rattle.arrangement.specs.Tree.{Addenda, ofCheck, ofReturn, ofCredit}
 use Rattle.arrangement.specs.Written.{optionalThen, addendaThen}
 use Rattle.arrangement.specs.Sound.{IfAny, Right, Numbered, stated, layoutIn, SoundAddenda}
 use Rattle.arrangement.proofs.Counting.{Counts}
 use Rattle.arrangement.proofs.After.{afterOptional, afterAddenda}
 use Rattle.arrangement.proofs.Quiet.{step, quiet-step}
+use Rattle.arrangement.proofs.InItem.{nextInside}
 use Rattle.arrangement.proofs.OwnAddenda.{nextAddenda, nextStated, nextBofd, nextEndorser, Adds, adds-26, adds-27, adds-28, adds-32, adds-33, adds-34, adds-35, endorser-check, endorser-return}
-use Rattle.arrangement.proofs.Making.{Allow, checked, made-plain, allow-at, allow-first, allow-rest}
+use Rattle.arrangement.proofs.Making.{Allow, Follows, checked, made-plain, allow-at, allow-first, allow-rest}
 use Rattle.arrangement.proofs.SoundTyped.{addenda-typed}
 
 -- Here, and for views, items, bundles and cash letters, each law makes good the records of a part and then `rest`, given facts of those
 -- before it, if from the same facts behind the part `rest` is good there: what is known goes forward, and what is good comes back.
 
--- the addenda that the item still owes
-abbrev pub Owes : List Body → List Body → Type 0
-Owes past owed = length owed + addendaIn past ≡ statedIn past
+-- the addenda that an item of a bundle still owes
+pub record Owes (past owed : List Body) : Type 0 where
+  pub count : length owed + addendaIn past ≡ statedIn past
+  pub inside : insideIn past ≡ true
 
--- a type behind which an item may go on with a view, or end: then the next item comes, or the bundle's control
-pub record MayEnd (a : Addenda) (last : ℕ) : Type 0 where
-  pub view : follows last 50 ≡ true
-  pub item : follows last (layoutIn a .typeNumber) ≡ true
-  pub control : follows last 70 ≡ true
+-- what may come behind an item of a bundle, with its addenda and views: the next item, or the bundle's control
+abbrev pub endsOf : Addenda → List ℕ
+endsOf (ofCheck a b c) = 25 ∷ 61 ∷ 70 ∷ []
+endsOf (ofReturn a b c d) = 31 ∷ 61 ∷ 70 ∷ []
+endsOf ofCredit = 25 ∷ 31 ∷ 61 ∷ 70 ∷ []
 
 module _ (k : Layout) (adds : Adds k) (c : isCarried (k .typeNumber) ≡ true) (o : isOneOf (k .typeNumber) checked ≡ false) where
-  one-good : (past : List Body) (b : Body) (owed rest : List Body) → Right k b → follows (lastIn past) (k .typeNumber) ≡ true
+  one-good : (past : List Body) (b : Body) (owed rest : List Body) → Right k b → Follows past (k .typeNumber)
       → numberedAs (k .typeNumber) past b ≡ true → Owes past (b ∷ owed) → (Owes (b ∷ past) owed → GoodAll (b ∷ past) rest) → GoodAll past (b ∷ rest)
   unfolding addendaKept
   one-good past b owed rest right allowed number owes on =
       let t = k .typeNumber in
+      let fewer : addendaIn past < statedIn past = omega (arith, owes .count) in
       let more = step 0 nextAddenda past b t (right .type) ∙ adds .more b (addendaIn past) in
       let still = quiet-step 0 nextStated past b t (right .type) (adds .same-stated) in
       record {
         first =
-            made-plain k (adds .known) c o past b right allowed (rw (adds .addendum, lt-ltb (addendaIn past) (statedIn past) (omega arith)) refl) number;
-        rest = on (omega (arith, owes, more, still));
+            made-plain k (adds .known) c o past b right allowed (rw (adds .addendum, lt-ltb (addendaIn past) (statedIn past) fewer) refl) number;
+        rest =
+            on
+            (record {
+              count = omega (arith, owes .count, more, still);
+              inside = quiet-step false nextInside past b t (right .type) (adds .same-inside) ∙ owes .inside;
+            });
       }
 
-  optional-good : (ts : List ℕ) → every (follows (k .typeNumber)) ts ≡ true → ((p : List Body) (b : Body) → numberedAs (k .typeNumber) p b ≡ true)
-      → (past : List Body) (x : Option Body) (owed rest : List Body) → IfAny (Right k) x → Allow (k .typeNumber ∷ ts) (lastIn past)
+  optional-good : (ts : List ℕ) → every (follows true (k .typeNumber)) ts ≡ true → ((p : List Body) (b : Body) → numberedAs (k .typeNumber) p b ≡ true)
+      → (past : List Body) (x : Option Body) (owed rest : List Body) → IfAny (Right k) x → Allow (k .typeNumber ∷ ts) past
       → Owes past (optionalThen x owed)
-      → (Allow ts (lastIn (afterOptional past x)) → Owes (afterOptional past x) owed → GoodAll (afterOptional past x) rest)
+      → (Allow ts (afterOptional past x) → Owes (afterOptional past x) owed → GoodAll (afterOptional past x) rest)
       → GoodAll past (optionalThen x rest)
   optional-good ts then n past none owed rest right allowed owes on = on (allow-rest allowed) owes
   optional-good ts then n past (some b) owed rest right allowed owes on =
-      one-good past b owed rest right (allow-first allowed) (n past b) owes (on (allow-at ts (right .type) then))
+      one-good past b owed rest right (allow-first allowed) (n past b) owes (λ w. on (allow-at ts (w .inside) (right .type) then) w)
 
   -- a run of them, numbered on from a figure
   module _ (next : ℕ → Body → ℕ → ℕ) (counts : Counts next (k .typeNumber))
       (numbered : (past : List Body) (b : Body) → numberedAs (k .typeNumber) past b ≡ eqb (stated k 2 b) (value 0 next past + 1))
-      (ts : List ℕ) (again : every (follows (k .typeNumber)) (k .typeNumber ∷ ts) ≡ true) where
-    run-good : (past bs owed rest : List Body) (n : ℕ) → Numbered k n bs → value 0 next past + 1 ≡ n → Allow (k .typeNumber ∷ ts) (lastIn past)
-        → Owes past (bs ++ owed) → (Allow ts (lastIn (onto bs past)) → Owes (onto bs past) owed → GoodAll (onto bs past) rest)
+      (ts : List ℕ) (again : every (follows true (k .typeNumber)) (k .typeNumber ∷ ts) ≡ true) where
+    run-good : (past bs owed rest : List Body) (n : ℕ) → Numbered k n bs → value 0 next past + 1 ≡ n → Allow (k .typeNumber ∷ ts) past
+        → Owes past (bs ++ owed) → (Allow ts (onto bs past) → Owes (onto bs past) owed → GoodAll (onto bs past) rest)
         → GoodAll past (bs ++ rest)
     run-good past [] owed rest n sound e allowed owes on = on (allow-rest allowed) owes
     run-good past (b ∷ bs) owed rest n sound e allowed owes on =
@@ -77,35 +85,34 @@ module _ (k : Layout) (adds : Adds k) (c : isCarried (k .typeNumber) ≡ true) (
         let more = step 0 next past b t (right .type) ∙ counts b (value 0 next past) in
         let number = numbered past b ∙ eq-eqb (stated k 2 b) (value 0 next past + 1) (sound .0 .number ∙ sym e) in
         one-good past b (bs ++ owed) (bs ++ rest) right (allow-first allowed) number owes
-        (λ w. run-good (b ∷ past) bs owed rest (n + 1) (sound .1) (omega (arith, more, e)) (allow-at (t ∷ ts) (right .type) again) w on)
+        (λ w. run-good (b ∷ past) bs owed rest (n + 1) (sound .1) (omega (arith, more, e)) (allow-at (t ∷ ts) (w .inside) (right .type) again) w on)
 
--- the addenda of an item, behind its first record
+-- the addenda of an item of a bundle, behind its first record
 pub addenda-good : (past : List Body) (a : Addenda) (rest : List Body) → SoundAddenda a → lastIn past ≡ layoutIn a .typeNumber → bofdIn past ≡ 0
     → endorserIn past ≡ 0 → Owes past (addendaThen a [])
-    → (MayEnd a (lastIn (afterAddenda past a)) → Owes (afterAddenda past a) [] → GoodAll (afterAddenda past a) rest)
+    → (Allow (50 ∷ endsOf a) (afterAddenda past a) → Owes (afterAddenda past a) [] → GoodAll (afterAddenda past a) rest)
     → GoodAll past (addendaThen a rest)
 unfolding follows isCarried
 addenda-good past (ofCheck a b c) rest sound last bofd endorser owes on =
-    let ends : List ℕ = 50 ∷ 25 ∷ 70 ∷ [] in
+    let ends : List ℕ = 50 ∷ endsOf (ofCheck a b c) in
     let still = endorser-check past a b c (addenda-typed (ofCheck a b c) sound) in
     run-good checkDetailAddendumA adds-26 refl refl nextBofd (λ d y. refl) (λ p d. refl) (27 ∷ 28 ∷ ends) refl
     past a (optionalThen b (c ++ [])) (optionalThen b (c ++ rest)) 1 (sound .addenda-a) (omega (arith, bofd))
-    (allow-at (26 ∷ 27 ∷ 28 ∷ ends) last refl) owes
+    (allow-at (26 ∷ 27 ∷ 28 ∷ ends) (owes .inside) last refl) owes
     (λ x w. optional-good checkDetailAddendumB adds-27 refl refl (28 ∷ ends) refl (λ p d. refl)
     (onto a past) b (c ++ []) (c ++ rest) (sound .addendum-b) x w
     (λ y v. run-good checkDetailAddendumC adds-28 refl refl nextEndorser (λ d y. refl) (λ p d. refl) ends refl
-    (afterOptional (onto a past) b) c [] rest 1 (sound .addenda-c) (omega (arith, still, endorser)) y v
-    (λ z. on (record { view = z .may 50 refl; item = z .may 25 refl; control = z .may 70 refl }))))
+    (afterOptional (onto a past) b) c [] rest 1 (sound .addenda-c) (omega (arith, still, endorser)) y v on))
 addenda-good past (ofReturn a b c d) rest sound last bofd endorser owes on =
-    let ends : List ℕ = 50 ∷ 31 ∷ 70 ∷ [] in
+    let ends : List ℕ = 50 ∷ endsOf (ofReturn a b c d) in
     let still = endorser-return past a b c d (addenda-typed (ofReturn a b c d) sound) in
     run-good returnAddendumA adds-32 refl refl nextBofd (λ d y. refl) (λ p d. refl) (33 ∷ []) refl
     past a (b ∷ optionalThen c (d ++ [])) (b ∷ optionalThen c (d ++ rest)) 1 (sound .addenda-a) (omega (arith, bofd))
-    (allow-at (32 ∷ 33 ∷ []) last refl) owes
+    (allow-at (32 ∷ 33 ∷ []) (owes .inside) last refl) owes
     (λ x w. one-good returnAddendumB adds-33 refl refl
     (onto a past) b (optionalThen c (d ++ [])) (optionalThen c (d ++ rest)) (sound .addendum-b) (x .may 33 refl) refl w
     (λ v. optional-good returnAddendumC adds-34 refl refl (35 ∷ ends) refl (λ p d. refl)
-    (b ∷ onto a past) c (d ++ []) (d ++ rest) (sound .addendum-c) (allow-at (34 ∷ 35 ∷ ends) (sound .addendum-b .type) refl) v
+    (b ∷ onto a past) c (d ++ []) (d ++ rest) (sound .addendum-c) (allow-at (34 ∷ 35 ∷ ends) (v .inside) (sound .addendum-b .type) refl) v
     (λ y u. run-good returnAddendumD adds-35 refl refl nextEndorser (λ d y. refl) (λ p d. refl) ends refl
-    (afterOptional (b ∷ onto a past) c) d [] rest 1 (sound .addenda-d) (omega (arith, still, endorser)) y u
-    (λ z. on (record { view = z .may 50 refl; item = z .may 31 refl; control = z .may 70 refl })))))
+    (afterOptional (b ∷ onto a past) c) d [] rest 1 (sound .addenda-d) (omega (arith, still, endorser)) y u on)))
+addenda-good past ofCredit rest sound last bofd endorser owes on = on (allow-at (50 ∷ endsOf ofCredit) (owes .inside) last refl) owes

@@ -13,7 +13,7 @@ use Rattle.file_as_records.specs.Framed.{Body}
 use Rattle.file_as_records.proofs.Figures.{value, addendaIn, bofdIn, endorserIn}
 use Rattle.file_as_records.proofs.Good.{Good, GoodAll, onto}
 use Rattle.file_as_records.proofs.CheckLists.{numberedAs}
-use Rattle.arrangement.specs.Tree.{Addenda, ofCheck, ofReturn}
+use Rattle.arrangement.specs.Tree.{Addenda, ofCheck, ofReturn, ofCredit}
 use Rattle.arrangement.specs.Written.{optionalThen, addendaThen}
 use Rattle.arrangement.specs.Sound.{All, IfAny, Right, Numbered, stated, SoundAddenda}
 use Rattle.arrangement.specs.TypesInPlace.{OfType, TypedAddenda}
@@ -97,3 +97,4 @@ addenda-sound past (ofReturn a b c d) rest typed bofd endorser short good =
       short = z .short;
       behind = z .behind;
     }
+addenda-sound past ofCredit rest typed bofd endorser short good = record { sound = tt; short = short; behind = good }

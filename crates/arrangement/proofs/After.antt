@@ -7,8 +7,8 @@ use mathlib.Core.Option.{Option, none, some}
 use lib.ListN.{length}
 use Rattle.file_as_records.specs.Framed.{Body}
 use Rattle.file_as_records.proofs.Good.{onto}
-use Rattle.arrangement.specs.Tree.{View, Addenda, ofCheck, ofReturn, Item, Bundle, CashLetter}
-use Rattle.arrangement.specs.Written.{optionalThen, viewsThen, addendaThen, itemThen, itemsThen, bundlesThen, lettersThen}
+use Rattle.arrangement.specs.Tree.{View, Addenda, ofCheck, ofReturn, ofCredit, Item, Bundle, Credit, Content, bundled, direct, CashLetter}
+use Rattle.arrangement.specs.Written.{optionalThen, viewsThen, addendaThen, itemThen, itemsThen, bundleThen, contentThen, contentsThen, lettersThen}
 use Rattle.arrangement.specs.Sound.{All, total}
 
 -- the records read after those of past, part by part
@@ -30,6 +30,7 @@ afterViews past vs = afterEach afterView past vs
 abbrev pub afterAddenda : List Body → Addenda → List Body
 afterAddenda past (ofCheck a b c) = onto c (afterOptional (onto a past) b)
 afterAddenda past (ofReturn a b c d) = onto d (afterOptional (b ∷ onto a past) c)
+afterAddenda past ofCredit = past
 
 abbrev pub afterItem : List Body → Item → List Body
 afterItem past i = afterViews (afterAddenda (i .detail ∷ past) (i .addenda)) (i .views)
@@ -40,11 +41,22 @@ afterItems past is = afterEach afterItem past is
 abbrev pub afterBundle : List Body → Bundle → List Body
 afterBundle past b = b .control ∷ afterItems (b .header ∷ past) (b .items)
 
-abbrev pub afterBundles : List Body → List Bundle → List Body
-afterBundles past bs = afterEach afterBundle past bs
+-- A credit directly in a cash letter is an item without addenda: what holds behind any item holds behind it.
+abbrev pub asItem : Credit → Item
+asItem c = record { detail = c .detail; addenda = ofCredit; views = c .views }
+
+abbrev pub afterCredit : List Body → Credit → List Body
+afterCredit past c = afterItem past (asItem c)
+
+abbrev pub afterContent : List Body → Content → List Body
+afterContent past (bundled b) = afterBundle past b
+afterContent past (direct c) = afterCredit past c
+
+abbrev pub afterContents : List Body → List Content → List Body
+afterContents past cs = afterEach afterContent past cs
 
 abbrev pub afterLetter : List Body → CashLetter → List Body
-afterLetter past l = l .control ∷ afterBundles (l .header ∷ past) (l .bundles)
+afterLetter past l = l .control ∷ afterContents (l .header ∷ past) (l .contents)
 
 abbrev pub afterLetters : List Body → List CashLetter → List Body
 afterLetters past ls = afterEach afterLetter past ls
@@ -69,6 +81,7 @@ onto-addenda past (ofCheck a b c) rest =
 onto-addenda past (ofReturn a b c d) rest =
     onto-run past a (b ∷ optionalThen c (d ++ rest)) ∙ onto-optional (b ∷ onto a past) c (d ++ rest)
     ∙ onto-run (afterOptional (b ∷ onto a past) c) d rest
+onto-addenda past ofCredit rest = refl
 
 pub onto-item : (past : List Body) (i : Item) (rest : List Body) → onto (itemThen i rest) past ≡ onto rest (afterItem past i)
 onto-item past i rest =
@@ -79,21 +92,28 @@ pub onto-items : (past : List Body) (is : List Item) (rest : List Body) → onto
 onto-items past [] rest = refl
 onto-items past (i ∷ is) rest = onto-item past i (itemsThen is rest) ∙ onto-items (afterItem past i) is rest
 
-pub onto-bundles : (past : List Body) (bs : List Bundle) (rest : List Body) → onto (bundlesThen bs rest) past ≡ onto rest (afterBundles past bs)
-onto-bundles past [] rest = refl
-onto-bundles past (b ∷ bs) rest =
-    onto-items (b .header ∷ past) (b .items) (b .control ∷ bundlesThen bs rest) ∙ onto-bundles (afterBundle past b) bs rest
+pub onto-bundle : (past : List Body) (b : Bundle) (rest : List Body) → onto (bundleThen b rest) past ≡ onto rest (afterBundle past b)
+onto-bundle past b rest = onto-items (b .header ∷ past) (b .items) (b .control ∷ rest)
+
+pub onto-content : (past : List Body) (c : Content) (rest : List Body) → onto (contentThen c rest) past ≡ onto rest (afterContent past c)
+onto-content past (bundled b) rest = onto-bundle past b rest
+onto-content past (direct c) rest = onto-item past (asItem c) rest
+
+pub onto-contents : (past : List Body) (cs : List Content) (rest : List Body)
+    → onto (contentsThen cs rest) past ≡ onto rest (afterContents past cs)
+onto-contents past [] rest = refl
+onto-contents past (c ∷ cs) rest = onto-content past c (contentsThen cs rest) ∙ onto-contents (afterContent past c) cs rest
 
 pub onto-letters : (past : List Body) (ls : List CashLetter) (rest : List Body) → onto (lettersThen ls rest) past ≡ onto rest (afterLetters past ls)
 onto-letters past [] rest = refl
 onto-letters past (l ∷ ls) rest =
-    onto-bundles (l .header ∷ past) (l .bundles) (l .control ∷ lettersThen ls rest) ∙ onto-letters (afterLetter past l) ls rest
+    onto-contents (l .header ∷ past) (l .contents) (l .control ∷ lettersThen ls rest) ∙ onto-letters (afterLetter past l) ls rest
 
 pub length-onto : (past bs : List Body) → length (onto bs past) ≡ length bs + length past
 length-onto past [] = omega arith
 length-onto past (b ∷ bs) = omega (arith, length-onto (b ∷ past) bs)
 
--- From one part to a list of them. `Holds` is TypedView, TypedItem, TypedBundle or TypedLetter.
+-- From one part to a list of them. `Holds` is TypedView, TypedItem, TypedContent or TypedLetter.
 module _ {A : Type 0} (after : List Body → A → List Body) (Holds : A → Type 0) where
   pub quiet-each : {X : Type 0} (figure : List Body → X) → ((past : List Body) (x : A) → Holds x → figure (after past x) ≡ figure past)
       → (past : List Body) (xs : List A) → All Holds xs → figure (afterEach after past xs) ≡ figure past

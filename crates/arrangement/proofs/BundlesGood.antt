@@ -1,66 +1,132 @@
--- The records of sound bundles are good, one after the other. Assumes nothing.
-use mathlib.Core.Path.{_≡_, refl, sym, _∙_}
+-- The records of what a sound cash letter holds, bundles and credits, are good, one after the other. Assumes nothing.
+use native.Mathlib.Omega.{arith}
+use mathlib.Core.Bool.{true, false}
+use mathlib.Core.Path.{_≡_, refl, sym, ap, _∙_}
 use mathlib.Core.List.{List, [], _∷_}
-use Rattle.order.specs.MayFollow.{follows}
+use Rattle.judge.specs.Alone.{typeOf}
+use Rattle.order.specs.MayFollow.{isCheckOrReturn, isOneOf, follows}
 use Rattle.file_as_records.specs.Framed.{Body}
-use Rattle.file_as_records.proofs.Figures.{indicatorIn, lastIn}
+use Rattle.file_as_records.proofs.Figures.{holderIn, is, newest}
 use Rattle.file_as_records.proofs.Good.{GoodAll}
+use Rattle.file_as_records.proofs.Tests.{refuted}
 use Rattle.file_as_records.proofs.TotalsByName.{BundleTotals}
-use Rattle.arrangement.specs.Tree.{Bundle}
-use Rattle.arrangement.specs.Written.{bundleThen, bundlesThen}
-use Rattle.arrangement.specs.Sound.{All, indicator, SoundBundle}
-use Rattle.arrangement.proofs.After.{afterItems, afterBundle, afterBundles}
-use Rattle.arrangement.proofs.Quiet.{step}
+use Rattle.arrangement.specs.Tree.{Addenda, ofCheck, ofReturn, ofCredit, Bundle, Credit, Content, bundled, direct}
+use Rattle.arrangement.specs.Written.{bundleThen, creditThen, contentThen, contentsThen}
+use Rattle.arrangement.specs.Sound.{All, layoutIn, inLetter, SoundBundle, SoundCredit, SoundContent}
+use Rattle.arrangement.proofs.After.{afterItems, afterBundle, afterCredit, afterContent, afterContents, asItem}
+use Rattle.arrangement.proofs.Quiet.{step, item-of}
 use Rattle.arrangement.proofs.Levels.{bundle-figures}
-use Rattle.arrangement.proofs.Turns.{Settled}
-use Rattle.arrangement.proofs.InItem.{nextIndicator}
-use Rattle.arrangement.proofs.Making.{Allow, made-20, made-70, allow-at, settled-on}
-use Rattle.arrangement.proofs.SoundTyped.{bundle-typed}
-use Rattle.arrangement.proofs.ItemsGood.{started, filled-good}
+use Rattle.arrangement.proofs.Turns.{Settled, Viewed}
+use Rattle.arrangement.proofs.InItem.{indicator-is, nextHolder}
+use Rattle.arrangement.proofs.InLetter.{InLetter, bundle-begun, around-credit, behind-content}
+use Rattle.arrangement.proofs.ItemFigures.{fresh, in-letter, item-figures, nextPresent}
+use Rattle.arrangement.proofs.Making.{Allow, allow-at, allow-rest, made-20, made-70, made-item, settled-on}
+use Rattle.arrangement.proofs.SoundTyped.{bundle-typed, credit-typed}
+use Rattle.arrangement.proofs.ViewsGood.{Ends, views-good}
+use Rattle.arrangement.proofs.ItemsGood.{Between, items-good}
 
--- before a bundle, and behind one
-pub record Bundling (letter : Body) (past : List Body) : Type 0 where
+-- before what a cash letter holds, and behind it: no view is owed, since no check or return comes before in the same bundle
+pub record Holding (letter : Body) (past : List Body) : Type 0 where
+  pub here : InLetter letter past
   pub settled : Settled past
-  pub letter-is : indicatorIn past ≡ indicator letter
-  pub next : Allow (20 ∷ 90 ∷ []) (lastIn past)
+  pub unheld : isCheckOrReturn (holderIn past) ≡ false
+  pub next : Allow (20 ∷ 61 ∷ 90 ∷ []) past
+
+none-owed : (past : List Body) → isCheckOrReturn (holderIn past) ≡ false → Viewed past
+none-owed past e = λ k h. refuted (isCheckOrReturn (holderIn past)) e k
+
+-- before a bundle's first item, whatever its type
+first-item : (a : Addenda) → isOneOf (layoutIn a .typeNumber) (25 ∷ 31 ∷ 61 ∷ []) ≡ true
+first-item (ofCheck a b c) = refl
+first-item (ofReturn a b c d) = refl
+first-item ofCredit = refl
+
+started : (letter b : Body) (past : List Body) → typeOf b ≡ 20 → Holding letter past → Between letter b (b ∷ past)
+unfolding follows
+started letter b past e h =
+    let around = bundle-begun letter b past e (h .here) in
+    let behind-20 : Allow (25 ∷ 31 ∷ 61 ∷ []) (b ∷ past) = allow-at (25 ∷ 31 ∷ 61 ∷ []) (around .inside-is) e refl in
+    record {
+      around = around;
+      settled = settled-on past b 20 e refl refl (h .settled);
+      viewed = none-owed (b ∷ past) (ap isCheckOrReturn (step 0 nextHolder past b 20 e));
+      next = λ a same. behind-20 .may (layoutIn a .typeNumber) (first-item a);
+    }
+
+-- behind a view directly in a cash letter
+views-end : Ends false (20 ∷ 61 ∷ 90 ∷ [])
+unfolding follows
+views-end = record { behind-50 = refl; behind-52 = refl; behind-54 = refl }
 
 module _ (letter : Body) where
-  bundle-good : (b : Bundle) (past rest : List Body) → SoundBundle letter b → Bundling letter past
-      → (Bundling letter (afterBundle past b) → GoodAll (afterBundle past b) rest) → GoodAll past (bundleThen b rest)
+  bundle-good : (b : Bundle) (past rest : List Body) → SoundBundle letter b → Holding letter past
+      → (Holding letter (afterBundle past b) → GoodAll (afterBundle past b) rest) → GoodAll past (bundleThen b rest)
   unfolding follows
   bundle-good b past rest sound h on =
       let typed = bundle-typed letter b sound in
       let f = bundle-figures b past typed in
       let before = afterItems (b .header ∷ past) (b .items) in
       let c = b .control in
+      let here = behind-content letter (bundled b) past typed (h .here) in
+      let none-yet = step 0 nextPresent past (b .header) 20 (typed .header) in
       let totals : BundleTotals before c =
       record {
-        item-count = sound .item-count ∙ sym (f .items);
-        debit = sound .debit ∙ sym (f .debit);
+        debit-count = sound .debit-count ∙ sym (f .debits);
+        debit-cents = sound .debit-cents ∙ sym (f .debit);
         valid = rw (f .valid) (sound .valid);
         view-count = sound .view-count ∙ sym (f .views);
-        credit-count = sound .credit-count;
-        credit = sound .credit;
+        credit-count = sound .credit-count ∙ sym (f .credits);
+        credit-cents = sound .credit-cents ∙ sym (f .credit);
       } in
       record {
-        first = made-20 past (b .header) (sound .header) (h .next .may 20 refl) (h .settled) (λ e. sound .allowed (sym (h .letter-is) ∙ e));
+        first =
+            made-20 past (b .header) (sound .header) (h .next .may 20 refl) (h .settled)
+            (λ e. sound .allowed (sym (indicator-is past (h .here .letter-is)) ∙ e));
         rest =
-            filled-good letter (b .header) (b .items) (b .header ∷ past) (c ∷ rest) (sound .filled) (sound .items) (sound .one-item-type)
-            (started letter (b .header) past (typed .header) (h .settled) (h .letter-is))
-            (λ type w ends. record {
+            items-good letter (b .header) (b .items) (b .header ∷ past) (c ∷ rest) (sound .items) (rw none-yet (sound .one-item-type))
+            (started letter (b .header) past (typed .header) h) (λ e. absurd (omega (arith, sound .filled, e)))
+            (λ w ends. record {
               first = made-70 before c (sound .control) ends (w .settled) (w .viewed) totals;
               rest =
                   on
                   (record {
+                    here = here;
                     settled = settled-on before c 70 (typed .control) refl refl (w .settled);
-                    letter-is = step 0 nextIndicator before c 70 (typed .control) ∙ w .letter-is;
-                    next = allow-at (20 ∷ 90 ∷ []) (typed .control) refl;
+                    unheld = ap isCheckOrReturn (step 0 nextHolder before c 70 (typed .control));
+                    next = allow-at (20 ∷ 61 ∷ 90 ∷ []) (here .outside) (typed .control) refl;
                   });
             });
       }
 
-  pub bundles-good : (bs : List Bundle) (past rest : List Body) → All (SoundBundle letter) bs → Bundling letter past
-      → (Bundling letter (afterBundles past bs) → GoodAll (afterBundles past bs) rest) → GoodAll past (bundlesThen bs rest)
-  bundles-good [] past rest sound h on = on h
-  bundles-good (b ∷ bs) past rest sound h on =
-      bundle-good b past (bundlesThen bs rest) (sound .0) h (λ h₁. bundles-good bs (afterBundle past b) rest (sound .1) h₁ on)
+  credit-good : (c : Credit) (past rest : List Body) → SoundCredit letter c → Holding letter past
+      → (Holding letter (afterCredit past c) → GoodAll (afterCredit past c) rest) → GoodAll past (creditThen c rest)
+  unfolding follows
+  credit-good c past rest sound h on =
+      let typed = credit-typed letter c sound in
+      let new = fresh ofCredit (c .detail) past (typed .detail) in
+      let within = in-letter letter (newest (is 20) past) c past typed (around-credit letter past (h .here)) in
+      record {
+        first =
+            made-item ofCredit (c .detail) past (sound .detail) (h .next .may 61 refl) (h .settled) (none-owed past (h .unheld)) refl;
+        rest =
+            views-good false (20 ∷ 61 ∷ 90 ∷ []) views-end letter (inLetter letter c) (c .detail ∷ past) (c .views) rest (sound .views) within
+            (sound .unseen) (omega (arith, new .stated-is)) (allow-at (50 ∷ 20 ∷ 61 ∷ 90 ∷ []) (within .inside-is) (typed .detail) refl)
+            (λ settled ends. on
+            (record {
+              here = behind-content letter (direct c) past typed (h .here);
+              settled = settled;
+              unheld = item-figures (asItem c) past (item-of c typed) .demands;
+              next = allow-rest ends;
+            }));
+      }
+
+  content-good : (c : Content) (past rest : List Body) → SoundContent letter c → Holding letter past
+      → (Holding letter (afterContent past c) → GoodAll (afterContent past c) rest) → GoodAll past (contentThen c rest)
+  content-good (bundled b) past rest sound h on = bundle-good b past rest sound h on
+  content-good (direct c) past rest sound h on = credit-good c past rest sound h on
+
+  pub contents-good : (cs : List Content) (past rest : List Body) → All (SoundContent letter) cs → Holding letter past
+      → (Holding letter (afterContents past cs) → GoodAll (afterContents past cs) rest) → GoodAll past (contentsThen cs rest)
+  contents-good [] past rest sound h on = on h
+  contents-good (c ∷ cs) past rest sound h on =
+      content-good c past (contentsThen cs rest) (sound .0) h (λ h₁. contents-good cs (afterContent past c) rest (sound .1) h₁ on)

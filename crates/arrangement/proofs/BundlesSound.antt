@@ -1,7 +1,7 @@
--- Good records in the places of bundles make them sound. Assumes nothing.
+-- Good records in the places of what a cash letter holds, bundles and credits, make it sound. Assumes nothing.
 use Prim.Native.Nat.{_≤_}
 use native.Mathlib.Omega.{arith}
-use mathlib.Core.Bool.{false}
+use mathlib.Core.Bool.{Bool, true, false}
 use mathlib.Core.Path.{_≡_, refl, _∙_}
 use mathlib.Core.List.{List, [], _∷_}
 use lib.ListN.{length}
@@ -9,67 +9,40 @@ use Rattle.layout.specs.Layouts.{bundleControl, bundleHeader}
 use Rattle.judge.specs.Alone.{typeOf}
 use Rattle.order.specs.MayFollow.{follows}
 use Rattle.file_as_records.specs.Framed.{Body}
-use Rattle.file_as_records.proofs.Figures.{indicatorIn}
+use Rattle.file_as_records.proofs.Figures.{is, newest}
 use Rattle.file_as_records.proofs.Good.{GoodAll}
-use Rattle.arrangement.specs.Tree.{Addenda, ofCheck, ofReturn, Item, Bundle}
-use Rattle.arrangement.specs.Written.{itemsThen, bundleThen, bundlesThen}
-use Rattle.arrangement.specs.Sound.{All, layoutIn, layoutOf, indicator, OneItemType, SoundItem, SoundBundle}
-use Rattle.arrangement.specs.TypesInPlace.{TypedItem, TypedBundle}
+use Rattle.arrangement.specs.Tree.{Item, Bundle, Credit, Content, bundled, direct}
+use Rattle.arrangement.specs.Written.{itemsThen, bundleThen, creditThen, contentThen, contentsThen}
+use Rattle.arrangement.specs.Sound.{All, inLetter, SoundBundle, SoundCredit, SoundContent}
+use Rattle.arrangement.specs.TypesInPlace.{TypedBundle, TypedCredit, TypedContent}
 use Rattle.arrangement.proofs.Rightness.{right-in, known-20, known-70}
-use Rattle.arrangement.proofs.After.{afterItem, afterItems, afterBundle, afterBundles}
-use Rattle.arrangement.proofs.Quiet.{quiet-bundle, step, quiet-step}
+use Rattle.arrangement.proofs.After.{afterItems, afterBundle, afterCredit, afterContent, afterContents, asItem}
+use Rattle.arrangement.proofs.Quiet.{step, item-of}
 use Rattle.arrangement.proofs.Turns.{bundle-in, as-type, Found, not-after}
-use Rattle.arrangement.proofs.ItemFigures.{item-figures, quiet-indicator}
-use Rattle.arrangement.proofs.InItem.{nextIndicator, nextHeader}
+use Rattle.arrangement.proofs.InItem.{indicator-is}
+use Rattle.arrangement.proofs.InLetter.{InLetter, bundle-begun, around-credit, behind-content}
+use Rattle.arrangement.proofs.ItemFigures.{in-letter, nextPresent}
 use Rattle.arrangement.proofs.Levels.{bundle-figures}
-use Rattle.arrangement.proofs.ItemsSound.{item-sound, item-whole, items-sound}
-
--- the items of a bundle, all of them
-record Filled (letter header : Body) (its : List Item) (past rest : List Body) : Type 0 where
-  filled : 1 ≤ length its
-  items : All (SoundItem letter header) its
-  one-item-type : OneItemType its
-  behind : GoodAll (afterItems past its) rest
-
-some-type : (a : Addenda) → 1 ≤ layoutIn a .typeNumber
-some-type (ofCheck a b c) = omega arith
-some-type (ofReturn a b c d) = omega arith
+use Rattle.arrangement.proofs.ItemsSound.{item-sound, items-sound}
 
 -- no bundle is empty: a 70 does not follow a 20
-never-70 : follows 20 70 ≡ false
+never-70 : (opened : Bool) → follows opened 20 70 ≡ false
 unfolding follows
-never-70 = refl
+never-70 true = refl
+never-70 false = refl
+
+some-item : (its : List Item) (header c : Body) (past rest : List Body) → typeOf header ≡ 20 → typeOf c ≡ 70
+    → GoodAll (header ∷ past) (itemsThen its (c ∷ rest)) → 1 ≤ length its
+some-item [] header c past rest begins ends good = absurd (not-after 70 20 past header c begins ends never-70 (good .first))
+some-item (i ∷ its) header c past rest begins ends good = omega arith
 
 module _ (letter : Body) where
-  items-filled : (header : Body) (its : List Item) (past : List Body) (c : Body) (rest : List Body) → typeOf c ≡ 70 → typeOf header ≡ 20
-      → All TypedItem its → indicatorIn past ≡ indicator letter → GoodAll (header ∷ past) (itemsThen its (c ∷ rest))
-      → Filled letter header its (header ∷ past) (c ∷ rest)
-  items-filled header [] past c rest ends begins typed letter-is good =
-      absurd (not-after 70 20 past header c begins ends never-70 (good .first))
-  items-filled header (i ∷ its) past c rest ends begins typed letter-is good =
-      let before = header ∷ past in
-      let letter-now = quiet-step 0 nextIndicator past header 20 begins (λ d x. refl) ∙ letter-is in
-      let header-now = step [] nextHeader past header 20 begins in
-      let here = item-sound letter header i before (itemsThen its (c ∷ rest)) (typed .0) letter-now header-now good in
-      let f = item-figures i before (typed .0) in
-      let others =
-      items-sound letter header (layoutOf i .typeNumber) its (afterItem before i) c rest (some-type (i .addenda)) (typed .1) ends
-      (f .indicates ∙ letter-now) (f .heads ∙ header-now) (f .present) (here .behind) in
-      record {
-        filled = omega arith;
-        items = (
-          item-whole letter header i before (itemsThen its (c ∷ rest)) (typed .0) letter-now here (others .settled) (others .viewed),
-          others .items,
-        );
-        one-item-type = others .one-item-type;
-        behind = others .behind;
-      }
-
-  bundle-sound : (b : Bundle) (past rest : List Body) → TypedBundle b → indicatorIn past ≡ indicator letter → GoodAll past (bundleThen b rest)
+  bundle-sound : (b : Bundle) (past rest : List Body) → TypedBundle b → InLetter letter past → GoodAll past (bundleThen b rest)
       → Found (SoundBundle letter b) (afterBundle past b) rest
-  bundle-sound b past rest typed letter-is good =
+  bundle-sound b past rest typed here good =
       let header = as-type 20 past (b .header) (typed .header) (good .first) in
-      let its = items-filled (b .header) (b .items) past (b .control) rest (typed .control) (typed .header) (typed .items) letter-is (good .rest) in
+      let around = bundle-begun letter (b .header) past (typed .header) here in
+      let its = items-sound letter (b .header) (b .items) (b .header ∷ past) (b .control) rest (typed .items) (typed .control) around (good .rest) in
       let before = afterItems (b .header ∷ past) (b .items) in
       let control = as-type 70 before (b .control) (typed .control) (its .behind .first) in
       let totals = control .totalled .bundle refl in
@@ -78,26 +51,37 @@ module _ (letter : Body) where
         sound =
             record {
               header = right-in bundleHeader (b .header) known-20 (typed .header) (header .alone);
-              allowed = λ e. bundle-in past (b .header) header (letter-is ∙ e);
-              filled = its .filled;
+              allowed = λ e. bundle-in past (b .header) header (indicator-is past (here .letter-is) ∙ e);
+              filled = some-item (b .items) (b .header) (b .control) past rest (typed .header) (typed .control) (good .rest);
               items = its .items;
-              one-item-type = its .one-item-type;
+              one-item-type = rw (step 0 nextPresent past (b .header) 20 (typed .header)) at (its .one-item-type);
               control = right-in bundleControl (b .control) known-70 (typed .control) (control .alone);
-              item-count = totals .item-count ∙ f .items;
-              debit = totals .debit ∙ f .debit;
+              debit-count = totals .debit-count ∙ f .debits;
+              debit-cents = totals .debit-cents ∙ f .debit;
               valid = rw (f .valid) at (totals .valid);
               view-count = totals .view-count ∙ f .views;
-              credit-count = totals .credit-count;
-              credit = totals .credit;
+              credit-count = totals .credit-count ∙ f .credits;
+              credit-cents = totals .credit-cents ∙ f .credit;
             };
         behind = its .behind .rest;
       }
 
-  pub bundles-sound : (bs : List Bundle) (past rest : List Body) → All TypedBundle bs → indicatorIn past ≡ indicator letter
-      → GoodAll past (bundlesThen bs rest) → Found (All (SoundBundle letter) bs) (afterBundles past bs) rest
-  bundles-sound [] past rest typed letter-is good = record { sound = tt; behind = good }
-  bundles-sound (b ∷ bs) past rest typed letter-is good =
-      let here = bundle-sound b past (bundlesThen bs rest) (typed .0) letter-is good in
-      let still = quiet-bundle 0 nextIndicator quiet-indicator past b (typed .0) in
-      let others = bundles-sound bs (afterBundle past b) rest (typed .1) (still ∙ letter-is) (here .behind) in
-      record { sound = (here .sound, others .sound); behind = others .behind }
+  credit-sound : (c : Credit) (past rest : List Body) → TypedCredit c → InLetter letter past → GoodAll past (creditThen c rest)
+      → Found (SoundCredit letter c) (afterCredit past c) rest
+  credit-sound c past rest typed here good =
+      let within = in-letter letter (newest (is 20) past) c past typed (around-credit letter past here) in
+      let found = item-sound false letter (inLetter letter c) (asItem c) past rest (item-of c typed) within good in
+      record { sound = record { detail = found .first .right; views = found .views; unseen = found .unseen }; behind = found .behind }
+
+  content-sound : (c : Content) (past rest : List Body) → TypedContent c → InLetter letter past → GoodAll past (contentThen c rest)
+      → Found (SoundContent letter c) (afterContent past c) rest
+  content-sound (bundled b) past rest typed here good = bundle-sound b past rest typed here good
+  content-sound (direct c) past rest typed here good = credit-sound c past rest typed here good
+
+  pub contents-sound : (cs : List Content) (past rest : List Body) → All TypedContent cs → InLetter letter past → GoodAll past (contentsThen cs rest)
+      → Found (All (SoundContent letter) cs) (afterContents past cs) rest
+  contents-sound [] past rest typed here good = record { sound = tt; behind = good }
+  contents-sound (c ∷ cs) past rest typed here good =
+      let first = content-sound c past (contentsThen cs rest) (typed .0) here good in
+      let others = contents-sound cs (afterContent past c) rest (typed .1) (behind-content letter c past (typed .0) here) (first .behind) in
+      record { sound = (first .sound, others .sound); behind = others .behind }

@@ -1,18 +1,18 @@
--- Parts of an arrangement each of which adds to a figure of the records before. Assumes nothing.
+-- Parts of an arrangement each of which adds one to a figure of the records before. Assumes nothing.
 use Prim.Native.Nat.{ℕ, _+_}
 use native.Mathlib.Omega.{arith}
-use mathlib.Core.Path.{_≡_, ap, _∙_}
+use mathlib.Core.Path.{_≡_, _∙_}
 use mathlib.Core.Bool.{Bool, cond}
 use mathlib.Core.List.{List, [], _∷_}
 use lib.ListN.{length}
 use Rattle.file_as_records.specs.Framed.{Body}
 use Rattle.file_as_records.proofs.Figures.{value}
 use Rattle.file_as_records.proofs.Good.{onto}
-use Rattle.arrangement.specs.Tree.{View, Bundle, CashLetter}
-use Rattle.arrangement.specs.Sound.{All}
-use Rattle.arrangement.specs.TypesInPlace.{OfType, TypedView, TypedItem, TypedBundle, TypedLetter}
-use Rattle.arrangement.proofs.Quiet.{Quiet, QuietBundles, QuietItems, quiet-bundles, quiet-items, quiet-optional, quiet-step, step}
-use Rattle.arrangement.proofs.After.{afterBundle, afterBundles, afterItems, afterLetter, afterView, afterViews, count-each}
+use Rattle.arrangement.specs.Tree.{View, Bundle, Content, bundled, direct, CashLetter}
+use Rattle.arrangement.specs.Sound.{All, isBundle}
+use Rattle.arrangement.specs.TypesInPlace.{OfType, TypedView, TypedBundle, TypedContent, TypedLetter}
+use Rattle.arrangement.proofs.Quiet.{Quiet, QuietContents, QuietItems, item-of, quiet-contents, quiet-item, quiet-items, quiet-optional, quiet-step, step}
+use Rattle.arrangement.proofs.After.{afterBundle, afterContent, afterContents, afterItems, afterLetter, afterView, afterViews, asItem, count-each}
 
 -- how `sumSince begins measure` goes on: `sumSince begins measure past` is `value 0 (adding begins measure) past`
 abbrev pub adding : (ℕ → Bool) → (ℕ → Body → ℕ) → ℕ → Body → ℕ → ℕ
@@ -40,33 +40,22 @@ module _ (first : ℕ) (next : ℕ → Body → ℕ → ℕ) where
       → value first next (afterViews past vs) ≡ length vs + value first next past
   count-views c q52 q54 past vs k = count-each afterView TypedView (value first next) (count-view c q52 q54) past vs k
 
-  pub count-bundle : Counts next 20 → QuietItems next → Quiet next 70 → (past : List Body) (b : Bundle) → TypedBundle b
+  count-bundle : Counts next 20 → QuietItems next → Quiet next 70 → (past : List Body) (b : Bundle) → TypedBundle b
       → value first next (afterBundle past b) ≡ 1 + value first next past
   count-bundle c q q70 past b k =
       quiet-step first next (afterItems (b .header ∷ past) (b .items)) (b .control) 70 (k .control) q70
       ∙ quiet-items first next q (b .header ∷ past) (b .items) (k .items)
       ∙ step first next past (b .header) 20 (k .header) ∙ c (b .header) (value first next past)
 
-  pub count-letter : Counts next 10 → QuietBundles next → Quiet next 90 → (past : List Body) (l : CashLetter) → TypedLetter l
+  -- a bundle counts, and a credit directly in a cash letter does not
+  pub count-content : Counts next 20 → QuietItems next → Quiet next 70 → (past : List Body) (c : Content) → TypedContent c
+      → value first next (afterContent past c) ≡ isBundle c + value first next past
+  count-content counts q q70 past (bundled b) k = count-bundle counts q q70 past b k
+  count-content counts q q70 past (direct c) k = omega (arith, quiet-item first next q past (asItem c) (item-of c k))
+
+  pub count-letter : Counts next 10 → QuietContents next → Quiet next 90 → (past : List Body) (l : CashLetter) → TypedLetter l
       → value first next (afterLetter past l) ≡ 1 + value first next past
   count-letter c q q90 past l k =
-      quiet-step first next (afterBundles (l .header ∷ past) (l .bundles)) (l .control) 90 (k .control) q90
-      ∙ quiet-bundles first next q (l .header ∷ past) (l .bundles) (k .bundles)
+      quiet-step first next (afterContents (l .header ∷ past) (l .contents)) (l .control) 90 (k .control) q90
+      ∙ quiet-contents first next q (l .header ∷ past) (l .contents) (k .contents)
       ∙ step first next past (l .header) 10 (k .header) ∙ c (l .header) (value first next past)
-
-  -- what the items of a bundle add, the bundle adds; what the bundles of a cash letter add, the cash letter adds
-  pub sum-bundle : (part : Bundle → ℕ) → Quiet next 20 → Quiet next 70
-      → ((past : List Body) (b : Bundle) → All TypedItem (b .items)
-      → value first next (afterItems past (b .items)) ≡ part b + value first next past)
-      → (past : List Body) (b : Bundle) → TypedBundle b → value first next (afterBundle past b) ≡ part b + value first next past
-  sum-bundle part q20 q70 within past b k =
-      quiet-step first next (afterItems (b .header ∷ past) (b .items)) (b .control) 70 (k .control) q70
-      ∙ within (b .header ∷ past) b (k .items) ∙ ap (λ (n : ℕ). part b + n) (quiet-step first next past (b .header) 20 (k .header) q20)
-
-  pub sum-letter : (part : CashLetter → ℕ) → Quiet next 10 → Quiet next 90
-      → ((past : List Body) (l : CashLetter) → All TypedBundle (l .bundles)
-      → value first next (afterBundles past (l .bundles)) ≡ part l + value first next past)
-      → (past : List Body) (l : CashLetter) → TypedLetter l → value first next (afterLetter past l) ≡ part l + value first next past
-  sum-letter part q10 q90 within past l k =
-      quiet-step first next (afterBundles (l .header ∷ past) (l .bundles)) (l .control) 90 (k .control) q90
-      ∙ within (l .header ∷ past) l (k .bundles) ∙ ap (λ (n : ℕ). part l + n) (quiet-step first next past (l .header) 10 (k .header) q10)

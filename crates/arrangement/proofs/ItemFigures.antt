@@ -1,23 +1,23 @@
 -- The figures at an item's first record, and those that the item leaves. Assumes nothing.
-use Prim.Native.Nat.{ℕ, _+_}
+use Prim.Native.Nat.{ℕ}
 use native.Mathlib.Omega.{arith}
-use mathlib.Core.Bool.{true, false}
-use mathlib.Core.Path.{_≡_, refl, sym, _∙_}
+use mathlib.Core.Bool.{Bool, true, false, _||_, cond}
+use mathlib.Core.Path.{_≡_, refl, sym, ap, _∙_}
 use mathlib.Core.List.{List, [], _∷_}
 use lib.Dec.{eqb}
 use lib.ListN.{length}
 use Rattle.judge.specs.Alone.{typeOf}
-use Rattle.order.specs.MayFollow.{isItem}
+use Rattle.order.specs.MayFollow.{isCheckOrReturn, isItem}
 use Rattle.file_as_records.specs.Framed.{Body}
-use Rattle.file_as_records.proofs.Figures.{value, is, newest, count, statedAs, indicatorIn, presentIn, statedIn, addendaIn, bofdIn, endorserIn, shownIn, itemsSince}
-use Rattle.arrangement.specs.Tree.{Addenda, ofCheck, ofReturn, Item}
+use Rattle.file_as_records.proofs.Figures.{value, is, newest, count, sequenceOf, statedAs, holderIn, presentIn, statedIn, addendaIn, bofdIn, endorserIn, shownIn}
+use Rattle.arrangement.specs.Tree.{Addenda, ofCheck, ofReturn, ofCredit, Item, Credit}
 use Rattle.arrangement.specs.Written.{addendaThen}
-use Rattle.arrangement.specs.Sound.{layoutIn, layoutOf, statedAddenda, indicator}
-use Rattle.arrangement.specs.TypesInPlace.{OfType, TypedItem}
-use Rattle.arrangement.proofs.Quiet.{QuietAddenda, QuietBundles, quiet-views, quiet-addenda, QuietViews, step}
+use Rattle.arrangement.specs.Sound.{layoutIn, layoutOf, sequenceIn, demandsView, Owner, inBundle, inLetter}
+use Rattle.arrangement.specs.TypesInPlace.{OfType, TypedItem, TypedCredit}
+use Rattle.arrangement.proofs.Quiet.{QuietAddenda, QuietItems, QuietContents, quiet-views, quiet-addenda, quiet-item, QuietViews, quiet-first, item-of, step}
 use Rattle.arrangement.proofs.Counting.{count-views, adding}
-use Rattle.arrangement.proofs.After.{afterAddenda, afterItem}
-use Rattle.arrangement.proofs.InItem.{InItem, nextDetail, nextHeader, nextIndicator, nextPresent}
+use Rattle.arrangement.proofs.After.{afterAddenda, afterItem, asItem}
+use Rattle.arrangement.proofs.InItem.{Around, InItem, ownerOf, nextDetail, nextHeader, nextHolder, nextInside, nextLetter}
 use Rattle.arrangement.proofs.OwnAddenda.{addenda-count, nextAddenda, nextBofd, nextEndorser, nextStated}
 use Rattle.arrangement.specs.Sound as sound
 
@@ -29,16 +29,16 @@ pub record Fresh (a : Addenda) (d : Body) (past : List Body) : Type 0 where
   pub shown : shownIn (d ∷ past) ≡ 0
   pub stated-is : statedIn (d ∷ past) ≡ sound.statedIn a d
   pub detail-is : newest isItem (d ∷ past) ≡ d
-  pub present : presentIn (d ∷ past) ≡ layoutIn a .typeNumber
+  pub holder : holderIn (d ∷ past) ≡ layoutIn a .typeNumber
 
 abbrev pub nextShown : ℕ → Body → ℕ → ℕ
 nextShown t b x = adding isItem (count (is 50)) t b x
 
-abbrev pub nextItems : ℕ → Body → ℕ → ℕ
-nextItems t b x = adding (is 20) (count isItem) t b x
+abbrev pub nextPresent : ℕ → Body → ℕ → ℕ
+nextPresent t b x = cond (eqb t 20) 0 (cond (isCheckOrReturn t) t x)
 
-fresh-of : (t : ℕ) (a : Addenda) (d : Body) (past : List Body) → typeOf d ≡ t → isItem t ≡ true → eqb t 20 ≡ false → statedAs t d ≡ sound.statedIn a d
-    → layoutIn a .typeNumber ≡ t → Fresh a d past
+fresh-of : (t : ℕ) (a : Addenda) (d : Body) (past : List Body) → typeOf d ≡ t → isItem t ≡ true → eqb t 10 || (eqb t 20 || eqb t 70) ≡ false
+    → statedAs t d ≡ sound.statedIn a d → layoutIn a .typeNumber ≡ t → Fresh a d past
 fresh-of t a d past k i n s q =
     record {
       bofd = step 0 nextBofd past d t k ∙ simp i;
@@ -47,26 +47,38 @@ fresh-of t a d past k i n s q =
       shown = step 0 nextShown past d t k ∙ simp i;
       stated-is = step 0 nextStated past d t k ∙ simp i s;
       detail-is = step [] nextDetail past d t k ∙ simp i;
-      present = step 0 nextPresent past d t k ∙ simp (i, n) (sym q);
+      holder = step 0 nextHolder past d t k ∙ simp (i, n) (sym q);
     }
 
 pub fresh : (a : Addenda) (d : Body) (past : List Body) → OfType (layoutIn a .typeNumber) d → Fresh a d past
 fresh (ofCheck a b c) d past k = fresh-of 25 (ofCheck a b c) d past k refl refl refl refl
 fresh (ofReturn a b c e) d past k = fresh-of 31 (ofReturn a b c e) d past k refl refl refl refl
+fresh ofCredit d past k = fresh-of 61 ofCredit d past k refl refl refl refl
 
--- only a cash letter header has the indicator
-pub quiet-indicator : QuietBundles nextIndicator
-quiet-indicator = search
+-- the type of a bundle's checks or returns behind an item, where it was `present` before: a 61 does not set it
+abbrev pub presentWith : Addenda → ℕ → ℕ
+presentWith (ofCheck a b c) present = 25
+presentWith (ofReturn a b c d) present = 31
+presentWith ofCredit present = present
+
+present-step : (a : Addenda) (d : Body) (past : List Body) → OfType (layoutIn a .typeNumber) d → presentIn (d ∷ past) ≡ presentWith a (presentIn past)
+present-step (ofCheck a b c) d past k = step 0 nextPresent past d 25 k
+present-step (ofReturn a b c e) d past k = step 0 nextPresent past d 31 k
+present-step ofCredit d past k = step 0 nextPresent past d 61 k
+
+-- views are demanded of checks and returns
+demanded : (a : Addenda) → isCheckOrReturn (layoutIn a .typeNumber) ≡ demandsView a
+demanded (ofCheck a b c) = refl
+demanded (ofReturn a b c d) = refl
+demanded ofCredit = refl
 
 -- what an item with all its records leaves
 pub record ItemFigures (i : Item) (past : List Body) : Type 0 where
   pub addenda : addendaIn (afterItem past i) ≡ length (addendaThen (i .addenda) [])
-  pub stated-is : statedIn (afterItem past i) ≡ statedAddenda i
+  pub stated-is : statedIn (afterItem past i) ≡ sound.statedIn (i .addenda) (i .detail)
   pub shown : shownIn (afterItem past i) ≡ length (i .views)
-  pub items : itemsSince (is 20) (afterItem past i) ≡ 1 + itemsSince (is 20) past
-  pub indicates : indicatorIn (afterItem past i) ≡ indicatorIn past
-  pub heads : newest (is 20) (afterItem past i) ≡ newest (is 20) past
-  pub present : presentIn (afterItem past i) ≡ layoutOf i .typeNumber
+  pub demands : isCheckOrReturn (holderIn (afterItem past i)) ≡ demandsView (i .addenda)
+  pub present : presentIn (afterItem past i) ≡ presentWith (i .addenda) (presentIn past)
 
 -- a figure that no record of an item moves on but the first
 module _ {X : Type 0} (first : X) (next : ℕ → Body → X → X) (qa : QuietAddenda next) (qv : QuietViews next) where
@@ -74,18 +86,6 @@ module _ {X : Type 0} (first : X) (next : ℕ → Body → X → X) (qa : QuietA
   to-detail past i k =
       quiet-views first next qv (afterAddenda (i .detail ∷ past) (i .addenda)) (i .views) (k .views)
       ∙ quiet-addenda first next qa (i .detail ∷ past) (i .addenda) (k .addenda)
-
-items-step : (a : Addenda) (d : Body) (past : List Body) → OfType (layoutIn a .typeNumber) d → itemsSince (is 20) (d ∷ past) ≡ 1 + itemsSince (is 20) past
-items-step (ofCheck a b c) d past k = step 0 nextItems past d 25 k
-items-step (ofReturn a b c e) d past k = step 0 nextItems past d 31 k
-
-pub indicates-step : (a : Addenda) (d : Body) (past : List Body) → OfType (layoutIn a .typeNumber) d → indicatorIn (d ∷ past) ≡ indicatorIn past
-indicates-step (ofCheck a b c) d past k = step 0 nextIndicator past d 25 k
-indicates-step (ofReturn a b c e) d past k = step 0 nextIndicator past d 31 k
-
-pub heads-step : (a : Addenda) (d : Body) (past : List Body) → OfType (layoutIn a .typeNumber) d → newest (is 20) (d ∷ past) ≡ newest (is 20) past
-heads-step (ofCheck a b c) d past k = step [] nextHeader past d 25 k
-heads-step (ofReturn a b c e) d past k = step [] nextHeader past d 31 k
 
 pub item-figures : (i : Item) (past : List Body) → TypedItem i → ItemFigures i past
 item-figures i past k =
@@ -100,21 +100,53 @@ item-figures i past k =
       shown =
           count-views 0 nextShown (λ b x. refl) (λ b x. omega arith) (λ b x. omega arith) before (i .views) (k .views)
           ∙ omega (arith, quiet-addenda 0 nextShown (omega arith) (i .detail ∷ past) (i .addenda) (k .addenda), f .shown);
-      items = to-detail 0 nextItems (omega arith) (omega arith) past i k ∙ items-step (i .addenda) (i .detail) past (k .detail);
-      indicates = to-detail 0 nextIndicator (search) (search) past i k ∙ indicates-step (i .addenda) (i .detail) past (k .detail);
-      heads = to-detail [] nextHeader (search) (search) past i k ∙ heads-step (i .addenda) (i .detail) past (k .detail);
-      present = to-detail 0 nextPresent (search) (search) past i k ∙ f .present;
+      demands = ap isCheckOrReturn (to-detail 0 nextHolder (search) (search) past i k ∙ f .holder) ∙ demanded (i .addenda);
+      present = to-detail 0 nextPresent (search) (search) past i k ∙ present-step (i .addenda) (i .detail) past (k .detail);
     }
 
--- an item's first record, in its bundle and cash letter
-module _ (letter header : Body) where
-  pub in-first : (i : Item) (past : List Body) → TypedItem i → indicatorIn past ≡ indicator letter → newest (is 20) past ≡ header
-      → InItem letter header i (i .detail ∷ past)
-  in-first i past k l h =
-      let f = fresh (i .addenda) (i .detail) past (k .detail) in
+-- what surrounds an item is as it was at its first record, and behind it
+inside-stays : QuietItems nextInside
+inside-stays = search
+
+header-stays : QuietItems nextHeader
+header-stays = search
+
+pub letter-stays : QuietContents nextLetter
+letter-stays = search
+
+module _ (inside : Bool) (letter header : Body) (i : Item) (past : List Body) (typed : TypedItem i) (around : Around inside letter header past) where
+  pub around-item : Around inside letter header (afterItem past i)
+  around-item =
       record {
-        letter-is = indicates-step (i .addenda) (i .detail) past (k .detail) ∙ l;
-        header-is = heads-step (i .addenda) (i .detail) past (k .detail) ∙ h;
-        detail-is = f .detail-is;
-        present = f .present;
+        inside-is = quiet-item false nextInside inside-stays past i typed ∙ around .inside-is;
+        letter-is = quiet-item [] nextLetter (letter-stays .items) past i typed ∙ around .letter-is;
+        header-is = quiet-item [] nextHeader header-stays past i typed ∙ around .header-is;
       }
+
+  in-first : (o : Owner) → ownerOf inside letter header (layoutOf i .typeNumber) (i .detail) ≡ o → InItem inside letter o (i .detail ∷ past)
+  in-first o e =
+      let f = fresh (i .addenda) (i .detail) past (typed .detail) in
+      let insides = quiet-first false nextInside (inside-stays .details) past i typed ∙ around .inside-is in
+      let letters = quiet-first [] nextLetter (letter-stays .items .details) past i typed ∙ around .letter-is in
+      let heads = quiet-first [] nextHeader (header-stays .details) past i typed ∙ around .header-is in
+      record {
+        inside-is = insides;
+        letter-is = letters;
+        owner-is = rw (insides, letters, heads, f .holder, f .detail-is) e;
+      }
+
+-- an item's first record, in a bundle, and directly in a cash letter
+sequence-of : (a : Addenda) (d : Body) → sequenceOf (layoutIn a .typeNumber) d ≡ sequenceIn a d
+sequence-of (ofCheck a b c) d = refl
+sequence-of (ofReturn a b c e) d = refl
+sequence-of ofCredit d = refl
+
+pub in-bundle : (letter header : Body) (i : Item) (past : List Body) → TypedItem i → Around true letter header past
+    → InItem true letter (inBundle header i) (i .detail ∷ past)
+in-bundle letter header i past typed around =
+    in-first true letter header i past typed around (inBundle header i) (rw (sequence-of (i .addenda) (i .detail)))
+
+pub in-letter : (letter header : Body) (c : Credit) (past : List Body) → TypedCredit c → Around false letter header past
+    → InItem false letter (inLetter letter c) (c .detail ∷ past)
+in-letter letter header c past typed around =
+    in-first false letter header (asItem c) past (item-of c typed) around (inLetter letter c) refl

@@ -1,107 +1,101 @@
 -- The records of a bundle's sound items are good, one after the other. Assumes nothing.
-use Prim.Native.Nat.{ℕ, _≤_}
+use Prim.Native.Nat.{ℕ}
 use native.Mathlib.Omega.{arith}
 use mathlib.Core.Bool.{true}
-use mathlib.Core.Logic.{_⊎_, inl, inr}
+use mathlib.Core.Logic.{_⊎_}
 use mathlib.Core.Path.{_≡_, refl, sym, _∙_, subst}
 use mathlib.Core.List.{List, [], _∷_}
 use lib.ListN.{length}
-use Rattle.judge.specs.Alone.{typeOf}
-use Rattle.order.specs.MayFollow.{follows}
+use Rattle.order.specs.MayFollow.{isOneOf, follows, oneItemType}
 use Rattle.file_as_records.specs.Framed.{Body}
-use Rattle.file_as_records.proofs.Figures.{is, newest, indicatorIn, presentIn, lastIn}
+use Rattle.file_as_records.proofs.Figures.{presentIn}
 use Rattle.file_as_records.proofs.Good.{GoodAll}
-use Rattle.arrangement.specs.Tree.{Addenda, ofCheck, ofReturn, Item}
+use Rattle.arrangement.specs.Tree.{Addenda, ofCheck, ofReturn, ofCredit, Item}
 use Rattle.arrangement.specs.Written.{viewsThen, itemThen, itemsThen}
-use Rattle.arrangement.specs.Sound.{All, layoutIn, layoutOf, indicator, I, F, SoundItem, OneItemType}
+use Rattle.arrangement.specs.Sound.{All, layoutIn, layoutOf, I, F, inBundle, itemTypes, AllTheFirst, SoundItem}
 use Rattle.arrangement.proofs.After.{afterAddenda, afterItem, afterItems}
-use Rattle.arrangement.proofs.Quiet.{step}
 use Rattle.arrangement.proofs.Turns.{Settled, Viewed}
-use Rattle.arrangement.proofs.ItemFigures.{in-first, nextItems, fresh, item-figures}
-use Rattle.arrangement.proofs.InItem.{in-addenda, nextIndicator, nextHeader, nextPresent}
-use Rattle.arrangement.proofs.Making.{made-item, settled-on}
-use Rattle.arrangement.proofs.AddendaGood.{addenda-good}
+use Rattle.arrangement.proofs.InItem.{Around, in-addenda, indicator-is}
+use Rattle.arrangement.proofs.ItemFigures.{presentWith, fresh, item-figures, in-bundle, around-item}
+use Rattle.arrangement.proofs.ItemTypes.{typesFrom, one-type-out}
+use Rattle.arrangement.proofs.Making.{Follows, allow-rest, made-item}
+use Rattle.arrangement.proofs.AddendaGood.{addenda-good, endsOf}
 use Rattle.arrangement.proofs.SoundTyped.{item-typed}
-use Rattle.arrangement.proofs.ViewsGood.{views-good}
+use Rattle.arrangement.proofs.ViewsGood.{Ends, views-good}
 
--- before an item of a type, and behind one
-pub record Between (letter header : Body) (type : ℕ) (past : List Body) : Type 0 where
+-- before an item of a bundle, and behind one: one may come whose type goes with those before it
+pub record Between (letter header : Body) (past : List Body) : Type 0 where
+  pub around : Around true letter header past
   pub settled : Settled past
   pub viewed : Viewed past
-  pub letter-is : indicatorIn past ≡ indicator letter
-  pub header-is : newest (is 20) past ≡ header
-  pub present : (presentIn past ≡ 0) ⊎ (presentIn past ≡ type)
-  pub allowed : follows (lastIn past) type ≡ true
+  pub next : (a : Addenda) → oneItemType (presentIn past) (layoutIn a .typeNumber) ≡ true → Follows past (layoutIn a .typeNumber)
+
+views-end : (a : Addenda) → Ends true (endsOf a)
+unfolding follows
+views-end (ofCheck a b c) = record { behind-50 = refl; behind-52 = refl; behind-54 = refl }
+views-end (ofReturn a b c d) = record { behind-50 = refl; behind-52 = refl; behind-54 = refl }
+views-end ofCredit = record { behind-50 = refl; behind-52 = refl; behind-54 = refl }
+
+control-ends : (a : Addenda) → isOneOf 70 (endsOf a) ≡ true
+control-ends (ofCheck a b c) = refl
+control-ends (ofReturn a b c d) = refl
+control-ends ofCredit = refl
+
+-- the types that go with an item are among those that may come behind it; where both tests fail, one is the other
+item-ends : (a b : Addenda) (present : ℕ) → oneItemType (presentWith a present) (layoutIn b .typeNumber) ≡ true
+    → isOneOf (layoutIn b .typeNumber) (endsOf a) ≡ true
+item-ends (ofCheck a b c) (ofCheck d e f) present h = h
+item-ends (ofCheck a b c) (ofReturn d e f g) present h = h
+item-ends (ofCheck a b c) ofCredit present h = h
+item-ends (ofReturn a b c d) (ofCheck e f g) present h = h
+item-ends (ofReturn a b c d) (ofReturn e f g i) present h = h
+item-ends (ofReturn a b c d) ofCredit present h = h
+item-ends ofCredit (ofCheck d e f) present h = refl
+item-ends ofCredit (ofReturn d e f g) present h = refl
+item-ends ofCredit ofCredit present h = refl
 
 module _ (letter header : Body) where
-  item-good : (i : Item) (past rest : List Body) → SoundItem letter header i → Between letter header (layoutOf i .typeNumber) past
-      → (Between letter header (layoutOf i .typeNumber) (afterItem past i) → follows (lastIn (afterItem past i)) 70 ≡ true
-      → GoodAll (afterItem past i) rest)
-      → GoodAll past (itemThen i rest)
-  item-good i past rest sound b on =
+  item-good : (i : Item) (past rest : List Body) → SoundItem letter header i → Between letter header past
+      → oneItemType (presentIn past) (layoutOf i .typeNumber) ≡ true
+      → (Between letter header (afterItem past i) → Follows (afterItem past i) 70 → GoodAll (afterItem past i) rest) → GoodAll past (itemThen i rest)
+  item-good i past rest sound b same on =
       let d = i .detail ∷ past in
+      let before = afterAddenda d (i .addenda) in
+      let after = afterItem past i in
       let typed = item-typed letter header i sound in
       let new = fresh (i .addenda) (i .detail) past (typed .detail) in
       let f = item-figures i past typed in
-      let before = afterAddenda d (i .addenda) in
-      let inside = in-addenda letter header i d (i .addenda) (typed .addenda) (in-first letter header i past typed (b .letter-is) (b .header-is)) in
-      let seen : Viewed (afterItem past i) =
-      λ h n. omega (arith, f .shown, sound .seen (subst (λ (y : ℕ). (y ≡ I) ⊎ (y ≡ F)) (f .indicates ∙ b .letter-is) h)) in
+      let within = in-bundle letter header i past typed (b .around) in
+      let inside = in-addenda true letter (inBundle header i) d (i .addenda) (typed .addenda) within in
+      let around = around-item true letter header i past typed (b .around) in
+      let letter-is = indicator-is after (around .letter-is) in
+      let seen : Viewed after =
+      λ k h. omega (arith, f .shown, sound .seen (sym (f .demands) ∙ k) (subst (λ (y : ℕ). (y ≡ I) ⊎ (y ≡ F)) letter-is h)) in
       record {
-        first = made-item (i .addenda) (i .detail) past (sound .detail) (b .allowed) (b .settled) (b .viewed) (b .present);
+        first = made-item (i .addenda) (i .detail) past (sound .detail) (b .next (i .addenda) same) (b .settled) (b .viewed) same;
         rest =
             addenda-good d (i .addenda) (viewsThen (i .views) rest) (sound .addenda) (typed .detail) (new .bofd) (new .endorser)
-            (omega (arith, sound .number, new .addenda, new .stated-is))
-            (λ begins owes. views-good letter header i before (i .views) rest (sound .views) inside (sound .unseen) (omega (arith, owes)) begins
+            (record { count = omega (arith, sound .number, new .addenda, new .stated-is); inside = within .inside-is })
+            (λ begins owes. views-good true (endsOf (i .addenda)) (views-end (i .addenda)) letter (inBundle header i) before (i .views) rest
+            (sound .views) inside (sound .unseen) (omega (arith, owes .count)) begins
             (λ settled ends. on
             (record {
+              around = around;
               settled = settled;
               viewed = seen;
-              letter-is = f .indicates ∙ b .letter-is;
-              header-is = f .heads ∙ b .header-is;
-              present = inr (f .present);
-              allowed = ends .item;
+              next = λ a h. allow-rest ends .may (layoutIn a .typeNumber) (item-ends (i .addenda) a (presentIn past) (rw (f .present) at h));
             })
-            (ends .control)));
+            (allow-rest ends .may 70 (control-ends (i .addenda)))));
       }
 
-  -- the items of a bundle from the second on
-  items-good : (type : ℕ) (its : List Item) (past rest : List Body) → All (SoundItem letter header) its
-      → All (λ (j : Item). layoutOf j .typeNumber ≡ type) its → Between letter header type past → follows (lastIn past) 70 ≡ true
-      → (Between letter header type (afterItems past its) → follows (lastIn (afterItems past its)) 70 ≡ true → GoodAll (afterItems past its) rest)
+  -- the 70 may come behind an item: where there is none, that it may come is asked for
+  pub items-good : (its : List Item) (past rest : List Body) → All (SoundItem letter header) its
+      → AllTheFirst (typesFrom (presentIn past) (itemTypes its)) → Between letter header past → (length its ≡ 0 → Follows past 70)
+      → (Between letter header (afterItems past its) → Follows (afterItems past its) 70 → GoodAll (afterItems past its) rest)
       → GoodAll past (itemsThen its rest)
-  items-good type [] past rest sound same b ends on = on b ends
-  items-good type (i ∷ its) past rest sound same b ends on =
-      item-good i past (itemsThen its rest) (sound .0) (subst (λ (n : ℕ). Between letter header n past) (sym (same .0)) b)
-      (λ b₁ ends₁. items-good type its (afterItem past i) rest (sound .1) (same .1)
-      (subst (λ (n : ℕ). Between letter header n (afterItem past i)) (same .0) b₁) ends₁ on)
-
-  -- and all of them
-  pub filled-good : (its : List Item) (past rest : List Body) → 1 ≤ length its → All (SoundItem letter header) its → OneItemType its
-      → ((a : Addenda) → Between letter header (layoutIn a .typeNumber) past)
-      → ((type : ℕ) → Between letter header type (afterItems past its) → follows (lastIn (afterItems past its)) 70 ≡ true
-      → GoodAll (afterItems past its) rest)
-      → GoodAll past (itemsThen its rest)
-  filled-good [] past rest filled sound same start on = absurd (omega (arith, filled))
-  filled-good (i ∷ its) past rest filled sound same start on =
-      let type = layoutOf i .typeNumber in
-      item-good i past (itemsThen its rest) (sound .0) (start (i .addenda))
-      (λ b ends. items-good type its (afterItem past i) rest (sound .1) same b ends (on type))
-
--- before a bundle's first item, whatever its type
-first-follows : (a : Addenda) → follows 20 (layoutIn a .typeNumber) ≡ true
-unfolding follows
-first-follows (ofCheck a b c) = refl
-first-follows (ofReturn a b c d) = refl
-
-pub started : (letter b : Body) (past : List Body) → typeOf b ≡ 20 → Settled past → indicatorIn past ≡ indicator letter → (a : Addenda)
-    → Between letter b (layoutIn a .typeNumber) (b ∷ past)
-started letter b past e settled letter-is a =
-    record {
-      settled = settled-on past b 20 e refl refl settled;
-      viewed = λ h n. absurd (omega (arith, n, step 0 nextItems past b 20 e));
-      letter-is = step 0 nextIndicator past b 20 e ∙ letter-is;
-      header-is = step [] nextHeader past b 20 e;
-      present = inl (step 0 nextPresent past b 20 e);
-      allowed = rw e (first-follows a);
-    }
+  items-good [] past rest sound same b ends on = on b (ends refl)
+  items-good (i ∷ its) past rest sound same b ends on =
+      let kinds = one-type-out (i .addenda) (presentIn past) (itemTypes its) same in
+      let present = item-figures i past (item-typed letter header i (sound .0)) .present in
+      item-good i past (itemsThen its rest) (sound .0) b (kinds .0)
+      (λ b₁ ends₁. items-good its (afterItem past i) rest (sound .1) (rw present (kinds .1)) b₁ (λ e. ends₁) on)

@@ -1,29 +1,30 @@
 -- Good records in the places of items make them sound. Assumes nothing.
-use Prim.Native.Nat.{ℕ, _≤_}
+use Prim.Native.Nat.{ℕ}
 use native.Mathlib.Omega.{arith}
-use mathlib.Core.Logic.{_⊎_, inl, inr}
+use mathlib.Core.Logic.{_⊎_}
 use mathlib.Core.Path.{_≡_, refl, sym, _∙_, subst}
 use mathlib.Core.List.{List, [], _∷_}
-use mathlib.Core.Bool.{true, false, _||_}
+use mathlib.Core.Bool.{Bool, true, false, _||_}
 use lib.Dec.{eqb}
 use lib.ListN.{length}
 use Rattle.layout.specs.Layout.{Layout}
 use Rattle.judge.specs.Alone.{typeOf}
-use Rattle.order.specs.MayFollow.{isItem, isAddendum}
+use Rattle.order.specs.MayFollow.{isItem, isAddendum, oneItemType}
 use Rattle.file_as_records.specs.Framed.{Body}
-use Rattle.file_as_records.proofs.Figures.{is, newest, indicatorIn, presentIn}
+use Rattle.file_as_records.proofs.Figures.{presentIn}
 use Rattle.file_as_records.proofs.Good.{Good, GoodAll}
-use Rattle.arrangement.specs.Tree.{Addenda, ofCheck, ofReturn, Item}
+use Rattle.arrangement.specs.Tree.{Addenda, ofCheck, ofReturn, ofCredit, Item}
 use Rattle.arrangement.specs.Written.{viewsThen, itemThen, itemsThen}
-use Rattle.arrangement.specs.Sound.{All, Right, layoutIn, layoutOf, indicator, E, I, F, SoundAddenda, SoundView, SoundItem}
+use Rattle.arrangement.specs.Sound.{All, Right, layoutIn, indicator, E, I, F, Owner, inBundle, itemTypes, AllTheFirst, SoundAddenda, SoundView, SoundItem}
 use Rattle.arrangement.specs.TypesInPlace.{OfType, TypedItem}
-use Rattle.arrangement.proofs.Rightness.{right-in, known-25, known-31, Known}
+use Rattle.arrangement.proofs.Rightness.{right-in, known-25, known-31, known-61, Known}
 use Rattle.arrangement.proofs.After.{afterAddenda, afterItem, afterItems}
 use Rattle.arrangement.proofs.Quiet.{quiet-views}
 use Rattle.arrangement.proofs.Turns.{as-type, settled-in, Settled, Viewed, item-type-in, viewed-in}
-use Rattle.arrangement.proofs.InItem.{in-addenda}
+use Rattle.arrangement.proofs.InItem.{Around, InItem, in-addenda, indicator-is}
 use Rattle.arrangement.proofs.OwnAddenda.{nextAddenda, nextStated, Short}
-use Rattle.arrangement.proofs.ItemFigures.{fresh, in-first, item-figures}
+use Rattle.arrangement.proofs.ItemFigures.{fresh, in-bundle, around-item, item-figures}
+use Rattle.arrangement.proofs.ItemTypes.{typesFrom, one-type-in, none-to-come}
 use Rattle.arrangement.proofs.AddendaSound.{addenda-sound}
 use Rattle.arrangement.proofs.ViewsSound.{views-sound}
 
@@ -32,20 +33,20 @@ pub record First (a : Addenda) (d : Body) (past : List Body) : Type 0 where
   pub right : Right (layoutIn a) d
   pub settled : Settled past
   pub viewed : Viewed past
-  pub item-type : (presentIn past ≡ 0) ⊎ (presentIn past ≡ layoutIn a .typeNumber)
+  pub item-type : oneItemType (presentIn past) (layoutIn a .typeNumber) ≡ true
 
 -- what the law below asks of the layout of a first record; at a layout written out each fact but the first is `refl`
 record Begins (k : Layout) : Type 0 where
   known : Known k
-  item : isItem (k .typeNumber) ≡ true
   no-addendum : isAddendum (k .typeNumber) ≡ false
   no-bundle : eqb (k .typeNumber) 20 ≡ false
   no-view : eqb (k .typeNumber) 50 ≡ false
   closes : isItem (k .typeNumber) || eqb (k .typeNumber) 70 ≡ true
 
 begins : (a : Addenda) → Begins (layoutIn a)
-begins (ofCheck a b c) = record { known = known-25; item = refl; no-addendum = refl; no-bundle = refl; no-view = refl; closes = refl }
-begins (ofReturn a b c d) = record { known = known-31; item = refl; no-addendum = refl; no-bundle = refl; no-view = refl; closes = refl }
+begins (ofCheck a b c) = record { known = known-25; no-addendum = refl; no-bundle = refl; no-view = refl; closes = refl }
+begins (ofReturn a b c d) = record { known = known-31; no-addendum = refl; no-bundle = refl; no-view = refl; closes = refl }
+begins ofCredit = record { known = known-61; no-addendum = refl; no-bundle = refl; no-view = refl; closes = refl }
 
 first-sound : (a : Addenda) (d : Body) (past : List Body) → OfType (layoutIn a .typeNumber) d → Good past d → First a d past
 first-sound a d past typed good =
@@ -56,87 +57,87 @@ first-sound a d past typed good =
       right = right-in (layoutIn a) d (own .known) typed (g .alone);
       settled = settled-in t past d g (own .no-addendum);
       viewed = viewed-in past d t (own .no-bundle) (own .no-view) (own .closes) g;
-      item-type = item-type-in t past d g (own .item);
+      item-type = item-type-in t past d g;
     }
 
 -- an item: all of it but what only the record behind it shows
-pub record ItemFound (letter header : Body) (i : Item) (past rest : List Body) : Type 0 where
+pub record ItemFound (letter : Body) (o : Owner) (i : Item) (past rest : List Body) : Type 0 where
   pub first : First (i .addenda) (i .detail) past
   pub addenda : SoundAddenda (i .addenda)
   pub short : Short (afterItem past i)
-  pub views : All (SoundView header i) (i .views)
+  pub views : All (SoundView o) (i .views)
   pub unseen : indicator letter ≡ E → length (i .views) ≡ 0
   pub behind : GoodAll (afterItem past i) rest
 
--- the items of a bundle from the second on, up to its control
-pub record ItemsFound (letter header : Body) (type : ℕ) (its : List Item) (past rest : List Body) : Type 0 where
+pub item-sound : (inside : Bool) (letter : Body) (o : Owner) (i : Item) (past rest : List Body) → TypedItem i
+    → InItem inside letter o (i .detail ∷ past) → GoodAll past (itemThen i rest) → ItemFound letter o i past rest
+item-sound inside letter o i past rest typed within good =
+    let d = i .detail ∷ past in
+    let new = fresh (i .addenda) (i .detail) past (typed .detail) in
+    let a =
+    addenda-sound d (i .addenda) (viewsThen (i .views) rest) (typed .addenda) (new .bofd) (new .endorser) (omega (arith, new .addenda)) (good .rest) in
+    let before = afterAddenda d (i .addenda) in
+    let v =
+    views-sound inside letter o before (i .views) rest (typed .views) (in-addenda inside letter o d (i .addenda) (typed .addenda) within) (a .behind) in
+    let still-addenda = quiet-views 0 nextAddenda (omega arith) before (i .views) (typed .views) in
+    let still-stated = quiet-views 0 nextStated (search) before (i .views) (typed .views) in
+    record {
+      first = first-sound (i .addenda) (i .detail) past (typed .detail) (good .first);
+      addenda = a .sound;
+      short = omega (arith, still-addenda, still-stated, a .short);
+      views = v .sound;
+      unseen = v .unseen;
+      behind = v .behind;
+    }
+
+-- items of a bundle, up to its control, behind those of `past`
+pub record ItemsFound (letter header : Body) (its : List Item) (past rest : List Body) : Type 0 where
   pub settled : Settled past
   pub viewed : Viewed past
   pub items : All (SoundItem letter header) its
-  pub one-item-type : All (λ (j : Item). layoutOf j .typeNumber ≡ type) its
+  pub one-item-type : AllTheFirst (typesFrom (presentIn past) (itemTypes its))
   pub behind : GoodAll (afterItems past its) rest
 
-same-type : (p t type : ℕ) → p ≡ type → 1 ≤ type → (p ≡ 0) ⊎ (p ≡ t) → t ≡ type
-same-type p t type e l (inl h) = absurd (omega (arith, e, l, h))
-same-type p t type e l (inr h) = sym h ∙ e
-
 module _ (letter header : Body) where
-  pub item-sound : (i : Item) (past rest : List Body) → TypedItem i → indicatorIn past ≡ indicator letter → newest (is 20) past ≡ header
-      → GoodAll past (itemThen i rest) → ItemFound letter header i past rest
-  item-sound i past rest typed letter-is header-is good =
-      let d = i .detail ∷ past in
-      let new = fresh (i .addenda) (i .detail) past (typed .detail) in
-      let a =
-      addenda-sound d (i .addenda) (viewsThen (i .views) rest) (typed .addenda) (new .bofd) (new .endorser) (omega (arith, new .addenda)) (good .rest) in
-      let before = afterAddenda d (i .addenda) in
-      let inside = in-addenda letter header i d (i .addenda) (typed .addenda) (in-first letter header i past typed letter-is header-is) in
-      let v = views-sound letter header i before (i .views) rest (typed .views) inside (a .behind) in
-      let still-addenda = quiet-views 0 nextAddenda (omega arith) before (i .views) (typed .views) in
-      let still-stated = quiet-views 0 nextStated (search) before (i .views) (typed .views) in
-      record {
-        first = first-sound (i .addenda) (i .detail) past (typed .detail) (good .first);
-        addenda = a .sound;
-        short = omega (arith, still-addenda, still-stated, a .short);
-        views = v .sound;
-        unseen = v .unseen;
-        behind = v .behind;
-      }
-
   -- and with that
-  pub item-whole : (i : Item) (past rest : List Body) → TypedItem i → indicatorIn past ≡ indicator letter → ItemFound letter header i past rest
-      → Settled (afterItem past i) → Viewed (afterItem past i) → SoundItem letter header i
-  item-whole i past rest typed letter-is found settled viewed =
+  item-whole : (i : Item) (past rest : List Body) → TypedItem i → Around true letter header (afterItem past i)
+      → ItemFound letter (inBundle header i) i past rest → Settled (afterItem past i) → Viewed (afterItem past i) → SoundItem letter header i
+  item-whole i past rest typed behind found settled viewed =
       let f = item-figures i past typed in
+      let letter-is = indicator-is (afterItem past i) (behind .letter-is) in
       record {
         detail = found .first .right;
         addenda = found .addenda;
         number = omega (arith, f .addenda, f .stated-is, found .short, settled);
         views = found .views;
         unseen = found .unseen;
-        seen = λ e.
-            omega (arith, f .shown, viewed (subst (λ (n : ℕ). (n ≡ I) ⊎ (n ≡ F)) (sym (f .indicates ∙ letter-is)) e) (omega (arith, f .items)));
+        seen = λ d e. omega (arith, f .shown, viewed (f .demands ∙ d) (subst (λ (n : ℕ). (n ≡ I) ⊎ (n ≡ F)) (sym letter-is) e));
       }
 
-  pub items-sound : (type : ℕ) (its : List Item) (past : List Body) (c : Body) (rest : List Body) → 1 ≤ type → All TypedItem its → typeOf c ≡ 70
-      → indicatorIn past ≡ indicator letter → newest (is 20) past ≡ header → presentIn past ≡ type → GoodAll past (itemsThen its (c ∷ rest))
-      → ItemsFound letter header type its past (c ∷ rest)
-  items-sound type [] past c rest some-type typed ends letter-is header-is present good =
+  pub items-sound : (its : List Item) (past : List Body) (c : Body) (rest : List Body) → All TypedItem its → typeOf c ≡ 70
+      → Around true letter header past → GoodAll past (itemsThen its (c ∷ rest)) → ItemsFound letter header its past (c ∷ rest)
+  items-sound [] past c rest typed ends around good =
       let g = as-type 70 past c ends (good .first) in
-      record { settled = settled-in 70 past c g refl; viewed = viewed-in past c 70 refl refl refl g; items = tt; one-item-type = tt; behind = good }
-  items-sound type (i ∷ its) past c rest some-type typed ends letter-is header-is present good =
-      let here = item-sound i past (itemsThen its (c ∷ rest)) (typed .0) letter-is header-is good in
-      let f = item-figures i past (typed .0) in
-      let same = same-type (presentIn past) (layoutOf i .typeNumber) type present some-type (here .first .item-type) in
-      let others =
-      items-sound type its (afterItem past i) c rest some-type (typed .1) ends (f .indicates ∙ letter-is) (f .heads ∙ header-is)
-      (f .present ∙ same) (here .behind) in
+      record {
+        settled = settled-in 70 past c g refl;
+        viewed = viewed-in past c 70 refl refl refl g;
+        items = tt;
+        one-item-type = none-to-come (presentIn past);
+        behind = good;
+      }
+  items-sound (i ∷ its) past c rest typed ends around good =
+      let within = in-bundle letter header i past (typed .0) around in
+      let here = item-sound true letter (inBundle header i) i past (itemsThen its (c ∷ rest)) (typed .0) within good in
+      let behind = around-item true letter header i past (typed .0) around in
+      let others = items-sound its (afterItem past i) c rest (typed .1) ends behind (here .behind) in
+      let same = rw (item-figures i past (typed .0) .present) at (others .one-item-type) in
       record {
         settled = here .first .settled;
         viewed = here .first .viewed;
         items = (
-          item-whole i past (itemsThen its (c ∷ rest)) (typed .0) letter-is here (others .settled) (others .viewed),
+          item-whole i past (itemsThen its (c ∷ rest)) (typed .0) behind here (others .settled) (others .viewed),
           others .items,
         );
-        one-item-type = (same, others .one-item-type);
+        one-item-type = one-type-in (i .addenda) (presentIn past) (itemTypes its) (here .first .item-type) same;
         behind = others .behind;
       }

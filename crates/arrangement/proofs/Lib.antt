@@ -11,6 +11,8 @@ pub mod Turns
 pub mod InItem
 pub mod OwnAddenda
 pub mod ItemFigures
+pub mod ItemTypes
+pub mod InLetter
 pub mod Making
 pub mod Unique
 pub mod Shape

@@ -2,40 +2,43 @@
 use Prim.Native.Nat.{ℕ, _≤_}
 use native.Mathlib.Omega.{arith}
 use mathlib.Core.Bool.{Bool, true, false, _||_}
-use mathlib.Core.Logic.{_⊎_, inl, inr}
+use mathlib.Core.Logic.{_⊎_}
 use mathlib.Core.Path.{_≡_, refl, sym, ap, _∙_}
 use mathlib.Core.List.{List, [], _∷_}
 use lib.Dec.{eqb}
 use borrow.Author.Tests.{le-leb, eq-eqb, ne-eqb}
 use Rattle.text.specs.DataTypes.{every}
 use Rattle.layout.specs.Layout.{Layout}
-use Rattle.layout.specs.Layouts.{bundleHeader, checkDetail, returnRecord, imageViewDetail, imageViewData, bundleControl, cashLetterControl, fileControl}
+use Rattle.layout.specs.Layouts.{creditRecord, bundleHeader, checkDetail, returnRecord, imageViewDetail, imageViewData, bundleControl, cashLetterControl, fileControl}
 use Rattle.judge.specs.Alone.{typeOf}
 use Rattle.order.specs.MayFollow.{isItem, isAddendum, isOneOf, mayFollow, follows, oneItemType, isCarried}
 use Rattle.agree.specs.Links.{addendaKept, annexB}
 use Rattle.file_as_records.specs.Framed.{Body}
 use Rattle.file_as_records.proofs.Good.{Good}
 use Rattle.file_as_records.proofs.CheckLists.{numberedAs}
-use Rattle.file_as_records.proofs.Figures.{is, statedIn, addendaIn, shownIn, openedIn, indicatorIn, itemsSince, lastIn, presentIn}
+use Rattle.file_as_records.proofs.Figures.{statedIn, addendaIn, shownIn, openedIn, indicatorIn, insideIn, holderIn, lastIn, presentIn}
 use Rattle.file_as_records.proofs.Tests.{not-both, refuted}
 use Rattle.file_as_records.proofs.TotalsByName.{BundleTotals, FileTotals, LetterTotals, Totalled, bundle-totalled, file-totalled, letter-totalled, not-totalled}
 use Rattle.file_as_records.proofs.LinksByName.{Linked, ViewLinked}
 use Rattle.order.proofs.Laws.{among}
 use Rattle.arrangement.specs.Sound.{N, E, Right, layoutIn}
-use Rattle.arrangement.specs.Tree.{Addenda, ofCheck, ofReturn}
-use Rattle.arrangement.proofs.Rightness.{Known, right-out, known-20, known-25, known-31, known-50, known-52, known-70, known-90, known-99}
+use Rattle.arrangement.specs.Tree.{Addenda, ofCheck, ofReturn, ofCredit}
+use Rattle.arrangement.proofs.Rightness.{Known, right-out, known-20, known-25, known-31, known-50, known-52, known-61, known-70, known-90, known-99}
 use Rattle.arrangement.proofs.Turns.{of-type, differs, seen-out, filled-out, Settled, Viewed}
 use Rattle.arrangement.proofs.OwnAddenda.{nextAddenda, nextStated}
 use Rattle.arrangement.proofs.Quiet.{step}
 
--- the types that may all follow one
-pub record Allow (ts : List ℕ) (last : ℕ) : Type 0 where
-  pub may : (t : ℕ) → isOneOf t ts ≡ true → follows last t ≡ true
+-- a type that may follow those read, and types that all may
+abbrev pub Follows : List Body → ℕ → Type 0
+Follows past t = follows (insideIn past) (lastIn past) t ≡ true
 
-pub allow-first : {t : ℕ} {ts : List ℕ} {last : ℕ} → Allow (t ∷ ts) last → follows last t ≡ true
+pub record Allow (ts : List ℕ) (past : List Body) : Type 0 where
+  pub may : (t : ℕ) → isOneOf t ts ≡ true → Follows past t
+
+pub allow-first : {t : ℕ} {ts : List ℕ} {past : List Body} → Allow (t ∷ ts) past → Follows past t
 allow-first {t} a = a .may t (rw (eq-eqb t t refl) refl)
 
-pub allow-rest : {t : ℕ} {ts : List ℕ} {last : ℕ} → Allow (t ∷ ts) last → Allow ts last
+pub allow-rest : {t : ℕ} {ts : List ℕ} {past : List Body} → Allow (t ∷ ts) past → Allow ts past
 allow-rest {t} {ts} a = record { may = λ u e. a .may u (later (eqb u t) (isOneOf u ts) e) }
   where
     later : (c d : Bool) → d ≡ true → c || d ≡ true
@@ -43,12 +46,13 @@ allow-rest {t} {ts} a = record { may = λ u e. a .may u (later (eqb u t) (isOneO
     later false d e = e
 
 -- at types written out the last fact is `refl`
-pub allow-at : {last t : ℕ} (ts : List ℕ) → last ≡ t → every (follows t) ts ≡ true → Allow ts last
-allow-at {last} ts e h = record { may = λ u o. among (follows last) u ts (rw e h) o }
+pub allow-at : {opened : Bool} {past : List Body} {t : ℕ} (ts : List ℕ) → insideIn past ≡ opened → lastIn past ≡ t → every (follows opened t) ts ≡ true
+    → Allow ts past
+allow-at {opened} {past} ts i e h = record { may = λ u o. among (follows (insideIn past) (lastIn past)) u ts (rw (i, e) h) o }
 
 -- of any layout: at a layout written out, the checks compute to those of its type
 module _ (k : Layout) (known : Known k) (past : List Body) (b : Body) where
-  made : Right k b → isCarried (k .typeNumber) ≡ true → follows (lastIn past) (k .typeNumber) ≡ true
+  made : Right k b → isCarried (k .typeNumber) ≡ true → Follows past (k .typeNumber)
       → oneItemType (presentIn past) (k .typeNumber) ≡ true → Linked (k .typeNumber) past b → Totalled (k .typeNumber) past b → Good past b
   unfolding mayFollow
   made r c f o l s =
@@ -57,7 +61,7 @@ module _ (k : Layout) (known : Known k) (past : List Body) (b : Body) where
 
 -- the types with checks beside those of addenda and record numbers
 abbrev pub checked : List ℕ
-checked = 20 ∷ 25 ∷ 31 ∷ 50 ∷ 52 ∷ 70 ∷ 90 ∷ 99 ∷ []
+checked = 20 ∷ 25 ∷ 31 ∷ 50 ∷ 52 ∷ 61 ∷ 70 ∷ 90 ∷ 99 ∷ []
 
 unlike : (t n : ℕ) (us : List ℕ) → isOneOf t us ≡ false → isOneOf n us ≡ true → eqb t n ≡ false
 unlike t n us o m = ne-eqb t n (λ e. not-both (sym o ∙ ap (λ (u : ℕ). isOneOf u us) e ∙ m))
@@ -65,7 +69,7 @@ unlike t n us o m = ne-eqb t n (λ e. not-both (sym o ∙ ap (λ (u : ℕ). isOn
 -- of a layout without such checks, left open so that one law serves a run of any addenda; a layout written out has both facts by `refl`
 module _ (k : Layout) (known : Known k) (c : isCarried (k .typeNumber) ≡ true) (o : isOneOf (k .typeNumber) checked ≡ false)
     (past : List Body) (b : Body) where
-  pub made-plain : Right k b → follows (lastIn past) (k .typeNumber) ≡ true → addendaKept (k .typeNumber) (statedIn past) (addendaIn past) ≡ true
+  pub made-plain : Right k b → Follows past (k .typeNumber) → addendaKept (k .typeNumber) (statedIn past) (addendaIn past) ≡ true
       → numberedAs (k .typeNumber) past b ≡ true → Good past b
   unfolding annexB
   made-plain r f a n =
@@ -75,13 +79,14 @@ module _ (k : Layout) (known : Known k) (c : isCarried (k .typeNumber) ≡ true)
       let not-31 = unlike t 31 checked o refl in
       let not-50 = unlike t 50 checked o refl in
       let not-52 = unlike t 52 checked o refl in
+      let not-61 = unlike t 61 checked o refl in
       let not-70 = unlike t 70 checked o refl in
       let not-90 = unlike t 90 checked o refl in
       let not-99 = unlike t 99 checked o refl in
       made k known past b r c f (simp (not-25, not-31))
       (record {
         addenda = a;
-        annex-b = simp (not-20, not-25, not-31, not-50, not-70, not-90);
+        annex-b = simp (not-20, not-25, not-31, not-50, not-61, not-70, not-90);
         numbered = n;
         view = refuted (eqb t 52) not-52;
       })
@@ -93,66 +98,62 @@ settled-kept t past n s = rw (n, le-leb (statedIn past) (addendaIn past) s) refl
 
 -- the links of a record that is no addendum and no 52
 plainly : (t : ℕ) (past : List Body) (b : Body) → isAddendum t ≡ false → eqb t 52 ≡ false → Settled past
-    → annexB t (indicatorIn past) (openedIn past) (itemsSince (is 20) past) (shownIn past) ≡ true → numberedAs t past b ≡ true → Linked t past b
+    → annexB t (indicatorIn past) (openedIn past) (holderIn past) (shownIn past) ≡ true → numberedAs t past b ≡ true → Linked t past b
 plainly t past b a v s x n = record { addenda = settled-kept t past a s; annex-b = x; numbered = n; view = refuted (eqb t 52) v }
 
 module _ (past : List Body) (b : Body) where
-  pub made-20 : Right bundleHeader b → follows (lastIn past) 20 ≡ true → Settled past → (indicatorIn past ≡ N → ⊥) → Good past b
+  pub made-20 : Right bundleHeader b → Follows past 20 → Settled past → (indicatorIn past ≡ N → ⊥) → Good past b
   unfolding isCarried annexB
   made-20 r f s n =
       made bundleHeader known-20 past b r refl f refl (plainly 20 past b refl refl s (rw (differs (indicatorIn past) N n) refl) refl)
       (not-totalled past b 20 refl refl refl)
 
-  pub made-50 : Right imageViewDetail b → follows (lastIn past) 50 ≡ true → Settled past → (indicatorIn past ≡ E → ⊥) → Good past b
+  pub made-50 : Right imageViewDetail b → Follows past 50 → Settled past → (indicatorIn past ≡ E → ⊥) → Good past b
   unfolding isCarried annexB
   made-50 r f s n =
       made imageViewDetail known-50 past b r refl f refl (plainly 50 past b refl refl s (rw (differs (indicatorIn past) E n) refl) refl)
       (not-totalled past b 50 refl refl refl)
 
-  pub made-52 : Right imageViewData b → follows (lastIn past) 52 ≡ true → Settled past → ViewLinked past b → Good past b
+  pub made-52 : Right imageViewData b → Follows past 52 → Settled past → ViewLinked past b → Good past b
   unfolding isCarried annexB
   made-52 r f s v =
       made imageViewData known-52 past b r refl f refl
       (record { addenda = settled-kept 52 past refl s; annex-b = refl; numbered = refl; view = λ e. v }) (not-totalled past b 52 refl refl refl)
 
-  pub made-70 : Right bundleControl b → follows (lastIn past) 70 ≡ true → Settled past → Viewed past → BundleTotals past b → Good past b
+  pub made-70 : Right bundleControl b → Follows past 70 → Settled past → Viewed past → BundleTotals past b → Good past b
   unfolding isCarried annexB
   made-70 r f s v t =
       made bundleControl known-70 past b r refl f refl
-      (plainly 70 past b refl refl s (rw (seen-out (indicatorIn past) (itemsSince (is 20) past) (shownIn past) v) refl) refl)
+      (plainly 70 past b refl refl s (rw (seen-out (indicatorIn past) (holderIn past) (shownIn past) v) refl) refl)
       (bundle-totalled past b t)
 
-  pub made-90 : Right cashLetterControl b → follows (lastIn past) 90 ≡ true → Settled past → (indicatorIn past ≡ N) ⊎ (1 ≤ openedIn past)
+  pub made-90 : Right cashLetterControl b → Follows past 90 → Settled past → (indicatorIn past ≡ N) ⊎ (1 ≤ openedIn past)
       → LetterTotals past b → Good past b
   unfolding isCarried annexB
   made-90 r f s n t =
       made cashLetterControl known-90 past b r refl f refl
       (plainly 90 past b refl refl s (filled-out (indicatorIn past) (openedIn past) n) refl) (letter-totalled past b t)
 
-  pub made-99 : Right fileControl b → follows (lastIn past) 99 ≡ true → Settled past → FileTotals past b → Good past b
+  pub made-99 : Right fileControl b → Follows past 99 → Settled past → FileTotals past b → Good past b
   unfolding isCarried annexB
   made-99 r f s t = made fileControl known-99 past b r refl f refl (plainly 99 past b refl refl s refl refl) (file-totalled past b t)
 
-one-type : (p t : ℕ) → (p ≡ 0) ⊎ (p ≡ t) → eqb p 0 || eqb p t ≡ true
-one-type p t (inl e) = rw (eq-eqb p 0 e) refl
-one-type p t (inr e) = rw (eq-eqb p t e) (either (eqb p 0))
-  where
-    either : (x : Bool) → x || true ≡ true
-    either true = refl
-    either false = refl
-
 -- an item's first record
-pub made-item : (a : Addenda) (d : Body) (past : List Body) → Right (layoutIn a) d → follows (lastIn past) (layoutIn a .typeNumber) ≡ true → Settled past
-    → Viewed past → (presentIn past ≡ 0) ⊎ (presentIn past ≡ layoutIn a .typeNumber) → Good past d
+pub made-item : (a : Addenda) (d : Body) (past : List Body) → Right (layoutIn a) d → Follows past (layoutIn a .typeNumber) → Settled past
+    → Viewed past → oneItemType (presentIn past) (layoutIn a .typeNumber) ≡ true → Good past d
 unfolding isCarried annexB
 made-item (ofCheck a b c) d past r f s v p =
-    made checkDetail known-25 past d r refl f (one-type (presentIn past) 25 p)
-    (plainly 25 past d refl refl s (rw (seen-out (indicatorIn past) (itemsSince (is 20) past) (shownIn past) v) refl) refl)
+    made checkDetail known-25 past d r refl f p
+    (plainly 25 past d refl refl s (rw (seen-out (indicatorIn past) (holderIn past) (shownIn past) v) refl) refl)
     (not-totalled past d 25 refl refl refl)
 made-item (ofReturn a b c e) d past r f s v p =
-    made returnRecord known-31 past d r refl f (one-type (presentIn past) 31 p)
-    (plainly 31 past d refl refl s (rw (seen-out (indicatorIn past) (itemsSince (is 20) past) (shownIn past) v) refl) refl)
+    made returnRecord known-31 past d r refl f p
+    (plainly 31 past d refl refl s (rw (seen-out (indicatorIn past) (holderIn past) (shownIn past) v) refl) refl)
     (not-totalled past d 31 refl refl refl)
+made-item ofCredit d past r f s v p =
+    made creditRecord known-61 past d r refl f p
+    (plainly 61 past d refl refl s (rw (seen-out (indicatorIn past) (holderIn past) (shownIn past) v) refl) refl)
+    (not-totalled past d 61 refl refl refl)
 
 -- the item before a record that is no item and no addendum stays settled behind it
 pub settled-on : (past : List Body) (b : Body) (t : ℕ) → typeOf b ≡ t → isItem t ≡ false → isAddendum t ≡ false → Settled past → Settled (b ∷ past)

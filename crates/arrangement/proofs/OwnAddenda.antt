@@ -13,13 +13,14 @@ use Rattle.standing.specs.History.{isBofdAddendum, isEndorserAddendum}
 use Rattle.file_as_records.specs.Framed.{Body}
 use Rattle.file_as_records.proofs.Figures.{value, count, statedAs, statedIn, addendaIn, endorserIn}
 use Rattle.file_as_records.proofs.Good.{onto}
-use Rattle.arrangement.specs.Tree.{Addenda, ofCheck, ofReturn}
+use Rattle.arrangement.specs.Tree.{Addenda, ofCheck, ofReturn, ofCredit}
 use Rattle.arrangement.specs.Written.{optionalThen, addendaThen}
 use Rattle.arrangement.specs.Sound.{IfAny}
 use Rattle.arrangement.specs.TypesInPlace.{OfType, TypedAddenda, TypedOfCheck, TypedOfReturn}
 use Rattle.arrangement.proofs.Rightness.{Known, known-26, known-27, known-28, known-32, known-33, known-34, known-35}
 use Rattle.arrangement.proofs.Counting.{count-run, Counts, adding}
 use Rattle.arrangement.proofs.Quiet.{Quiet, step, quiet-optional, quiet-run, quiet-step}
+use Rattle.arrangement.proofs.InItem.{nextInside}
 use Rattle.arrangement.proofs.After.{afterOptional, afterAddenda}
 
 abbrev pub nextAddenda : ℕ → Body → ℕ → ℕ
@@ -44,27 +45,28 @@ pub record Adds (k : Layout) : Type 0 where
   pub addendum : isAddendum (k .typeNumber) ≡ true
   pub more : Counts nextAddenda (k .typeNumber)
   pub same-stated : Quiet nextStated (k .typeNumber)
+  pub same-inside : Quiet nextInside (k .typeNumber)
 
 pub adds-26 : Adds checkDetailAddendumA
-adds-26 = record { known = known-26; addendum = refl; more = λ b x. refl; same-stated = λ b x. refl }
+adds-26 = record { known = known-26; addendum = refl; more = λ b x. refl; same-stated = λ b x. refl; same-inside = λ b x. refl }
 
 pub adds-27 : Adds checkDetailAddendumB
-adds-27 = record { known = known-27; addendum = refl; more = λ b x. refl; same-stated = λ b x. refl }
+adds-27 = record { known = known-27; addendum = refl; more = λ b x. refl; same-stated = λ b x. refl; same-inside = λ b x. refl }
 
 pub adds-28 : Adds checkDetailAddendumC
-adds-28 = record { known = known-28; addendum = refl; more = λ b x. refl; same-stated = λ b x. refl }
+adds-28 = record { known = known-28; addendum = refl; more = λ b x. refl; same-stated = λ b x. refl; same-inside = λ b x. refl }
 
 pub adds-32 : Adds returnAddendumA
-adds-32 = record { known = known-32; addendum = refl; more = λ b x. refl; same-stated = λ b x. refl }
+adds-32 = record { known = known-32; addendum = refl; more = λ b x. refl; same-stated = λ b x. refl; same-inside = λ b x. refl }
 
 pub adds-33 : Adds returnAddendumB
-adds-33 = record { known = known-33; addendum = refl; more = λ b x. refl; same-stated = λ b x. refl }
+adds-33 = record { known = known-33; addendum = refl; more = λ b x. refl; same-stated = λ b x. refl; same-inside = λ b x. refl }
 
 pub adds-34 : Adds returnAddendumC
-adds-34 = record { known = known-34; addendum = refl; more = λ b x. refl; same-stated = λ b x. refl }
+adds-34 = record { known = known-34; addendum = refl; more = λ b x. refl; same-stated = λ b x. refl; same-inside = λ b x. refl }
 
 pub adds-35 : Adds returnAddendumD
-adds-35 = record { known = known-35; addendum = refl; more = λ b x. refl; same-stated = λ b x. refl }
+adds-35 = record { known = known-35; addendum = refl; more = λ b x. refl; same-stated = λ b x. refl; same-inside = λ b x. refl }
 
 length-optional : (o : Option Body) (bs : List Body) → length (optionalThen o bs) ≡ length (optionalThen o []) + length bs
 length-optional none bs = omega arith
@@ -99,6 +101,7 @@ addenda-count past (ofReturn a b c d) k =
       length-optional c (d ++ []),
       length-append d [],
     )
+addenda-count past ofCredit k = omega arith
 
 -- the number of an endorser stays over the addenda before the 28s, or the 35s
 pub endorser-check : (past a : List Body) (b : Option Body) (c : List Body) → TypedOfCheck a b c

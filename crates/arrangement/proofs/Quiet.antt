@@ -7,10 +7,10 @@ use Rattle.judge.specs.Alone.{typeOf}
 use Rattle.file_as_records.specs.Framed.{Body}
 use Rattle.file_as_records.proofs.Figures.{value}
 use Rattle.file_as_records.proofs.Good.{onto}
-use Rattle.arrangement.specs.Tree.{View, Addenda, ofCheck, ofReturn, Item, Bundle, CashLetter}
+use Rattle.arrangement.specs.Tree.{View, Addenda, ofCheck, ofReturn, ofCredit, Item, Bundle, Credit, Content, bundled, direct, CashLetter}
 use Rattle.arrangement.specs.Sound.{All, IfAny, layoutIn, layoutOf}
-use Rattle.arrangement.specs.TypesInPlace.{OfType, TypedView, TypedAddenda, TypedItem, TypedBundle, TypedLetter}
-use Rattle.arrangement.proofs.After.{afterAddenda, afterBundle, afterBundles, afterItem, afterItems, afterLetter, afterLetters, afterOptional, afterView, afterViews, quiet-each}
+use Rattle.arrangement.specs.TypesInPlace.{OfType, TypedView, TypedAddenda, TypedItem, TypedBundle, TypedCredit, TypedContent, TypedLetter}
+use Rattle.arrangement.proofs.After.{afterAddenda, afterBundle, afterContent, afterContents, afterItem, afterItems, afterLetter, afterLetters, afterOptional, afterView, afterViews, asItem, quiet-each}
 
 -- A type at which a figure stays as it is; and the types of each part, all such. One `omega arith` proves any of these of a sum.
 abbrev pub Quiet : {X : Type 0} → (ℕ → Body → X → X) → ℕ → Type 0
@@ -34,21 +34,27 @@ module _ {X : Type 0} (next : ℕ → Body → X → X) where
   pub record QuietDetails : Type 0 where
     pub check : Quiet next 25
     pub return : Quiet next 31
+    pub credit : Quiet next 61
 
   pub record QuietItems : Type 0 where
     pub details : QuietDetails
     pub addenda : QuietAddenda
     pub views : QuietViews
 
-  pub record QuietBundles : Type 0 where
+  -- with the items, a credit directly in a cash letter is quiet: so this is said of all that a cash letter holds
+  pub record QuietContents : Type 0 where
     pub header : Quiet next 20
     pub items : QuietItems
     pub control : Quiet next 70
 
   pub record QuietLetters : Type 0 where
     pub header : Quiet next 10
-    pub bundles : QuietBundles
+    pub contents : QuietContents
     pub control : Quiet next 90
+
+-- a credit directly in a cash letter, as an item
+pub item-of : (c : Credit) → TypedCredit c → TypedItem (asItem c)
+item-of c k = record { detail = k .detail; addenda = tt; views = k .views }
 
 module _ {X : Type 0} (first : X) (next : ℕ → Body → X → X) where
   pub step : (past : List Body) (b : Body) (t : ℕ) → typeOf b ≡ t → value first next (b ∷ past) ≡ next t b (value first next past)
@@ -83,12 +89,17 @@ module _ {X : Type 0} (first : X) (next : ℕ → Body → X → X) where
   quiet-addenda q past (ofReturn a b c d) k =
       quiet-run (afterOptional (b ∷ onto a past) c) d 35 (k .addenda-d) (q .return-d) ∙ quiet-optional (b ∷ onto a past) c 34 (k .addendum-c) (q .return-c)
       ∙ quiet-step (onto a past) b 33 (k .addendum-b) (q .return-b) ∙ quiet-run past a 32 (k .addenda-a) (q .return-a)
+  quiet-addenda q past ofCredit k = refl
 
   quiet-detail : QuietDetails next → (a : Addenda) → Quiet next (layoutIn a .typeNumber)
   quiet-detail q (ofCheck a b c) = q .check
   quiet-detail q (ofReturn a b c d) = q .return
+  quiet-detail q ofCredit = q .credit
 
-  -- of an item whose addenda and views are quiet, the figure takes the 25 or 31
+  pub quiet-first : QuietDetails next → (past : List Body) (i : Item) → TypedItem i → value first next (i .detail ∷ past) ≡ value first next past
+  quiet-first q past i k = quiet-step past (i .detail) (layoutOf i .typeNumber) (k .detail) (quiet-detail q (i .addenda))
+
+  -- of an item whose addenda and views are quiet, the figure takes the 25, 31 or 61
   pub at-item : QuietAddenda next → QuietViews next → (past : List Body) (i : Item) → TypedItem i
       → value first next (afterItem past i) ≡ next (layoutOf i .typeNumber) (i .detail) (value first next past)
   at-item qa qv past i k =
@@ -98,32 +109,36 @@ module _ {X : Type 0} (first : X) (next : ℕ → Body → X → X) where
   pub quiet-item : QuietItems next → (past : List Body) (i : Item) → TypedItem i → value first next (afterItem past i) ≡ value first next past
   quiet-item q past i k = at-item (q .addenda) (q .views) past i k ∙ quiet-detail (q .details) (i .addenda) (i .detail) (value first next past)
 
-  -- of an item whose 25 or 31 and addenda are quiet, the figure takes the views
+  -- of an item whose 25, 31 or 61 and addenda are quiet, the figure takes the views
   pub to-views : QuietDetails next → QuietAddenda next → (past : List Body) (i : Item) → TypedItem i
       → value first next (afterAddenda (i .detail ∷ past) (i .addenda)) ≡ value first next past
   to-views qd qa past i k =
-      quiet-addenda qa (i .detail ∷ past) (i .addenda) (k .addenda)
-      ∙ quiet-step past (i .detail) (layoutOf i .typeNumber) (k .detail) (quiet-detail qd (i .addenda))
+      quiet-addenda qa (i .detail ∷ past) (i .addenda) (k .addenda) ∙ quiet-first qd past i k
 
   pub quiet-items : QuietItems next → (past : List Body) (is : List Item) → All TypedItem is
       → value first next (afterItems past is) ≡ value first next past
   quiet-items q past is k = quiet-each afterItem TypedItem (value first next) (quiet-item q) past is k
 
-  pub quiet-bundle : QuietBundles next → (past : List Body) (b : Bundle) → TypedBundle b
+  pub quiet-bundle : QuietContents next → (past : List Body) (b : Bundle) → TypedBundle b
       → value first next (afterBundle past b) ≡ value first next past
   quiet-bundle q past b k =
       quiet-step (afterItems (b .header ∷ past) (b .items)) (b .control) 70 (k .control) (q .control)
       ∙ quiet-items (q .items) (b .header ∷ past) (b .items) (k .items) ∙ quiet-step past (b .header) 20 (k .header) (q .header)
 
-  pub quiet-bundles : QuietBundles next → (past : List Body) (bs : List Bundle) → All TypedBundle bs
-      → value first next (afterBundles past bs) ≡ value first next past
-  quiet-bundles q past bs k = quiet-each afterBundle TypedBundle (value first next) (quiet-bundle q) past bs k
+  pub quiet-content : QuietContents next → (past : List Body) (c : Content) → TypedContent c
+      → value first next (afterContent past c) ≡ value first next past
+  quiet-content q past (bundled b) k = quiet-bundle q past b k
+  quiet-content q past (direct c) k = quiet-item (q .items) past (asItem c) (item-of c k)
+
+  pub quiet-contents : QuietContents next → (past : List Body) (cs : List Content) → All TypedContent cs
+      → value first next (afterContents past cs) ≡ value first next past
+  quiet-contents q past cs k = quiet-each afterContent TypedContent (value first next) (quiet-content q) past cs k
 
   pub quiet-letter : QuietLetters next → (past : List Body) (l : CashLetter) → TypedLetter l
       → value first next (afterLetter past l) ≡ value first next past
   quiet-letter q past l k =
-      quiet-step (afterBundles (l .header ∷ past) (l .bundles)) (l .control) 90 (k .control) (q .control)
-      ∙ quiet-bundles (q .bundles) (l .header ∷ past) (l .bundles) (k .bundles) ∙ quiet-step past (l .header) 10 (k .header) (q .header)
+      quiet-step (afterContents (l .header ∷ past) (l .contents)) (l .control) 90 (k .control) (q .control)
+      ∙ quiet-contents (q .contents) (l .header ∷ past) (l .contents) (k .contents) ∙ quiet-step past (l .header) 10 (k .header) (q .header)
 
   pub quiet-letters : QuietLetters next → (past : List Body) (ls : List CashLetter) → All TypedLetter ls
       → value first next (afterLetters past ls) ≡ value first next past

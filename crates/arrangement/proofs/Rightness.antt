@@ -9,7 +9,7 @@ use lib.ListN.{length, take, drop}
 use borrow.Author.Tests.{leb-true, le-leb, eqb-true, eq-eqb}
 use Rattle.text.specs.DataTypes.{ofType}
 use Rattle.layout.specs.Layout.{Line, Layout, Sized, sizedParts}
-use Rattle.layout.specs.Layouts.{fileHeader, cashLetterHeader, bundleHeader, checkDetail, checkDetailAddendumA, checkDetailAddendumB, checkDetailAddendumC, returnRecord, returnAddendumA, returnAddendumB, returnAddendumC, returnAddendumD, imageViewDetail, imageViewData, imageViewAnalysis, bundleControl, cashLetterControl, fileControl}
+use Rattle.layout.specs.Layouts.{creditRecord, fileHeader, cashLetterHeader, bundleHeader, checkDetail, checkDetailAddendumA, checkDetailAddendumB, checkDetailAddendumC, returnRecord, returnAddendumA, returnAddendumB, returnAddendumC, returnAddendumD, imageViewDetail, imageViewData, imageViewAnalysis, bundleControl, cashLetterControl, fileControl}
 use Rattle.judge.specs.declared.Judged.the-variants.{Sound}
 use Rattle.judge.specs.Alone.{typeOf, lineHolds, firstWrong, statedSize, statedSizes, firstWrongPart, isVariable, judged, alone, judgedAs}
 use Rattle.judge.proofs.Laws.{length-not-sound, field-not-sound, kept}
@@ -163,6 +163,10 @@ known-52 = record { lines = refl; parts = refl; judged = λ b. refl }
 pub known-54 : Known imageViewAnalysis
 unfolding judgedAs
 known-54 = record { lines = refl; parts = refl; judged = λ b. refl }
+
+pub known-61 : Known creditRecord
+unfolding judgedAs
+known-61 = record { lines = refl; parts = refl; judged = λ b. refl }
 
 pub known-70 : Known bundleControl
 unfolding judgedAs

@@ -1,100 +1,127 @@
 -- The rows of the reading are those of the arrangement. Assumes nothing.
 use Prim.Native.Nat.{ℕ, _+_}
 use native.Mathlib.Omega.{arith}
-use mathlib.Core.Path.{_≡_, refl, ap, sym, _∙_}
+use mathlib.Core.Path.{_≡_, refl, ap, _∙_}
+use mathlib.Core.Bool.{Bool, true, false, cond}
 use mathlib.Core.List.{List, [], _∷_}
+use Rattle.layout.specs.Layouts.{bundleControl, cashLetterControl, fileControl}
+use Rattle.measure.specs.Measures.{capped}
 use Rattle.file_as_records.specs.Framed.{Body}
 use Rattle.file_as_records.proofs.Good.{rowsAll}
-use Rattle.file_as_records.proofs.Figures.{is, never, amountAs, lettersIn, openedIn, itemsSince, debitSince}
-use Rattle.arrangement.specs.Tree.{Addenda, ofCheck, ofReturn, Item, Bundle, CashLetter, File}
-use Rattle.arrangement.specs.Written.{itemsThen, bundlesThen, lettersThen, records}
-use Rattle.arrangement.specs.Sound.{All, total, layoutIn, layoutOf, amount, debitOf, debitIn}
-use Rattle.arrangement.specs.TypesInPlace.{OfType, TypedItem, TypedBundle, TypedLetter, Typed}
-use Rattle.arrangement.specs.RowsAndTotals.{Placed, placed, itemPlaces, bundlePlaces, letterPlaces, places, rows}
-use Rattle.arrangement.proofs.After.{afterItem, afterItems, afterBundle, afterBundles, afterLetter, afterLetters, onto-letters}
-use Rattle.arrangement.proofs.Quiet.{step, quiet-step, quiet-bundle}
-use Rattle.arrangement.proofs.Counting.{adding, count-bundle, count-letter}
-use Rattle.arrangement.proofs.Sums.{items-sum, bundles-sum, bundle-sum, letter-sum, amountIn}
-use Rattle.arrangement.proofs.Places.{Agree, Alike, Seated, Stands, alike-addenda, alike-views, seated-then, stands-on, toLetters, toOpened}
-use Rattle.arrangement.proofs.TotalsAgree.{debit-of}
+use Rattle.file_as_records.proofs.Figures.{is, never, debitAs, debitSince}
+use Rattle.arrangement.specs.Tree.{Addenda, ofCheck, ofReturn, ofCredit, Item, Content, bundled, direct, CashLetter, File}
+use Rattle.arrangement.specs.Written.{addendaThen, viewsThen, itemThen, itemsThen, contentsThen, lettersThen, records}
+use Rattle.arrangement.specs.Sound.{All, layoutIn, layoutOf, amountIn, debitCents, ofBundle, ofLetter, ofFile, SoundContent, SoundLetter, Sound}
+use Rattle.arrangement.specs.TypesInPlace.{OfType, TypedItem, TypedContent, TypedLetter, Typed}
+use Rattle.arrangement.specs.RowsAndTotals.{Placed, placed, alikeThen, itemPlaces, contentPlaces, letterPlaces, places, rows}
+use Rattle.arrangement.proofs.After.{afterItem, afterItems, afterBundle, afterContents, afterLetter, afterLetters, asItem}
+use Rattle.arrangement.proofs.Quiet.{Quiet, item-of, quiet-step}
+use Rattle.arrangement.proofs.Counting.{adding}
+use Rattle.arrangement.proofs.Levels.{bundle-figures, letter-figures, file-figures}
+use Rattle.arrangement.proofs.Places.{Agree, Alike, Seat, Stands, alike-addenda, alike-views, bundle-ordinal, row-then, stands-on}
+use Rattle.arrangement.proofs.TotalsAgree.{stated-whole}
 
--- the items from ordinal n + 1 on, then the bundles and the cash letters
-item-stands : (l o n : ℕ) {past : List Body} (a : Addenda) (d : Body) → OfType (layoutIn a .typeNumber) d → Stands past l o n
-    → Stands (d ∷ past) l o (n + 1)
-item-stands l o n (ofCheck _ _ _) d k s = stands-on l o n d 25 k s (omega arith) (omega arith) (omega arith)
-item-stands l o n (ofReturn _ _ _ _) d k s = stands-on l o n d 31 k s (omega arith) (omega arith) (omega arith)
+-- an item, in a bundle or directly in a cash letter, where it is the item n + 1
+module _ (inside : Bool) (l o n : ℕ) where
+  item-stands : {past : List Body} (a : Addenda) (d : Body) → OfType (layoutIn a .typeNumber) d → Stands past inside l o n
+      → Stands (d ∷ past) inside l o (n + 1)
+  item-stands (ofCheck _ _ _) d k s = stands-on d 25 k s refl (omega arith) (omega arith) (omega arith)
+  item-stands (ofReturn _ _ _ _) d k s = stands-on d 31 k s refl (omega arith) (omega arith) (omega arith)
+  item-stands ofCredit d k s = stands-on d 61 k s refl (omega arith) (omega arith) (omega arith)
 
-item-seated : (l o n : ℕ) {past : List Body} (a : Addenda) (d : Body) → Stands past l o n
-    → Seated (layoutIn a .typeNumber) past (placed l o n (amountIn a d) d)
-item-seated l o n (ofCheck _ _ _) d s = record { letter = s .letters; bundle = s .opened; item = s .items; amount = refl }
-item-seated l o n (ofReturn _ _ _ _) d s = record { letter = s .letters; bundle = s .opened; item = s .items; amount = refl }
+  item-seat : (past : List Body) (a : Addenda) (d : Body)
+      → Seat (layoutIn a .typeNumber) inside l o (n + 1) past (placed l (cond inside o 0) (cond inside (n + 1) 0) (amountIn a d) d)
+  item-seat past (ofCheck _ _ _) d = record { letter = refl; bundle = bundle-ordinal inside o; item = refl; amount = refl }
+  item-seat past (ofReturn _ _ _ _) d = record { letter = refl; bundle = bundle-ordinal inside o; item = refl; amount = refl }
+  item-seat past ofCredit d = record { letter = refl; bundle = bundle-ordinal inside o; item = refl; amount = refl }
 
-items-agree : (l o n : ℕ) {past rest : List Body} {ps : List Placed} (items : List Item) → All TypedItem items → Stands past l o n
-    → Agree (afterItems past items) rest ps → Agree past (itemsThen items rest) (itemPlaces l o (n + 1) items ps)
-items-agree l o n [] k s others = others
-items-agree l o n {past} {rest} {ps} (i ∷ items) k s others =
-    let s′ : Stands (i .detail ∷ past) l o (n + 1) = item-stands l o n (i .addenda) (i .detail) (k .0 .detail) s in
-    let others′ : List Placed = itemPlaces l o (n + 1 + 1) items ps in
-    let next : Alike l o (n + 1) others′ (afterItem past i) (itemsThen items rest) [] =
-    record { agree = λ s. items-agree l o (n + 1) items (k .1) s others } in
-    seated-then (placed l o (n + 1) (amount i) (i .detail)) (layoutOf i .typeNumber) (k .0 .detail) (item-seated l o (n + 1) (i .addenda) (i .detail) s′)
-    (alike-addenda l o (n + 1) others′ (i .addenda) (k .0 .addenda) (alike-views l o (n + 1) others′ (i .views) (k .0 .views) next) .agree s′)
+  item-agrees : {past rest : List Body} {ps : List Placed} (i : Item) → TypedItem i → Stands past inside l o n
+      → (Stands (afterItem past i) inside l o (n + 1) → Agree (afterItem past i) rest ps)
+      → Agree past (itemThen i rest) (placed l (cond inside o 0) (cond inside (n + 1) 0) (amountIn (i .addenda) (i .detail)) (i .detail)
+      ∷ alikeThen l (cond inside o 0) (cond inside (n + 1) 0) (addendaThen (i .addenda) (viewsThen (i .views) [])) ps)
+  item-agrees {past} {rest} {ps} i k s others =
+      let s′ : Stands (i .detail ∷ past) inside l o (n + 1) = item-stands (i .addenda) (i .detail) (k .detail) s in
+      let next : Alike inside l o (n + 1) ps (afterItem past i) rest [] = record { agree = others } in
+      row-then (placed l (cond inside o 0) (cond inside (n + 1) 0) (amountIn (i .addenda) (i .detail)) (i .detail)) (layoutOf i .typeNumber)
+      (k .detail) s′ (item-seat (i .detail ∷ past) (i .addenda) (i .detail))
+      (alike-addenda inside l o (n + 1) ps (i .addenda) (k .addenda) (alike-views inside l o (n + 1) ps (i .views) (k .views) next) .agree s′)
 
--- the debit cents that stand at the control of a level, the control with them
-bundle-debit : (past : List Body) (b : Bundle) → TypedBundle b → debitSince (is 20) (afterBundle past b) ≡ debitOf b
-bundle-debit past b k =
-    let next : ℕ → Body → ℕ → ℕ = adding (is 20) amountAs in
-    quiet-step 0 next (afterItems (b .header ∷ past) (b .items)) (b .control) 70 (k .control) (omega arith)
-    ∙ bundle-sum next debitOf (omega arith) (items-sum next amountIn (omega arith)) past b k
+-- the items of a bundle from ordinal n + 1 on; what follows agrees wherever they lead
+items-agree : (l o n : ℕ) {past rest : List Body} {ps : List Placed} (items : List Item) → All TypedItem items → Stands past true l o n
+    → ((m : ℕ) → Stands (afterItems past items) true l o m → Agree (afterItems past items) rest ps)
+    → Agree past (itemsThen items rest) (itemPlaces l o (n + 1) items ps)
+items-agree l o n [] k s others = others n s
+items-agree l o n (i ∷ items) k s others = item-agrees true l o n i (k .0) s (λ s′. items-agree l o (n + 1) items (k .1) s′ others)
 
-letter-debit : (past : List Body) (l : CashLetter) → TypedLetter l → debitSince (is 10) (afterLetter past l) ≡ debitIn l
-letter-debit past l k =
-    let next : ℕ → Body → ℕ → ℕ = adding (is 10) amountAs in
-    quiet-step 0 next (afterBundles (l .header ∷ past) (l .bundles)) (l .control) 90 (k .control) (omega arith)
-    ∙ letter-sum next debitIn (omega arith) (bundles-sum next debitOf (omega arith) (items-sum next amountIn (omega arith))) past l k
+-- the debit cents in the row of a control: those before it, as they can be stated
+control-amount : (begins : ℕ → Bool) (past : List Body) (c : Body) (t : ℕ) → OfType t c → Quiet (adding begins debitAs) t
+    → {n : ℕ} → debitSince begins past ≡ n → capped n ≡ n → capped (debitSince begins (c ∷ past)) ≡ n
+control-amount begins past c t k q e whole = ap capped (quiet-step 0 (adding begins debitAs) past c t k q ∙ e) ∙ whole
 
-bundles-agree : (l n : ℕ) {past rest : List Body} {ps : List Placed} (bs : List Bundle) → All TypedBundle bs
-    → lettersIn past ≡ l → openedIn past ≡ n
-    → Agree (afterBundles past bs) rest ps → Agree past (bundlesThen bs rest) (bundlePlaces l (n + 1) bs ps)
-bundles-agree l n [] k letters opened others = others
-bundles-agree l n {past} (b ∷ bs) k letters opened others =
-    let s : Stands (b .header ∷ past) l (n + 1) 0 =
-    stands-on l n (itemsSince (is 20) past) (b .header) 20 (k .0 .header) record { letters = letters; opened = opened; items = refl }
-    (omega arith) (omega arith) refl in
-    let letters′ : lettersIn (afterBundle past b) ≡ l = quiet-bundle 0 toLetters (omega arith) past b (k .0) ∙ letters in
-    let opened′ : openedIn (afterBundle past b) ≡ n + 1 =
-    omega (arith, count-bundle 0 toOpened (omega arith) (omega arith) (omega arith) past b (k .0)) in
-    seated-then (placed l (n + 1) 0 0 (b .header)) 20 (k .0 .header) record { letter = s .letters; bundle = s .opened; item = refl; amount = refl }
-    (items-agree l (n + 1) 0 (b .items) (k .0 .items) s
-    (seated-then (placed l (n + 1) 0 (debitOf b) (b .control)) 70 (k .0 .control)
-    record { letter = letters′; bundle = opened′; item = refl; amount = bundle-debit past b (k .0) }
-    (bundles-agree l (n + 1) bs (k .1) letters′ opened′ others)))
-
-letters-agree : (n : ℕ) {past rest : List Body} {ps : List Placed} (ls : List CashLetter) → All TypedLetter ls → lettersIn past ≡ n
-    → Agree (afterLetters past ls) rest ps → Agree past (lettersThen ls rest) (letterPlaces (n + 1) ls ps)
-letters-agree n [] k letters others = others
-letters-agree n {past} (l ∷ ls) k letters others =
-    let begun : lettersIn (l .header ∷ past) ≡ n + 1 = omega (arith, step 0 toLetters past (l .header) 10 (k .0 .header)) in
-    let ended : lettersIn (afterLetter past l) ≡ n + 1 =
-    omega (arith, count-letter 0 toLetters (omega arith) (omega arith) (omega arith) past l (k .0)) in
-    seated-then (placed (n + 1) 0 0 0 (l .header)) 10 (k .0 .header) record { letter = begun; bundle = refl; item = refl; amount = refl }
-    (bundles-agree (n + 1) 0 (l .bundles) (k .0 .bundles) begun (step 0 toOpened past (l .header) 10 (k .0 .header))
-    (seated-then (placed (n + 1) 0 0 (debitIn l) (l .control)) 90 (k .0 .control)
-    record { letter = ended; bundle = refl; item = refl; amount = letter-debit past l (k .0) }
-    (letters-agree (n + 1) ls (k .1) ended others)))
-
-file-agrees : (x : File) → Typed x → Agree [] (records x) (places x)
-file-agrees x k =
-    seated-then (placed 0 0 0 0 (x .header)) 1 (k .header) record { letter = refl; bundle = refl; item = refl; amount = refl }
-    (letters-agree 0 (x .letters) (k .letters) (quiet-step 0 toLetters [] (x .header) 1 (k .header) (omega arith))
-    (seated-then (placed 0 0 0 (total debitIn (x .letters)) (x .control)) 99 (k .control)
+-- what a cash letter holds, from its bundle n + 1 on, behind which no bundle is open
+contents-agree : (letter : Body) (l n i : ℕ) {past rest : List Body} {ps : List Placed} (cs : List Content) → All TypedContent cs
+    → All (SoundContent letter) cs → Stands past false l n i
+    → ((m j : ℕ) → Stands (afterContents past cs) false l m j → Agree (afterContents past cs) rest ps)
+    → Agree past (contentsThen cs rest) (contentPlaces l (n + 1) cs ps)
+contents-agree letter l n i [] k h s others = others n i s
+contents-agree letter l n i {past} (bundled b ∷ cs) k h s others =
+    let s′ : Stands (b .header ∷ past) true l (n + 1) 0 = stands-on (b .header) 20 (k .0 .header) s refl (omega arith) (omega arith) refl in
+    row-then (placed l (n + 1) 0 0 (b .header)) 20 (k .0 .header) s′ (search)
+    (items-agree l (n + 1) 0 (b .items) (k .0 .items) s′ (λ m t.
+    let t′ : Stands (afterBundle past b) false l (n + 1) m =
+    stands-on (b .control) 70 (k .0 .control) t refl (omega arith) (omega arith) (omega arith) in
+    row-then (placed l (n + 1) 0 (ofBundle debitCents b) (b .control)) 70 (k .0 .control) t′
     record {
       letter = refl;
       bundle = refl;
       item = refl;
-      amount = sym (ap (debitSince never) (onto-letters (x .header ∷ []) (x .letters) (x .control ∷ []))) ∙ debit-of x k;
+      amount =
+          control-amount (is 20) (afterItems (b .header ∷ past) (b .items)) (b .control) 70 (k .0 .control) (omega arith)
+          (bundle-figures b past (k .0) .debit) (stated-whole bundleControl 3 (b .control) (omega arith) (h .0 .debit-cents));
+    }
+    (contents-agree letter l (n + 1) m cs (k .1) (h .1) t′ others)))
+contents-agree letter l n i (direct c ∷ cs) k h s others =
+    item-agrees false l n i (asItem c) (item-of c (k .0)) s (λ s′. contents-agree letter l n (i + 1) cs (k .1) (h .1) s′ others)
+
+letters-agree : (n o i : ℕ) {past rest : List Body} {ps : List Placed} (ls : List CashLetter) → All TypedLetter ls → All SoundLetter ls
+    → Stands past false n o i → ((m p j : ℕ) → Stands (afterLetters past ls) false m p j → Agree (afterLetters past ls) rest ps)
+    → Agree past (lettersThen ls rest) (letterPlaces (n + 1) ls ps)
+letters-agree n o i [] k h s others = others n o i s
+letters-agree n o i {past} (l ∷ ls) k h s others =
+    let s′ : Stands (l .header ∷ past) false (n + 1) 0 i = stands-on (l .header) 10 (k .0 .header) s refl (omega arith) refl (omega arith) in
+    row-then (placed (n + 1) 0 0 0 (l .header)) 10 (k .0 .header) s′ (search)
+    (contents-agree (l .header) (n + 1) 0 i (l .contents) (k .0 .contents) (h .0 .contents) s′ (λ m j t.
+    let t′ : Stands (afterLetter past l) false (n + 1) m j =
+    stands-on (l .control) 90 (k .0 .control) t refl (omega arith) (omega arith) (omega arith) in
+    row-then (placed (n + 1) 0 0 (ofLetter debitCents l) (l .control)) 90 (k .0 .control) t′
+    record {
+      letter = refl;
+      bundle = refl;
+      item = refl;
+      amount =
+          control-amount (is 10) (afterContents (l .header ∷ past) (l .contents)) (l .control) 90 (k .0 .control) (omega arith)
+          (letter-figures l past (k .0) .debit) (stated-whole cashLetterControl 4 (l .control) (omega arith) (h .0 .debit-cents));
+    }
+    (letters-agree (n + 1) m j ls (k .1) (h .1) t′ others)))
+
+file-agrees : (x : File) → Typed x → Sound x → Agree [] (records x) (places x)
+file-agrees x k h =
+    let none : Stands [] false 0 0 0 = record { within = refl; letters = refl; opened = refl; items = refl } in
+    let s : Stands (x .header ∷ []) false 0 0 0 = stands-on (x .header) 1 (k .header) none refl refl refl refl in
+    row-then (placed 0 0 0 0 (x .header)) 1 (k .header) s (search)
+    (letters-agree 0 0 0 (x .letters) (k .letters) (h .letters) s (λ m p j t.
+    let t′ : Stands (x .control ∷ afterLetters (x .header ∷ []) (x .letters)) false m p j =
+    stands-on (x .control) 99 (k .control) t refl (omega arith) (omega arith) (omega arith) in
+    row-then (placed 0 0 0 (ofFile debitCents x) (x .control)) 99 (k .control) t′
+    record {
+      letter = refl;
+      bundle = refl;
+      item = refl;
+      amount =
+          control-amount never (afterLetters (x .header ∷ []) (x .letters)) (x .control) 99 (k .control) (omega arith)
+          (file-figures x k .debit) (stated-whole fileControl 5 (x .control) (omega arith) (h .debit-cents));
     }
     record { rows-from = λ at. refl }))
 
-pub rows-of : (x : File) → Typed x → rowsAll 0 [] (records x) ≡ rows x
-rows-of x k = file-agrees x k .rows-from 0
+pub rows-of : (x : File) → Typed x → Sound x → rowsAll 0 [] (records x) ≡ rows x
+rows-of x k h = file-agrees x k h .rows-from 0

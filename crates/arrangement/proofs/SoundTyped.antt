@@ -5,9 +5,9 @@ use mathlib.Core.List.{List, [], _∷_}
 use Rattle.layout.specs.Layout.{Layout}
 use Rattle.layout.specs.Layouts.{checkDetailAddendumA, checkDetailAddendumB, checkDetailAddendumC, returnAddendumA, returnAddendumC, returnAddendumD, imageViewAnalysis}
 use Rattle.file_as_records.specs.Framed.{Body}
-use Rattle.arrangement.specs.Tree.{View, Addenda, ofCheck, ofReturn, Item, Bundle, CashLetter, File}
-use Rattle.arrangement.specs.Sound.{All, IfAny, Right, Numbered, SoundAddenda, SoundView, SoundItem, SoundBundle, SoundLetter, Sound}
-use Rattle.arrangement.specs.TypesInPlace.{OfType, TypedView, TypedAddenda, TypedItem, TypedBundle, TypedLetter, Typed}
+use Rattle.arrangement.specs.Tree.{View, Addenda, ofCheck, ofReturn, ofCredit, Item, Bundle, Credit, Content, bundled, direct, CashLetter, File}
+use Rattle.arrangement.specs.Sound.{All, IfAny, Right, Numbered, Owner, inBundle, inLetter, SoundAddenda, SoundView, SoundItem, SoundBundle, SoundCredit, SoundContent, SoundLetter, Sound}
+use Rattle.arrangement.specs.TypesInPlace.{OfType, TypedView, TypedAddenda, TypedItem, TypedBundle, TypedCredit, TypedContent, TypedLetter, Typed}
 
 -- each record that is right for a layout is of its type
 all-map : {A : Type 0} (P Q : A → Type 0) → ((x : A) → P x → Q x) → (xs : List A) → All P xs → All Q xs
@@ -23,8 +23,8 @@ module _ (k : Layout) where
   numbered-typed n [] h = tt
   numbered-typed n (b ∷ bs) h = (h .0 .right .type, numbered-typed (n + 1) bs (h .1))
 
-pub view-typed : (header : Body) (i : Item) (v : View) → SoundView header i v → TypedView v
-view-typed header i v s =
+pub view-typed : (o : Owner) (v : View) → SoundView o v → TypedView v
+view-typed o v s =
     record { detail = s .detail .type; image = s .image .type; analysis = any-typed imageViewAnalysis (v .analysis) (s .analysis) }
 
 pub addenda-typed : (a : Addenda) → SoundAddenda a → TypedAddenda a
@@ -41,13 +41,17 @@ addenda-typed (ofReturn a b c d) s =
       addendum-c = any-typed returnAddendumC c (s .addendum-c);
       addenda-d = numbered-typed returnAddendumD 1 d (s .addenda-d);
     }
+addenda-typed ofCredit s = tt
+
+pub views-typed : (o : Owner) (vs : List View) → All (SoundView o) vs → All TypedView vs
+views-typed o vs s = all-map (SoundView o) TypedView (view-typed o) vs s
 
 pub item-typed : (letter header : Body) (i : Item) → SoundItem letter header i → TypedItem i
 item-typed letter header i s =
     record {
       detail = s .detail .type;
       addenda = addenda-typed (i .addenda) (s .addenda);
-      views = all-map (SoundView header i) TypedView (view-typed header i) (i .views) (s .views);
+      views = views-typed (inBundle header i) (i .views) (s .views);
     }
 
 pub bundle-typed : (letter : Body) (b : Bundle) → SoundBundle letter b → TypedBundle b
@@ -58,11 +62,18 @@ bundle-typed letter b s =
       control = s .control .type;
     }
 
+pub credit-typed : (letter : Body) (c : Credit) → SoundCredit letter c → TypedCredit c
+credit-typed letter c s = record { detail = s .detail .type; views = views-typed (inLetter letter c) (c .views) (s .views) }
+
+pub content-typed : (letter : Body) (c : Content) → SoundContent letter c → TypedContent c
+content-typed letter (bundled b) s = bundle-typed letter b s
+content-typed letter (direct c) s = credit-typed letter c s
+
 pub letter-typed : (l : CashLetter) → SoundLetter l → TypedLetter l
 letter-typed l s =
     record {
       header = s .header .type;
-      bundles = all-map (SoundBundle (l .header)) TypedBundle (bundle-typed (l .header)) (l .bundles) (s .bundles);
+      contents = all-map (SoundContent (l .header)) TypedContent (content-typed (l .header)) (l .contents) (s .contents);
       control = s .control .type;
     }
 

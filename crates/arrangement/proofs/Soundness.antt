@@ -1,7 +1,7 @@
 -- Good records in the places of an arrangement make it sound: its cash letters, and the file. Assumes nothing.
 use Prim.Native.Nat.{ℕ, _≤_}
 use native.Mathlib.Omega.{arith}
-use mathlib.Core.Bool.{false}
+use mathlib.Core.Bool.{Bool, true, false}
 use mathlib.Core.Logic.{_⊎_, inl, inr}
 use mathlib.Core.Path.{_≡_, refl, sym, _∙_}
 use mathlib.Core.List.{List, [], _∷_}
@@ -10,34 +10,40 @@ use Rattle.layout.specs.Layouts.{fileHeader, cashLetterHeader, cashLetterContro
 use Rattle.judge.specs.Alone.{typeOf}
 use Rattle.order.specs.MayFollow.{follows}
 use Rattle.file_as_records.specs.Framed.{Body}
-use Rattle.file_as_records.proofs.Figures.{indicatorIn, openedIn}
+use Rattle.file_as_records.proofs.Figures.{insideIn, indicatorIn, openedIn}
 use Rattle.file_as_records.proofs.Good.{GoodAll}
 use Rattle.arrangement.specs.Tree.{CashLetter, File}
 use Rattle.arrangement.specs.Written.{letterThen, lettersThen, records}
-use Rattle.arrangement.specs.Sound.{All, indicator, N, SoundLetter, Sound}
+use Rattle.arrangement.specs.Sound.{All, indicator, N, bundleCount, SoundLetter, Sound}
 use Rattle.arrangement.specs.TypesInPlace.{TypedLetter, Typed}
 use Rattle.arrangement.proofs.Rightness.{right-in, known-01, known-10, known-90, known-99}
-use Rattle.arrangement.proofs.After.{afterBundles, afterLetter, afterLetters}
-use Rattle.arrangement.proofs.Quiet.{quiet-bundles, step}
+use Rattle.arrangement.proofs.After.{afterContents, afterLetter, afterLetters}
+use Rattle.arrangement.proofs.Quiet.{step}
 use Rattle.arrangement.proofs.Turns.{letter-in, as-type, Found, not-after}
-use Rattle.arrangement.proofs.InItem.{nextIndicator}
-use Rattle.arrangement.proofs.ItemFigures.{quiet-indicator}
+use Rattle.arrangement.proofs.InItem.{indicator-is, nextInside}
+use Rattle.arrangement.proofs.InLetter.{letter-begun, behind-contents}
 use Rattle.arrangement.proofs.Levels.{letter-figures, file-figures}
-use Rattle.arrangement.proofs.BundlesSound.{bundles-sound}
+use Rattle.arrangement.proofs.BundlesSound.{contents-sound}
 
 filled-letter : (i j m n : ℕ) → i ≡ j → m ≡ n → (i ≡ N) ⊎ (1 ≤ m) → (j ≡ N) ⊎ (1 ≤ n)
 filled-letter i j m n e f (inl h) = inl (sym e ∙ h)
 filled-letter i j m n e f (inr h) = inr (omega (arith, f, h))
 
-letter-sound : (l : CashLetter) (past rest : List Body) → TypedLetter l → GoodAll past (letterThen l rest)
-    → Found (SoundLetter l) (afterLetter past l) rest
-letter-sound l past rest typed good =
+-- a cash letter, and behind it no bundle open
+record LetterFound (l : CashLetter) (past rest : List Body) : Type 0 where
+  sound : SoundLetter l
+  outside : insideIn (afterLetter past l) ≡ false
+  behind : GoodAll (afterLetter past l) rest
+
+letter-sound : (l : CashLetter) (past rest : List Body) → TypedLetter l → insideIn past ≡ false → GoodAll past (letterThen l rest)
+    → LetterFound l past rest
+letter-sound l past rest typed outside good =
     let header = as-type 10 past (l .header) (typed .header) (good .first) in
-    let begun = step 0 nextIndicator past (l .header) 10 (typed .header) in
-    let bundles = bundles-sound (l .header) (l .bundles) (l .header ∷ past) (l .control ∷ rest) (typed .bundles) begun (good .rest) in
-    let before = afterBundles (l .header ∷ past) (l .bundles) in
-    let letter-is = quiet-bundles 0 nextIndicator quiet-indicator (l .header ∷ past) (l .bundles) (typed .bundles) ∙ begun in
-    let control = as-type 90 before (l .control) (typed .control) (bundles .behind .first) in
+    let begun = letter-begun (l .header) past (typed .header) outside in
+    let contents = contents-sound (l .header) (l .contents) (l .header ∷ past) (l .control ∷ rest) (typed .contents) begun (good .rest) in
+    let before = afterContents (l .header ∷ past) (l .contents) in
+    let here = behind-contents (l .header) (l .contents) (l .header ∷ past) (typed .contents) begun in
+    let control = as-type 90 before (l .control) (typed .control) (contents .behind .first) in
     let totals = control .totalled .letter refl in
     let f = letter-figures l past typed in
     record {
@@ -45,32 +51,34 @@ letter-sound l past rest typed good =
           record {
             header = right-in cashLetterHeader (l .header) known-10 (typed .header) (header .alone);
             filled =
-                filled-letter (indicatorIn before) (indicator (l .header)) (openedIn before) (length (l .bundles)) letter-is (f .bundles)
-                (letter-in before (l .control) control);
-            bundles = bundles .sound;
+                filled-letter (indicatorIn before) (indicator (l .header)) (openedIn before) (bundleCount l) (indicator-is before (here .letter-is))
+                (f .bundles) (letter-in before (l .control) control);
+            contents = contents .sound;
             control = right-in cashLetterControl (l .control) known-90 (typed .control) (control .alone);
             bundle-count = totals .bundle-count ∙ f .bundles;
-            item-count = totals .item-count ∙ f .items;
-            debit = totals .debit ∙ f .debit;
+            debit-count = totals .debit-count ∙ f .debits;
+            debit-cents = totals .debit-cents ∙ f .debit;
             view-count = totals .view-count ∙ f .views;
-            credit-count = totals .credit-count;
-            credit = totals .credit;
+            credit-count = totals .credit-count ∙ f .credits;
+            credit-cents = totals .credit-cents ∙ f .credit;
           };
-      behind = bundles .behind .rest;
+      outside = step false nextInside before (l .control) 90 (typed .control) ∙ here .outside;
+      behind = contents .behind .rest;
     }
 
-letters-sound : (ls : List CashLetter) (past rest : List Body) → All TypedLetter ls → GoodAll past (lettersThen ls rest)
+letters-sound : (ls : List CashLetter) (past rest : List Body) → All TypedLetter ls → insideIn past ≡ false → GoodAll past (lettersThen ls rest)
     → Found (All SoundLetter ls) (afterLetters past ls) rest
-letters-sound [] past rest typed good = record { sound = tt; behind = good }
-letters-sound (l ∷ ls) past rest typed good =
-    let here = letter-sound l past (lettersThen ls rest) (typed .0) good in
-    let others = letters-sound ls (afterLetter past l) rest (typed .1) (here .behind) in
+letters-sound [] past rest typed outside good = record { sound = tt; behind = good }
+letters-sound (l ∷ ls) past rest typed outside good =
+    let here = letter-sound l past (lettersThen ls rest) (typed .0) outside good in
+    let others = letters-sound ls (afterLetter past l) rest (typed .1) (here .outside) (here .behind) in
     record { sound = (here .sound, others .sound); behind = others .behind }
 
 -- no file is empty: a 99 does not follow a 01
-never-99 : follows 1 99 ≡ false
+never-99 : (opened : Bool) → follows opened 1 99 ≡ false
 unfolding follows
-never-99 = refl
+never-99 true = refl
+never-99 false = refl
 
 some-letter : (f : File) (ls : List CashLetter) → typeOf (f .header) ≡ 1 → typeOf (f .control) ≡ 99
     → GoodAll (f .header ∷ []) (lettersThen ls (f .control ∷ [])) → 1 ≤ length ls
@@ -80,7 +88,8 @@ some-letter f (l ∷ ls) begins ends good = omega arith
 pub good-sound : (f : File) → Typed f → GoodAll [] (records f) → Sound f
 good-sound f typed good =
     let header = as-type 1 [] (f .header) (typed .header) (good .first) in
-    let letters = letters-sound (f .letters) (f .header ∷ []) (f .control ∷ []) (typed .letters) (good .rest) in
+    let outside = step false nextInside [] (f .header) 1 (typed .header) in
+    let letters = letters-sound (f .letters) (f .header ∷ []) (f .control ∷ []) (typed .letters) outside (good .rest) in
     let before = afterLetters (f .header ∷ []) (f .letters) in
     let control = as-type 99 before (f .control) (typed .control) (letters .behind .first) in
     let totals = control .totalled .file refl in
@@ -93,6 +102,6 @@ good-sound f typed good =
       letter-count = totals .letter-count ∙ s .letters;
       record-count = totals .record-count ∙ s .all;
       item-count = totals .item-count ∙ s .items;
-      debit = totals .debit ∙ s .debit;
-      credit = totals .credit;
+      debit-cents = totals .debit-cents ∙ s .debit;
+      credit-cents = totals .credit-cents ∙ s .credit;
     }

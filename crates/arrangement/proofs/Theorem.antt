@@ -18,7 +18,7 @@ use Rattle.passes.specs.Reading.{surveyed, inRoom, answerOf, tableAfter, tableO
 use Rattle.passes.proofs.Passes.{accepted-small}
 use Rattle.file_as_records.specs.Framed.{Body, framed}
 use Rattle.file_as_records.proofs.Good.{GoodAll}
-use Rattle.file_as_records.proofs.Figures.{lastIn}
+use Rattle.file_as_records.proofs.Figures.{insideIn, lastIn}
 use Rattle.file_as_records.proofs.LengthFields.{Bytes, one-framing}
 use Rattle.file_as_records.proofs.Accepted.{accepted-records}
 use Rattle.file_as_records.proofs.ReadThrough.{records-accepted}
@@ -36,7 +36,7 @@ use Rattle.arrangement.proofs.Soundness.{good-sound}
 use Rattle.arrangement.proofs.SoundTyped.{sound-typed}
 use Rattle.arrangement.proofs.Goodness.{sound-good}
 
-good-chain : (past bs : List Body) → GoodAll past bs → Chain (lastIn past) bs
+good-chain : (past bs : List Body) → GoodAll past bs → Chain (insideIn past) (lastIn past) bs
 good-chain past [] g = g
 good-chain past (b ∷ bs) g = (follows-in (typeOf b) past b (g .first), good-chain (b ∷ past) bs (g .rest))
 
@@ -71,7 +71,7 @@ pub arranged-accepted : (file : List ℕ) (x : File) → Arranges file x → Rea
 arranged-accepted file x a =
     let k = sound-typed x (a .sound) in
     let r = records-accepted file (records x) (a .size) (a .bytes) (sound-good x (a .sound)) in
-    record { answer = r .answer ∙ ap Accepted (totals-of x k); its-rows = r .rows ∙ rows-of x k }
+    record { answer = r .answer ∙ ap Accepted (totals-of x k (a .sound)); its-rows = r .rows ∙ rows-of x k (a .sound) }
 
 -- an accepted file has an arrangement
 pub accepted-arranged : (file : List ℕ) (t : Totals) → Bytes file → surveyed file ≡ Accepted t → (x : File) × Arranges file x
@@ -132,8 +132,9 @@ theorem file table b =
       its-control =
           λ x t a e.
           let u = same-totals t (totals x) (sym e ∙ accepted-answer file table x a (has-room file table x t a e)) in (
-            ap (λ (v : Totals). v .sums .items .0) u ∙ sym (a .sound .item-count),
-            ap (λ (v : Totals). v .sums .debit .0) u ∙ sym (a .sound .debit),
+            ap (λ (v : Totals). v .items .0) u ∙ sym (a .sound .item-count),
+            ap (λ (v : Totals). v .sums .debit .0) u ∙ sym (a .sound .debit-cents),
+            ap (λ (v : Totals). v .sums .credit .0) u ∙ sym (a .sound .credit-cents),
           );
       its-room = λ x a h. room-answer file table x a h;
     }

@@ -1,55 +1,73 @@
 -- The totals of the reading are those of the arrangement. Assumes nothing.
-use Prim.Native.Nat.{ℕ}
+use Prim.Native.Nat.{ℕ, _-_, _≤_}
 use native.Mathlib.Nat.{add-zero}
 use native.Mathlib.Omega.{arith}
-use mathlib.Core.Path.{_≡_}
-use mathlib.Core.List.{[]}
-use lib.ListN.{length}
+use mathlib.Core.Path.{_≡_, ap, _∙_}
+use mathlib.Core.List.{List, [], _∷_}
+use mathlib.Core.Bool.{Bool, true, false, cond}
+use lib.Dec.{eqb}
+use lib.ListN.{length, length-take, drop}
+use borrow.Author.Tests.{le-leb}
+use Rattle.text.proofs.Laws.{number-below}
+use Rattle.layout.specs.Layout.{Line, Layout}
+use Rattle.layout.specs.Layouts.{fileControl}
+use Rattle.judge.specs.Alone.{charactersOf}
+use Rattle.measure.specs.Measures.{capped, unstatable}
 use Rattle.order.specs.MayFollow.{isItem}
-use Rattle.file_as_records.specs.Framed.{Body}
+use Rattle.file_as_records.specs.Framed.{Body, fieldAmong, fieldOf}
 use Rattle.file_as_records.proofs.Good.{onto, totalsAfter}
-use Rattle.file_as_records.proofs.Figures.{count, is, never, amountAs, lettersIn, bundlesIn, itemsSince, debitSince, viewsSince}
-use Rattle.arrangement.specs.Tree.{CashLetter, File}
+use Rattle.file_as_records.proofs.Figures.{sumSince, count, is, never, debitAs, creditAs}
+use Rattle.arrangement.specs.Tree.{File}
 use Rattle.arrangement.specs.Written.{records}
-use Rattle.arrangement.specs.Sound.{total, viewsOf, debitOf, debitIn, itemsIn, viewsIn}
+use Rattle.arrangement.specs.Sound.{Sound, stated}
 use Rattle.arrangement.specs.TypesInPlace.{Typed}
 use Rattle.arrangement.specs.RowsAndTotals.{totals}
-use Rattle.arrangement.proofs.After.{length-onto}
+use Rattle.arrangement.proofs.After.{afterLetters, length-onto, onto-letters}
 use Rattle.arrangement.proofs.Counting.{adding}
-use Rattle.arrangement.proofs.Sums.{items-sum, items-counted, items-views, file-sum, file-sum-by-letters, file-sum-by-bundles, amountIn, bundles-counted, letters-counted}
+use Rattle.arrangement.proofs.Levels.{debitOne, creditOne, file-figures}
+use Rattle.arrangement.proofs.Quiet.{Quiet, quiet-step}
 
--- each total of the reading
-module _ (f : File) (k : Typed f) where
-  letters-of : lettersIn (onto (records f) []) ≡ length (f .letters)
-  letters-of =
-      let next : ℕ → Body → ℕ → ℕ = adding never (count (is 10)) in
-      file-sum next (λ f. length (f .letters)) (omega arith) (omega arith)
-      (letters-counted next (omega arith) (omega arith) (omega arith)) f k
+-- how many characters field n has at most, by the lines of a layout
+abbrev sizeAmong : List Line → ℕ → ℕ
+sizeAmong [] n = 0
+sizeAmong (l ∷ ls) n = cond (eqb (l .number) n) (l .size) (sizeAmong ls n)
 
-  bundles-of : bundlesIn (onto (records f) []) ≡ total (λ (l : CashLetter). length (l .bundles)) (f .letters)
-  bundles-of =
-      let next : ℕ → Body → ℕ → ℕ = adding never (count (is 20)) in
-      file-sum-by-letters next (λ l. length (l .bundles)) (omega arith)
-      (bundles-counted next (omega arith) (omega arith) (omega arith)) f k
+field-size : (ls : List Line) (n : ℕ) (b : Body) → length (fieldAmong ls n b) ≤ sizeAmong ls n
+field-size [] n b = omega arith
+field-size (l ∷ ls) n b = here (eqb (l .number) n) (field-size ls n b)
+  where
+    here : (found : Bool) → length (fieldAmong ls n b) ≤ sizeAmong ls n
+        → length (cond found (charactersOf l b) (fieldAmong ls n b)) ≤ cond found (l .size) (sizeAmong ls n)
+    here true others = omega (arith, length-take (l .size) (drop (l .first - 1) b))
+    here false others = others
 
-  items-of : itemsSince never (onto (records f) []) ≡ total itemsIn (f .letters)
-  items-of =
-      let next : ℕ → Body → ℕ → ℕ = adding never (count isItem) in
-      file-sum-by-bundles next (λ b. length (b .items)) (omega arith) (omega arith)
-      (items-counted next (omega arith)) f k
+-- a figure that a field of at most 16 characters states is not capped
+pub stated-whole : (k : Layout) (n : ℕ) (b : Body) {figure : ℕ} → sizeAmong (k .lines) n ≤ 16 → stated k n b ≡ figure → capped figure ≡ figure
+stated-whole k n b {figure} short e =
+    let below = number-below (fieldOf k n b) 16 (omega (arith, field-size (k .lines) n b)) in
+    rw (le-leb figure unstatable (omega arith))
 
-  pub debit-of : debitSince never (onto (records f) []) ≡ total debitIn (f .letters)
-  debit-of =
-      let next : ℕ → Body → ℕ → ℕ = adding never amountAs in
-      file-sum-by-bundles next debitOf (omega arith) (omega arith)
-      (items-sum next amountIn (omega arith)) f k
+-- the 99 adds to no sum of the file
+with-control : (measure : ℕ → Body → ℕ) → Quiet (adding never measure) 99 → (f : File) → Typed f → {n : ℕ}
+    → sumSince never measure (afterLetters (f .header ∷ []) (f .letters)) ≡ n → sumSince never measure (onto (records f) []) ≡ n
+with-control measure q f k e =
+    ap (sumSince never measure) (onto-letters (f .header ∷ []) (f .letters) (f .control ∷ []))
+    ∙ quiet-step 0 (adding never measure) (afterLetters (f .header ∷ []) (f .letters)) (f .control) 99 (k .control) q ∙ e
 
-  views-of : viewsSince never (onto (records f) []) ≡ total viewsIn (f .letters)
-  views-of =
-      let next : ℕ → Body → ℕ → ℕ = adding never (count (is 50)) in
-      file-sum-by-bundles next (λ b. total viewsOf (b .items)) (omega arith) (omega arith)
-      (items-views next (omega arith)) f k
-
-pub totals-of : (x : File) → Typed x → totalsAfter (onto (records x) []) ≡ totals x
-totals-of x k =
-    cc (letters-of x k, bundles-of x k, items-of x k, debit-of x k, views-of x k, length-onto [] (records x), add-zero (length (records x)))
+pub totals-of : (x : File) → Typed x → Sound x → totalsAfter (onto (records x) []) ≡ totals x
+totals-of x k s =
+    let g = file-figures x k in
+    cc (
+      with-control (count (is 10)) (omega arith) x k (g .letters),
+      with-control (count (is 20)) (omega arith) x k (g .bundles),
+      with-control (count isItem) (omega arith) x k (g .items),
+      with-control debitOne (omega arith) x k (g .debits),
+      with-control debitAs (omega arith) x k (g .debit),
+      with-control creditOne (omega arith) x k (g .credits),
+      with-control creditAs (omega arith) x k (g .credit),
+      with-control (count (is 50)) (omega arith) x k (g .views),
+      stated-whole fileControl 5 (x .control) (omega arith) (s .debit-cents),
+      stated-whole fileControl 8 (x .control) (omega arith) (s .credit-cents),
+      length-onto [] (records x),
+      add-zero (length (records x)),
+    )

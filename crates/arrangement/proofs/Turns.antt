@@ -5,14 +5,14 @@ use mathlib.Core.Bool.{Bool, true, false, _&&_, _||_, not}
 use mathlib.Core.Logic.{_⊎_, inl, inr}
 use mathlib.Core.Path.{ap, _∙_, _≡_, refl, sym, subst}
 use mathlib.Core.List.{List, _∷_}
-use lib.Dec.{leb, eqb}
-use borrow.Author.Tests.{leb-true, le-leb, ltb-true, eqb-true, eq-eqb, ne-eqb, eqb-false}
+use lib.Dec.{eqb}
+use borrow.Author.Tests.{leb-true, ltb-true, eqb-true, eq-eqb, ne-eqb, eqb-false}
 use Rattle.judge.specs.Alone.{typeOf}
-use Rattle.order.specs.MayFollow.{isItem, isAddendum, mayFollow, follows, oneItemType}
+use Rattle.order.specs.MayFollow.{isCheckOrReturn, isItem, isAddendum, mayFollow, follows, oneItemType}
 use Rattle.agree.specs.Links.{addendaKept, annexB}
 use Rattle.file_as_records.specs.Framed.{Body}
 use Rattle.file_as_records.proofs.Good.{Good, GoodAs, GoodAll}
-use Rattle.file_as_records.proofs.Figures.{is, statedIn, addendaIn, shownIn, openedIn, indicatorIn, itemsSince, lastIn, presentIn}
+use Rattle.file_as_records.proofs.Figures.{statedIn, addendaIn, shownIn, openedIn, indicatorIn, insideIn, holderIn, lastIn, presentIn}
 use Rattle.file_as_records.proofs.Tests.{both, not-both}
 use Rattle.arrangement.specs.Sound.{N, E, I, F}
 
@@ -23,12 +23,9 @@ unequal x y e h = not-both (rw (eq-eqb x y h) at e)
 pub differs : (x y : ℕ) → (x ≡ y → ⊥) → not (eqb x y) ≡ true
 differs x y h = rw (ne-eqb x y h)
 
-either-in : (a b : Bool) → a || b ≡ true → (a ≡ true) ⊎ (b ≡ true)
-either-in true b e = inl refl
-either-in false b e = inr e
-
+-- of a newest item of type `holder`: views are demanded of checks and returns
 abbrev pub Seen : ℕ → ℕ → ℕ → Type 0
-Seen indicator items shown = (indicator ≡ I) ⊎ (indicator ≡ F) → 1 ≤ items → 1 ≤ shown
+Seen indicator holder shown = isCheckOrReturn holder ≡ true → (indicator ≡ I) ⊎ (indicator ≡ F) → 1 ≤ shown
 
 seen-bools : (a b c d : Bool) → not ((a || b) && (c && d)) ≡ true → (a ≡ true) ⊎ (b ≡ true) → c ≡ true → d ≡ false
 seen-bools true b true true e h k = sym e
@@ -47,9 +44,9 @@ either-tests : (i : ℕ) → (i ≡ I) ⊎ (i ≡ F) → (eqb i I ≡ true) ⊎ 
 either-tests i (inl e) = inl (eq-eqb i I e)
 either-tests i (inr e) = inr (eq-eqb i F e)
 
-seen-in : (i items shown : ℕ) → not ((eqb i I || eqb i F) && (leb 1 items && eqb shown 0)) ≡ true → Seen i items shown
-seen-in i items shown e =
-    λ h k. zero-or shown (seen-bools (eqb i I) (eqb i F) (leb 1 items) (eqb shown 0) e (either-tests i h) (le-leb 1 items k))
+seen-in : (i holder shown : ℕ) → not ((eqb i I || eqb i F) && (isCheckOrReturn holder && eqb shown 0)) ≡ true → Seen i holder shown
+seen-in i holder shown e =
+    λ k h. zero-or shown (seen-bools (eqb i I) (eqb i F) (isCheckOrReturn holder) (eqb shown 0) e (either-tests i h) k)
 
 seen-cases : (a b c d : Bool) → ((a ≡ true) ⊎ (b ≡ true) → c ≡ true → d ≡ false) → not ((a || b) && (c && d)) ≡ true
 seen-cases true b true d h = rw (h (inl refl) refl)
@@ -65,10 +62,9 @@ tests-either i (inr e) = inr (eqb-true i F e)
 not-zero : (n : ℕ) → 1 ≤ n → eqb n 0 ≡ false
 not-zero n h = ne-eqb n 0 (λ e. omega (arith, h, e))
 
-pub seen-out : (i items shown : ℕ) → Seen i items shown → not ((eqb i I || eqb i F) && (leb 1 items && eqb shown 0)) ≡ true
-seen-out i items shown s =
-    seen-cases (eqb i I) (eqb i F) (leb 1 items) (eqb shown 0)
-    (λ h k. not-zero shown (s (tests-either i h) (leb-true 1 items k)))
+pub seen-out : (i holder shown : ℕ) → Seen i holder shown → not ((eqb i I || eqb i F) && (isCheckOrReturn holder && eqb shown 0)) ≡ true
+seen-out i holder shown s =
+    seen-cases (eqb i I) (eqb i F) (isCheckOrReturn holder) (eqb shown 0) (λ h k. not-zero shown (s k (tests-either i h)))
 
 filled-bools : (a b : Bool) → not (not a && b) ≡ true → (a ≡ true) ⊎ (b ≡ false)
 filled-bools true b e = inl refl
@@ -95,7 +91,7 @@ abbrev pub Settled : List Body → Type 0
 Settled past = statedIn past ≤ addendaIn past
 
 abbrev pub Viewed : List Body → Type 0
-Viewed past = Seen (indicatorIn past) (itemsSince (is 20) past) (shownIn past)
+Viewed past = Seen (indicatorIn past) (holderIn past) (shownIn past)
 
 pub as-type : (t : ℕ) (past : List Body) (b : Body) → typeOf b ≡ t → Good past b → GoodAs t past b
 as-type t past b e g = subst (λ (u : ℕ). GoodAs u past b) e g
@@ -112,9 +108,14 @@ module _ (t : ℕ) (past : List Body) (b : Body) (g : GoodAs t past b) where
   unfolding addendaKept
   short-in h = ltb-true (addendaIn past) (statedIn past) (rw h at (g .linked .addenda))
 
-  pub follows-in : follows (lastIn past) t ≡ true
+  pub follows-in : follows (insideIn past) (lastIn past) t ≡ true
   unfolding mayFollow
-  follows-in = both (follows (lastIn past) t) (oneItemType (presentIn past) t) (g .follows) .0
+  follows-in = both (follows (insideIn past) (lastIn past) t) (oneItemType (presentIn past) t) (g .follows) .0
+
+  -- "as the first"
+  pub item-type-in : oneItemType (presentIn past) t ≡ true
+  unfolding mayFollow
+  item-type-in = both (follows (insideIn past) (lastIn past) t) (oneItemType (presentIn past) t) (g .follows) .1
 
 module _ (past : List Body) (b : Body) where
   pub bundle-in : GoodAs 20 past b → indicatorIn past ≡ N → ⊥
@@ -129,28 +130,18 @@ module _ (past : List Body) (b : Body) where
   pub viewed-in : (t : ℕ) → eqb t 20 ≡ false → eqb t 50 ≡ false → isItem t || eqb t 70 ≡ true → GoodAs t past b → Viewed past
   unfolding annexB
   viewed-in t not-20 not-50 closes g =
-      seen-in (indicatorIn past) (itemsSince (is 20) past) (shownIn past) (both _ _ (rw (not-20, not-50, closes) at (g .linked .annex-b)) .0)
+      seen-in (indicatorIn past) (holderIn past) (shownIn past) (both _ _ (rw (not-20, not-50, closes) at (g .linked .annex-b)) .0)
 
   pub letter-in : GoodAs 90 past b → (indicatorIn past ≡ N) ⊎ (1 ≤ openedIn past)
   unfolding annexB
   letter-in g = filled-in (indicatorIn past) (openedIn past) (g .linked .annex-b)
 
-module _ (t : ℕ) (past : List Body) (b : Body) (g : GoodAs t past b) where
-  -- "as the first"
-  pub item-type-in : isItem t ≡ true → (presentIn past ≡ 0) ⊎ (presentIn past ≡ t)
-  unfolding mayFollow
-  item-type-in h =
-      let same = both (follows (lastIn past) t) (oneItemType (presentIn past) t) (g .follows) .1 in
-      turn (either-in (eqb (presentIn past) 0) (eqb (presentIn past) t) (rw h at same))
-    where
-      turn : (eqb (presentIn past) 0 ≡ true) ⊎ (eqb (presentIn past) t ≡ true) → (presentIn past ≡ 0) ⊎ (presentIn past ≡ t)
-      turn (inl e) = inl (eqb-true (presentIn past) 0 e)
-      turn (inr e) = inr (eqb-true (presentIn past) t e)
-
--- a type that does not follow the one before it
-pub not-after : (t n : ℕ) (past : List Body) (b c : Body) → typeOf b ≡ n → typeOf c ≡ t → follows n t ≡ false → Good (b ∷ past) c → ⊥
+-- a type that does not follow the one before it, in a bundle or outside
+pub not-after : (t n : ℕ) (past : List Body) (b c : Body) → typeOf b ≡ n → typeOf c ≡ t → ((opened : Bool) → follows opened n t ≡ false)
+    → Good (b ∷ past) c → ⊥
 not-after t n past b c e k f g =
-    not-both (sym f ∙ ap (λ (l : ℕ). follows l t) (sym e) ∙ follows-in t (b ∷ past) c (as-type t (b ∷ past) c k g))
+    let opened = insideIn (b ∷ past) in
+    not-both (sym (f opened) ∙ ap (λ (l : ℕ). follows opened l t) (sym e) ∙ follows-in t (b ∷ past) c (as-type t (b ∷ past) c k g))
 
 -- a part of an arrangement found sound, and the records behind it good
 pub record Found (Part : Type 0) (past rest : List Body) : Type 0 where

@@ -1,5 +1,6 @@
 -- No list of records is two arrangements: after a part that may go on stand only records of a later turn than its own. Assumes nothing.
 use mathlib.Core.Bool.{cond}
+use mathlib.Core.Logic.{_≢_}
 use Prim.Native.Nat.{ℕ, _+_, _≤_}
 use native.Mathlib.Omega.{arith}
 use mathlib.Core.Path.{_≡_, refl, sym, ap, _∙_}
@@ -9,10 +10,10 @@ use lib.Dec.{eqb}
 use Rattle.judge.specs.Alone.{typeOf}
 use Rattle.order.specs.MayFollow.{isItem}
 use Rattle.file_as_records.specs.Framed.{Body}
-use Rattle.arrangement.specs.Tree.{View, Addenda, ofCheck, ofReturn, Item, Bundle, CashLetter, File}
-use Rattle.arrangement.specs.Written.{optionalThen, viewThen, viewsThen, itemThen, itemsThen, bundleThen, bundlesThen, letterThen, lettersThen, records}
+use Rattle.arrangement.specs.Tree.{View, Addenda, ofCheck, ofReturn, ofCredit, Item, Content, bundled, direct, CashLetter, File}
+use Rattle.arrangement.specs.Written.{optionalThen, viewThen, viewsThen, itemThen, itemsThen, contentThen, contentsThen, letterThen, lettersThen, records}
 use Rattle.arrangement.specs.Sound.{All, IfAny, layoutIn}
-use Rattle.arrangement.specs.TypesInPlace.{OfType, TypedView, TypedItem, TypedBundle, TypedLetter, Typed}
+use Rattle.arrangement.specs.TypesInPlace.{OfType, TypedView, TypedItem, TypedContent, TypedLetter, Typed}
 
 -- the turn of a type: its number, but a 50 after a 54, an item after its views, a 20 after a 70 and a 10 after a 90
 abbrev turn : ℕ → ℕ
@@ -49,27 +50,31 @@ optional t = record { begins = begins; known = known } where
   known none (some y) r s h g a b e = let z : next r ≡ turn t = ap next e ∙ ap turn g in absurd (omega arith)
   known (some x) none r s h g a b e = let z : next s ≡ turn t = ap next (sym e) ∙ ap turn h in absurd (omega arith)
 
--- parts of one sort, each of which begins at the turn k
-module _ {A : Type 0} (Ok : A → Type 0) (write : A → List Body → List Body) (all : List A → List Body → List Body) (k : ℕ)
+-- parts of one sort, each of which begins at a turn between k and n
+module _ {A : Type 0} (Ok : A → Type 0) (write : A → List Body → List Body) (all : List A → List Body → List Body) (k n : ℕ)
     (nil : (r : List Body) → all [] r ≡ r) (cons : (x : A) (xs : List A) (r : List Body) → all (x ∷ xs) r ≡ write x (all xs r))
-    (head : (x : A) (r : List Body) → Ok x → next (write x r) ≡ k) (part : Known Ok write k) where
+    (head : (x : A) (r : List Body) → Ok x → (k ≤ next (write x r)) × (next (write x r) ≤ n)) (part : Known Ok write k) where
   many-begin : (xs : List A) (r : List Body) → All Ok xs → (m : ℕ) → m ≤ k → m ≤ next r → m ≤ next (all xs r)
   many-begin [] r h m a b = rw (nil r) b
-  many-begin (x ∷ xs) r h m a b = rw (cons x xs r, head x (all xs r) (h .0)) a
+  many-begin (x ∷ xs) r h m a b = rw (cons x xs r) (omega (arith, head x (all xs r) (h .0)))
 
-  many-known : Known (All Ok) all (k + 1)
+  -- nothing is not something: what follows comes after the turn n
+  not-none : (y : A) (ys : List A) (r s : List Body) → Ok y → n + 1 ≤ next r → all [] r ≡ all (y ∷ ys) s → ⊥
+  not-none y ys r s g a e =
+      let same = ap next (sym (nil r) ∙ e ∙ cons y ys s) in omega (arith, same, head y (all ys s) g)
+
+  many-known : Known (All Ok) all (n + 1)
   many-known [] [] r s h g a b e = (refl, sym (nil r) ∙ e ∙ nil s)
-  many-known [] (y ∷ ys) r s h g a b e =
-      let z : next r ≡ k = ap next (sym (nil r) ∙ e ∙ cons y ys s) ∙ head y (all ys s) (g .0) in absurd (omega arith)
-  many-known (x ∷ xs) [] r s h g a b e =
-      let z : next s ≡ k = ap next (sym (nil s) ∙ sym e ∙ cons x xs r) ∙ head x (all xs r) (h .0) in absurd (omega arith)
+  many-known [] (y ∷ ys) r s h g a b e = absurd (not-none y ys r s (g .0) a e)
+  many-known (x ∷ xs) [] r s h g a b e = absurd (not-none x xs s r (h .0) b (sym e))
   many-known (x ∷ xs) (y ∷ ys) r s h g a b e =
+      let k-n = head x r (h .0) in
       let p = part x y (all xs r) (all ys s) (h .0) (g .0) (many-begin xs r (h .1) k (omega arith) (omega arith))
       (many-begin ys s (g .1) k (omega arith) (omega arith)) (sym (cons x xs r) ∙ e ∙ cons y ys s) in
       let q = many-known xs ys r s (h .1) (g .1) a b (p .1) in
       (cc, q .1)
 
-  many : Unique (All Ok) all k (k + 1)
+  many : Unique (All Ok) all k (n + 1)
   many = record { begins = many-begin; known = many-known }
 
 -- a part, and another after it
@@ -92,11 +97,22 @@ led : {B X : Type 0} {Q : B → Type 0} {w : B → List Body → List Body} {fro
     (make d x ≡ make d' y) × (r ≡ s)
 led make part d d' x y r s h g a b e = let p = part .known x y r s h g a b (cc) in (cc, p .1)
 
+-- a record, a part after it, and a record that closes it, known whatever follows
+level : {B X : Type 0} {Q : B → Type 0} {w : B → List Body → List Body} {from to : ℕ} (t : ℕ) → (make : Body → B → Body → X)
+    → Unique Q w from to → to ≤ turn t → (d d' : Body) (x y : B) (c c' : Body) (r s : List Body) → Q x → Q y → OfType t c → OfType t c'
+    → d ∷ w x (c ∷ r) ≡ d' ∷ w y (c' ∷ s) → (make d x c ≡ make d' y c') × (r ≡ s)
+level t make part later d d' x y c c' r s h g k k' e =
+    let p = part .known x y (c ∷ r) (c' ∷ s) h g (rw k later) (rw k' later) (cc) in (cc, cc)
+
+-- the first record of a part, of type t, stands at its turn
+at-turn : (t : ℕ) (b : Body) → OfType t b → (turn t ≤ turn (typeOf b)) × (turn (typeOf b) ≤ turn t)
+at-turn t b h = rw h (omega arith)
+
 bodies : (t : ℕ) → Unique (All (OfType t)) _++_ (turn t) (turn t + 1)
-bodies t = many (OfType t) _∷_ _++_ (turn t) (λ r. refl) (λ x xs r. refl) (λ x r h. ap turn h) (single t (turn t) .known)
+bodies t = many (OfType t) _∷_ _++_ (turn t) (turn t) (λ r. refl) (λ x xs r. refl) (λ x r h. at-turn t x h) (single t (turn t) .known)
 
 views : Unique (All TypedView) viewsThen 55 56
-views = many TypedView viewThen viewsThen 55 (λ r. refl) (λ x xs r. refl) (λ x r h. ap turn (h .detail)) (λ x y r s h g.
+views = many TypedView viewThen viewsThen 55 55 (λ r. refl) (λ x xs r. refl) (λ x r h. at-turn 50 (x .detail) (h .detail)) (λ x y r s h g.
     led {X = View} (λ d z. let (image, analysis) = z in record { detail = d; image = image; analysis = analysis })
     (seq (single 52 53) (optional 54) (omega arith))
     (x .detail) (y .detail) (x .image, x .analysis) (y .image, y .analysis) r s (h .image, h .analysis) (g .image, g .analysis))
@@ -113,6 +129,10 @@ of-return : {d : Body} {a : List Body} {b : Body} {c : Option Body} {g : List Bo
     → All (OfType 32) a × (OfType 33 b × (IfAny (OfType 34) c × (All (OfType 35) g × All TypedView vs)))
 of-return h = (h .addenda .addenda-a, (h .addenda .addendum-b, (h .addenda .addendum-c, (h .addenda .addenda-d, h .views))))
 
+-- a list of records does not begin with two types
+two-types : {d d' : Body} {r s : List Body} (t t' : ℕ) → t ≢ t' → OfType t d → OfType t' d' → d ∷ r ≡ d' ∷ s → ⊥
+two-types t t' other h h' e = other (cc)
+
 item-known : (d d' : Body) (x x' : Addenda) (vs vs' : List View) (r s : List Body) → TypedItem (item d x vs) → TypedItem (item d' x' vs') →
     60 ≤ next r → 60 ≤ next s → itemThen (item d x vs) r ≡ itemThen (item d' x' vs') s → (item d x vs ≡ item d' x' vs') × (r ≡ s)
 item-known d d' (ofCheck a b c) (ofCheck a' b' c') vs vs' r s h h' l l' e =
@@ -125,35 +145,48 @@ item-known d d' (ofReturn a b c g) (ofReturn a' b' c' g') vs vs' r s h h' l l' e
     (seq (bodies 32) (seq (single 33 34) (seq (optional 34) (seq (bodies 35) views (omega arith)) (omega arith)) (omega arith)) (omega arith))
     d d' (a, (b, (c, (g, vs)))) (a', (b', (c', (g', vs')))) r s
     (of-return h) (of-return h') (omega arith) (omega arith) e
-item-known d d' (ofCheck a b c) (ofReturn a' b' c' g') vs vs' r s h h' l l' e = let z : _≡_ {A = ℕ} 25 31 = cc in absurd (omega arith)
-item-known d d' (ofReturn a b c g) (ofCheck a' b' c') vs vs' r s h h' l l' e = let z : _≡_ {A = ℕ} 25 31 = cc in absurd (omega arith)
+item-known d d' ofCredit ofCredit vs vs' r s h h' l l' e =
+    led (λ d z. item d ofCredit z) views d d' vs vs' r s (h .views) (h' .views) (omega arith) (omega arith) e
+item-known d d' (ofCheck _ _ _) (ofReturn _ _ _ _) vs vs' r s h h' l l' e = absurd (two-types 25 31 (omega arith) (h .detail) (h' .detail) e)
+item-known d d' (ofCheck _ _ _) ofCredit vs vs' r s h h' l l' e = absurd (two-types 25 61 (omega arith) (h .detail) (h' .detail) e)
+item-known d d' (ofReturn _ _ _ _) (ofCheck _ _ _) vs vs' r s h h' l l' e = absurd (two-types 31 25 (omega arith) (h .detail) (h' .detail) e)
+item-known d d' (ofReturn _ _ _ _) ofCredit vs vs' r s h h' l l' e = absurd (two-types 31 61 (omega arith) (h .detail) (h' .detail) e)
+item-known d d' ofCredit (ofCheck _ _ _) vs vs' r s h h' l l' e = absurd (two-types 61 25 (omega arith) (h .detail) (h' .detail) e)
+item-known d d' ofCredit (ofReturn _ _ _ _) vs vs' r s h h' l l' e = absurd (two-types 61 31 (omega arith) (h .detail) (h' .detail) e)
 
-item-turn : (x : Addenda) → turn (layoutIn x .typeNumber) ≡ 60
-item-turn (ofCheck a b c) = refl
-item-turn (ofReturn a b c d) = refl
+item-turn : (x : Addenda) (d : Body) → OfType (layoutIn x .typeNumber) d → (60 ≤ turn (typeOf d)) × (turn (typeOf d) ≤ 60)
+item-turn (ofCheck a b c) d h = at-turn 25 d h
+item-turn (ofReturn a b c d) e h = at-turn 31 e h
+item-turn ofCredit d h = at-turn 61 d h
 
 items : Unique (All TypedItem) itemsThen 60 61
-items = many TypedItem itemThen itemsThen 60 (λ r. refl) (λ x xs r. refl) (λ x r h. ap turn (h .detail) ∙ item-turn (x .addenda))
+items = many TypedItem itemThen itemsThen 60 60 (λ r. refl) (λ x xs r. refl) (λ x r h. item-turn (x .addenda) (x .detail) (h .detail))
     (λ x y. item-known (x .detail) (y .detail) (x .addenda) (y .addenda) (x .views) (y .views))
 
-bundles : Unique (All TypedBundle) bundlesThen 80 81
-bundles = many TypedBundle bundleThen bundlesThen 80 (λ r. refl) (λ x xs r. refl) (λ x r h. ap turn (h .header)) (λ x y r s h g a b.
-    led {X = Bundle} (λ d z. let (its, control) = z in record { header = d; items = its; control = control })
-    (seq items (single 70 71) (omega arith))
-    (x .header) (y .header) (x .items, x .control) (y .items, y .control) r s
-    (h .items, h .control) (g .items, g .control) (omega arith) (omega arith))
+content-known : Known TypedContent contentThen 60
+content-known (bundled x) (bundled y) r s h g a b e =
+    level 70 (λ d is c. bundled (record { header = d; items = is; control = c })) items (omega arith)
+    (x .header) (y .header) (x .items) (y .items) (x .control) (y .control) r s (h .items) (g .items) (h .control) (g .control) e
+content-known (direct x) (direct y) r s h g a b e =
+    led (λ d vs. direct (record { detail = d; views = vs })) views
+    (x .detail) (y .detail) (x .views) (y .views) r s (h .views) (g .views) (omega arith) (omega arith) e
+content-known (bundled x) (direct y) r s h g a b e = absurd (two-types 20 61 (omega arith) (h .header) (g .detail) e)
+content-known (direct x) (bundled y) r s h g a b e = absurd (two-types 61 20 (omega arith) (h .detail) (g .header) e)
+
+content-turn : (x : Content) (r : List Body) → TypedContent x → (60 ≤ next (contentThen x r)) × (next (contentThen x r) ≤ 80)
+content-turn (bundled x) r h = omega (arith, at-turn 20 (x .header) (h .header))
+content-turn (direct x) r h = omega (arith, at-turn 61 (x .detail) (h .detail))
+
+contents : Unique (All TypedContent) contentsThen 60 81
+contents = many TypedContent contentThen contentsThen 60 80 (λ r. refl) (λ x xs r. refl) content-turn content-known
 
 letters : Unique (All TypedLetter) lettersThen 95 96
-letters = many TypedLetter letterThen lettersThen 95 (λ r. refl) (λ x xs r. refl) (λ x r h. ap turn (h .header)) (λ x y r s h g a b.
-    led {X = CashLetter} (λ d z. let (bs, control) = z in record { header = d; bundles = bs; control = control })
-    (seq bundles (single 90 91) (omega arith))
-    (x .header) (y .header) (x .bundles, x .control) (y .bundles, y .control) r s
-    (h .bundles, h .control) (g .bundles, g .control) (omega arith) (omega arith))
+letters = many TypedLetter letterThen lettersThen 95 95 (λ r. refl) (λ x xs r. refl) (λ x r h. at-turn 10 (x .header) (h .header))
+    (λ x y r s h g a b. level {X = CashLetter} 90 (λ d cs c. record { header = d; contents = cs; control = c }) contents (omega arith)
+    (x .header) (y .header) (x .contents) (y .contents) (x .control) (y .control) r s (h .contents) (g .contents) (h .control) (g .control))
 
 -- no list of records is two arrangements, whatever else the records hold
 pub one-shape : (x y : File) → Typed x → Typed y → records x ≡ records y → x ≡ y
 one-shape x y h g e =
-    led {X = File} (λ d z. let (ls, control) = z in record { header = d; letters = ls; control = control })
-    (seq letters (single 99 100) (omega arith))
-    (x .header) (y .header) (x .letters, x .control) (y .letters, y .control) [] []
-    (h .letters, h .control) (g .letters, g .control) (omega arith) (omega arith) e .0
+    level {X = File} 99 (λ d ls c. record { header = d; letters = ls; control = c }) letters (omega arith)
+    (x .header) (y .header) (x .letters) (y .letters) (x .control) (y .control) [] [] (h .letters) (g .letters) (h .control) (g .control) e .0

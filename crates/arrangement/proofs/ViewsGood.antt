@@ -1,99 +1,97 @@
 -- The records of sound views are good, one after the other. Assumes nothing.
 use Prim.Native.Nat.{ℕ}
 use native.Mathlib.Omega.{arith}
-use mathlib.Core.Bool.{true}
+use mathlib.Core.Bool.{Bool, true, false, cond}
 use mathlib.Core.Option.{Option, none, some}
 use mathlib.Core.Path.{_≡_, refl, sym, ap, _∙_, subst}
 use mathlib.Core.List.{List, [], _∷_}
 use lib.ListN.{length}
-use Rattle.layout.specs.Layouts.{bundleHeader, imageViewAnalysis}
+use Rattle.text.specs.DataTypes.{every}
+use Rattle.layout.specs.Layouts.{bundleHeader, imageViewData, imageViewAnalysis}
 use Rattle.order.specs.MayFollow.{isCarried, follows}
 use Rattle.file_as_records.specs.Framed.{Body, fieldOf}
-use Rattle.file_as_records.proofs.Figures.{is, newest, lastIn}
+use Rattle.file_as_records.proofs.Figures.{insideIn, is, newest, lastIn}
 use Rattle.file_as_records.proofs.Good.{GoodAll}
 use Rattle.file_as_records.proofs.LinksByName.{ViewLinked}
-use Rattle.arrangement.specs.Tree.{View, Addenda, ofCheck, ofReturn, Item}
+use Rattle.arrangement.specs.Tree.{View}
 use Rattle.arrangement.specs.Written.{optionalThen, viewThen, viewsThen}
-use Rattle.arrangement.specs.Sound.{All, IfAny, Right, indicator, E, SoundView}
+use Rattle.arrangement.specs.Sound.{All, IfAny, Right, indicator, E, Owner, Equals, SoundView}
 use Rattle.arrangement.proofs.Rightness.{known-54}
 use Rattle.arrangement.proofs.After.{afterOptional, afterView, afterViews}
 use Rattle.arrangement.proofs.Quiet.{step}
 use Rattle.arrangement.proofs.Turns.{Settled}
-use Rattle.arrangement.proofs.InItem.{InItem, in-step, in-view, sequence-is, nextSignature}
-use Rattle.arrangement.proofs.Making.{settled-kept, made-plain, made-50, made-52, settled-on, allow-at}
-use Rattle.arrangement.proofs.AddendaGood.{MayEnd}
+use Rattle.arrangement.proofs.InItem.{InItem, in-step, in-view, indicator-is, nextSignature}
+use Rattle.arrangement.proofs.Making.{Allow, allow-first, allow-rest, settled-kept, made-plain, made-50, made-52, settled-on, allow-at}
 use Rattle.arrangement.proofs.SoundTyped.{view-typed}
 
--- behind a view, without a 54 or with one
-ends-52 : (a : Addenda) → MayEnd a 52
-unfolding follows
-ends-52 (ofCheck a b c) = record { view = refl; item = refl; control = refl }
-ends-52 (ofReturn a b c d) = record { view = refl; item = refl; control = refl }
+-- types that may come behind a view, in a bundle or outside, besides another one; at types written out each fact is `refl`
+pub record Ends (inside : Bool) (ends : List ℕ) : Type 0 where
+  pub behind-50 : every (follows inside 50) (52 ∷ []) ≡ true
+  pub behind-52 : every (follows inside 52) (54 ∷ 50 ∷ ends) ≡ true
+  pub behind-54 : every (follows inside 54) (50 ∷ ends) ≡ true
 
-ends-54 : (a : Addenda) → MayEnd a 54
-unfolding follows
-ends-54 (ofCheck a b c) = record { view = refl; item = refl; control = refl }
-ends-54 (ofReturn a b c d) = record { view = refl; item = refl; control = refl }
+-- "its field 4 is not compared" outside a bundle
+cycle-out : (inside : Bool) (xs ys : List ℕ) → Equals (cond inside (some ys) none) xs → inside ≡ true → xs ≡ ys
+cycle-out true xs ys h e = h
+cycle-out false xs ys h e = cc
 
-ends-at : {last t : ℕ} (a : Addenda) → last ≡ t → MayEnd a t → MayEnd a last
-ends-at a e m = subst (λ (n : ℕ). MayEnd a n) (sym e) m
-
-module _ (letter header : Body) (i : Item) where
-  analysis-good : (past : List Body) (o : Option Body) (rest : List Body) → IfAny (Right imageViewAnalysis) o → Settled past
-      → follows (lastIn past) 54 ≡ true → MayEnd (i .addenda) (lastIn past)
-      → (Settled (afterOptional past o) → MayEnd (i .addenda) (lastIn (afterOptional past o)) → GoodAll (afterOptional past o) rest)
-      → GoodAll past (optionalThen o rest)
+module _ (inside : Bool) (ends : List ℕ) (order : Ends inside ends) (letter : Body) (o : Owner) where
+  analysis-good : (past : List Body) (x : Option Body) (rest : List Body) → IfAny (Right imageViewAnalysis) x → InItem inside letter o past
+      → Settled past → lastIn past ≡ 52
+      → (Settled (afterOptional past x) → Allow (50 ∷ ends) (afterOptional past x) → GoodAll (afterOptional past x) rest)
+      → GoodAll past (optionalThen x rest)
   unfolding isCarried
-  analysis-good past none rest right settled allowed ends on = on settled ends
-  analysis-good past (some b) rest right settled allowed ends on =
+  analysis-good past none rest right within settled last on =
+      on settled (allow-rest (allow-at (54 ∷ 50 ∷ ends) (within .inside-is) last (order .behind-52)))
+  analysis-good past (some b) rest right within settled last on =
+      let now = in-step inside letter o past b 54 (right .type) (search) within in
+      let allowed : Allow (54 ∷ 50 ∷ ends) past = allow-at (54 ∷ 50 ∷ ends) (within .inside-is) last (order .behind-52) in
       record {
-        first = made-plain imageViewAnalysis known-54 refl refl past b right allowed (settled-kept 54 past refl settled) refl;
-        rest = on (settled-on past b 54 (right .type) refl refl settled) (ends-at (i .addenda) (right .type) (ends-54 (i .addenda)));
+        first = made-plain imageViewAnalysis known-54 refl refl past b right (allow-first allowed) (settled-kept 54 past refl settled) refl;
+        rest =
+            on (settled-on past b 54 (right .type) refl refl settled) (allow-at (50 ∷ ends) (now .inside-is) (right .type) (order .behind-54));
       }
 
-  view-good : (past : List Body) (v : View) (rest : List Body) → SoundView header i v → InItem letter header i past → (indicator letter ≡ E → ⊥)
-      → Settled past → follows (lastIn past) 50 ≡ true
-      → (Settled (afterView past v) → MayEnd (i .addenda) (lastIn (afterView past v)) → GoodAll (afterView past v) rest)
-      → GoodAll past (viewThen v rest)
-  unfolding follows
-  view-good past v rest sound inside seen settled allowed on =
+  view-good : (past : List Body) (v : View) (rest : List Body) → SoundView o v → InItem inside letter o past → (indicator letter ≡ E → ⊥)
+      → Settled past → Allow (50 ∷ ends) past
+      → (Settled (afterView past v) → Allow (50 ∷ ends) (afterView past v) → GoodAll (afterView past v) rest) → GoodAll past (viewThen v rest)
+  view-good past v rest sound within seen settled allowed on =
       let d = v .detail ∷ past in
-      let typed = view-typed header i v sound in
-      let now = in-step letter header i past (v .detail) 50 (typed .detail) (search) inside in
+      let typed = view-typed o v sound in
+      let now = in-step inside letter o past (v .detail) 50 (typed .detail) (search) within in
+      let imaged = in-step inside letter o d (v .image) 52 (typed .image) (search) now in
+      let owner = sym (now .owner-is) in
       let signature = step 0 nextSignature past (v .detail) 50 (typed .detail) in
       let settled-50 = settled-on past (v .detail) 50 (typed .detail) refl refl settled in
       let settled-52 = settled-on d (v .image) 52 (typed .image) refl refl settled-50 in
-      let above : (n : ℕ) → fieldOf bundleHeader n header ≡ fieldOf bundleHeader n (newest (is 20) d) =
-      λ n. ap (λ (b : Body). fieldOf bundleHeader n b) (sym (now .header-is)) in
+      let cycle : List ℕ = fieldOf imageViewData 4 (v .image) in
+      let above : List ℕ = fieldOf bundleHeader 9 (newest (is 20) d) in
       let links : ViewLinked d (v .image) =
       record {
-        institution = sound .institution ∙ above 4;
-        date = sound .date ∙ above 5;
-        cycle = sound .cycle ∙ above 9;
-        number = sound .number ∙ sym (sequence-is letter header i d now);
+        institution = sound .institution ∙ ap (λ (p : Owner). p .institution) owner;
+        date = sound .date ∙ ap (λ (p : Owner). p .date) owner;
+        cycle = cycle-out (insideIn d) cycle above (subst (λ (p : Owner). Equals (p .cycle) cycle) owner (sound .cycle));
+        number = sound .number ∙ ap (λ (p : Owner). p .sequence) owner;
         signer = λ e. sound .signer (sym signature ∙ e);
         key = λ e. sound .key (sym signature ∙ e);
       } in
-      let behind-50 = allow-at (52 ∷ []) (typed .detail) refl in
-      let behind-52 = allow-at (54 ∷ []) (typed .image) refl in
+      let behind-50 : Allow (52 ∷ []) d = allow-at (52 ∷ []) (now .inside-is) (typed .detail) (order .behind-50) in
       record {
-        first = made-50 past (v .detail) (sound .detail) allowed settled (λ e. seen (sym (inside .letter-is) ∙ e));
+        first =
+            made-50 past (v .detail) (sound .detail) (allow-first allowed) settled (λ e. seen (sym (indicator-is past (within .letter-is)) ∙ e));
         rest =
             record {
-              first = made-52 d (v .image) (sound .image) (behind-50 .may 52 refl) settled-50 links;
-              rest =
-                  analysis-good (v .image ∷ d) (v .analysis) rest (sound .analysis) settled-52 (behind-52 .may 54 refl)
-                  (ends-at (i .addenda) (typed .image) (ends-52 (i .addenda))) on;
+              first = made-52 d (v .image) (sound .image) (allow-first behind-50) settled-50 links;
+              rest = analysis-good (v .image ∷ d) (v .analysis) rest (sound .analysis) imaged settled-52 (typed .image) on;
             };
       }
 
-  pub views-good : (past : List Body) (vs : List View) (rest : List Body) → All (SoundView header i) vs → InItem letter header i past
-      → (indicator letter ≡ E → length vs ≡ 0) → Settled past → MayEnd (i .addenda) (lastIn past)
-      → (Settled (afterViews past vs) → MayEnd (i .addenda) (lastIn (afterViews past vs)) → GoodAll (afterViews past vs) rest)
-      → GoodAll past (viewsThen vs rest)
-  views-good past [] rest sound inside unseen settled ends on = on settled ends
-  views-good past (v ∷ vs) rest sound inside unseen settled ends on =
+  pub views-good : (past : List Body) (vs : List View) (rest : List Body) → All (SoundView o) vs → InItem inside letter o past
+      → (indicator letter ≡ E → length vs ≡ 0) → Settled past → Allow (50 ∷ ends) past
+      → (Settled (afterViews past vs) → Allow (50 ∷ ends) (afterViews past vs) → GoodAll (afterViews past vs) rest) → GoodAll past (viewsThen vs rest)
+  views-good past [] rest sound within unseen settled allowed on = on settled allowed
+  views-good past (v ∷ vs) rest sound within unseen settled allowed on =
       let seen : indicator letter ≡ E → ⊥ = λ e. omega (arith, unseen e) in
-      view-good past v (viewsThen vs rest) (sound .0) inside seen settled (ends .view)
-      (λ s e. views-good (afterView past v) vs rest (sound .1) (in-view letter header i past v (view-typed header i v (sound .0)) inside)
-      (λ h. absurd (seen h)) s e on)
+      view-good past v (viewsThen vs rest) (sound .0) within seen settled allowed
+      (λ s a. views-good (afterView past v) vs rest (sound .1) (in-view inside letter o past v (view-typed o v (sound .0)) within)
+      (λ h. absurd (seen h)) s a on)

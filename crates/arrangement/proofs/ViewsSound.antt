@@ -1,31 +1,32 @@
 -- Good records in the places of views make them sound. Assumes nothing.
 use Prim.Native.Nat.{ℕ}
+use mathlib.Core.Bool.{Bool, true, false, cond}
 use mathlib.Core.Option.{Option, none, some}
-use mathlib.Core.Path.{_≡_, refl, ap, _∙_}
+use mathlib.Core.Path.{_≡_, refl, ap, _∙_, subst}
 use mathlib.Core.List.{List, [], _∷_}
 use lib.ListN.{length}
 use Rattle.layout.specs.Layouts.{bundleHeader, imageViewDetail, imageViewData, imageViewAnalysis}
 use Rattle.file_as_records.specs.Framed.{Body, fieldOf}
-use Rattle.file_as_records.proofs.Figures.{is, newest}
+use Rattle.file_as_records.proofs.Figures.{insideIn, is, newest}
 use Rattle.file_as_records.proofs.Good.{GoodAll}
-use Rattle.arrangement.specs.Tree.{View, Item}
+use Rattle.arrangement.specs.Tree.{View}
 use Rattle.arrangement.specs.Written.{optionalThen, viewThen, viewsThen}
-use Rattle.arrangement.specs.Sound.{All, IfAny, Right, indicator, E, SoundView}
+use Rattle.arrangement.specs.Sound.{All, IfAny, Right, indicator, E, Owner, Equals, SoundView}
 use Rattle.arrangement.specs.TypesInPlace.{OfType, TypedView}
 use Rattle.arrangement.proofs.Rightness.{right-in, known-50, known-52, known-54}
 use Rattle.arrangement.proofs.After.{afterOptional, afterView, afterViews}
 use Rattle.arrangement.proofs.Quiet.{step}
 use Rattle.arrangement.proofs.Turns.{as-type, view-in, Found}
-use Rattle.arrangement.proofs.InItem.{InItem, in-step, in-view, sequence-is, nextSignature}
+use Rattle.arrangement.proofs.InItem.{InItem, in-step, in-view, indicator-is, nextSignature}
 
 -- a view found sound, in a cash letter that may have one
-record ViewFound (letter header : Body) (i : Item) (v : View) (past rest : List Body) : Type 0 where
-  sound : SoundView header i v
+record ViewFound (letter : Body) (o : Owner) (v : View) (past rest : List Body) : Type 0 where
+  sound : SoundView o v
   allowed : indicator letter ≡ E → ⊥
   behind : GoodAll (afterView past v) rest
 
-pub record ViewsFound (letter header : Body) (i : Item) (vs : List View) (past rest : List Body) : Type 0 where
-  pub sound : All (SoundView header i) vs
+pub record ViewsFound (letter : Body) (o : Owner) (vs : List View) (past rest : List Body) : Type 0 where
+  pub sound : All (SoundView o) vs
   pub unseen : indicator letter ≡ E → length vs ≡ 0
   pub behind : GoodAll (afterViews past vs) rest
 
@@ -35,17 +36,22 @@ analysis-sound past none rest typed good = record { sound = tt; behind = good }
 analysis-sound past (some b) rest typed good =
     record { sound = right-in imageViewAnalysis b known-54 typed (as-type 54 past b typed (good .first) .alone); behind = good .rest }
 
-module _ (letter header : Body) (i : Item) where
-  view-sound : (past : List Body) (v : View) (rest : List Body) → TypedView v → InItem letter header i past → GoodAll past (viewThen v rest)
-      → ViewFound letter header i v past rest
-  view-sound past v rest typed inside good =
+-- "its field 4 is not compared" outside a bundle
+cycle-in : (inside : Bool) (xs ys : List ℕ) → (inside ≡ true → xs ≡ ys) → Equals (cond inside (some ys) none) xs
+cycle-in true xs ys h = h refl
+cycle-in false xs ys h = tt
+
+module _ (inside : Bool) (letter : Body) (o : Owner) where
+  view-sound : (past : List Body) (v : View) (rest : List Body) → TypedView v → InItem inside letter o past → GoodAll past (viewThen v rest)
+      → ViewFound letter o v past rest
+  view-sound past v rest typed within good =
       let detail = as-type 50 past (v .detail) (typed .detail) (good .first) in
       let image = as-type 52 (v .detail ∷ past) (v .image) (typed .image) (good .rest .first) in
       let analysis = analysis-sound (v .image ∷ v .detail ∷ past) (v .analysis) rest (typed .analysis) (good .rest .rest) in
-      let now = in-step letter header i past (v .detail) 50 (typed .detail) (search) inside in
+      let owner = in-step inside letter o past (v .detail) 50 (typed .detail) (search) within .owner-is in
       let signature = step 0 nextSignature past (v .detail) 50 (typed .detail) in
-      let above : (n : ℕ) → fieldOf bundleHeader n (newest (is 20) (v .detail ∷ past)) ≡ fieldOf bundleHeader n header =
-      λ n. ap (λ (b : Body). fieldOf bundleHeader n b) (now .header-is) in
+      let cycle : List ℕ = fieldOf imageViewData 4 (v .image) in
+      let above : List ℕ = fieldOf bundleHeader 9 (newest (is 20) (v .detail ∷ past)) in
       let links = image .linked .view refl in
       record {
         sound =
@@ -53,21 +59,21 @@ module _ (letter header : Body) (i : Item) where
               detail = right-in imageViewDetail (v .detail) known-50 (typed .detail) (detail .alone);
               image = right-in imageViewData (v .image) known-52 (typed .image) (image .alone);
               analysis = analysis .sound;
-              institution = links .institution ∙ above 4;
-              date = links .date ∙ above 5;
-              cycle = links .cycle ∙ above 9;
-              number = links .number ∙ sequence-is letter header i (v .detail ∷ past) now;
+              institution = links .institution ∙ ap (λ (p : Owner). p .institution) owner;
+              date = links .date ∙ ap (λ (p : Owner). p .date) owner;
+              cycle = subst (λ (p : Owner). Equals (p .cycle) cycle) owner (cycle-in (insideIn (v .detail ∷ past)) cycle above (links .cycle));
+              number = links .number ∙ ap (λ (p : Owner). p .sequence) owner;
               signer = λ e. links .signer (signature ∙ e);
               key = λ e. links .key (signature ∙ e);
             };
-        allowed = λ e. view-in past (v .detail) detail (inside .letter-is ∙ e);
+        allowed = λ e. view-in past (v .detail) detail (indicator-is past (within .letter-is) ∙ e);
         behind = analysis .behind;
       }
 
-  pub views-sound : (past : List Body) (vs : List View) (rest : List Body) → All TypedView vs → InItem letter header i past
-      → GoodAll past (viewsThen vs rest) → ViewsFound letter header i vs past rest
-  views-sound past [] rest typed inside good = record { sound = tt; unseen = λ e. refl; behind = good }
-  views-sound past (v ∷ vs) rest typed inside good =
-      let here = view-sound past v (viewsThen vs rest) (typed .0) inside good in
-      let others = views-sound (afterView past v) vs rest (typed .1) (in-view letter header i past v (typed .0) inside) (here .behind) in
+  pub views-sound : (past : List Body) (vs : List View) (rest : List Body) → All TypedView vs → InItem inside letter o past
+      → GoodAll past (viewsThen vs rest) → ViewsFound letter o vs past rest
+  views-sound past [] rest typed within good = record { sound = tt; unseen = λ e. refl; behind = good }
+  views-sound past (v ∷ vs) rest typed within good =
+      let here = view-sound past v (viewsThen vs rest) (typed .0) within good in
+      let others = views-sound (afterView past v) vs rest (typed .1) (in-view inside letter o past v (typed .0) within) (here .behind) in
       record { sound = (here .sound, others .sound); unseen = λ e. absurd (here .allowed e); behind = others .behind }

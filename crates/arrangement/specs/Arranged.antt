@@ -34,7 +34,9 @@ pub record Arranged (file table : List ℕ) (answer : Answer) (after : List ℕ)
   pub alone : (x y : File) → Arranges file x → Arranges file y → x ≡ y
   pub its-totals : (x : File) → Arranges file x → IsAccepted answer → answer ≡ Accepted (totals x)
   pub its-rows : (x : File) → Arranges file x → IsAccepted answer → after ≡ rows x ++ drop (length (rows x)) table
-  -- the item count and the amount, as returned, are those that the 99 states (and, by Sound and `totals`, those of all the items added up)
+  -- the item count and the amounts, as returned, are those that the 99 states (and, by Sound and `totals`, those of all the items, of all
+  -- the debits and of all the credits added up)
   pub its-control : (x : File) (t : Totals) → Arranges file x → answer ≡ Accepted t
-      → (t .sums .items .0 ≡ stated fileControl 4 (x .control)) × (t .sums .debit .0 ≡ stated fileControl 5 (x .control))
+      → (t .items .0 ≡ stated fileControl 4 (x .control)) × (t .sums .debit .0 ≡ stated fileControl 5 (x .control))
+      × (t .sums .credit .0 ≡ stated fileControl 8 (x .control))
   pub its-room : (x : File) → Arranges file x → length table < 7 * length (records x) → answer ≡ Refused Room (length (records x)) 0

@@ -6,9 +6,9 @@ use Rattle.judge.specs.Alone.{typeOf}
 use Rattle.measure.specs.Measures.{sums}
 use Rattle.passes.specs.declared.Totals.{Totals}
 use Rattle.file_as_records.specs.Framed.{Body}
-use Rattle.arrangement.specs.Tree.{Item, Bundle, CashLetter, File}
+use Rattle.arrangement.specs.Tree.{ofCredit, Item, Content, bundled, direct, CashLetter, File}
 use Rattle.arrangement.specs.Written.{addendaThen, viewsThen, records}
-use Rattle.arrangement.specs.Sound.{total, amount, debitOf, debitIn, viewsIn, itemsOf, centsOf}
+use Rattle.arrangement.specs.Sound.{total, amountIn, ofBundle, ofLetter, ofFile, everyItem, debits, debitCents, credits, creditCents, viewCount, bundleCount}
 use Rattle.measure.specs.Measures as measures
 
 -- a record with the ordinals of its cash letter, bundle and item, "0 where the record lies outside that level", and its amount
@@ -31,22 +31,27 @@ alikeThen l b i (r ∷ rs) rest = placed l b i 0 r ∷ alikeThen l b i rs rest
 abbrev pub itemPlaces : ℕ → ℕ → ℕ → List Item → List Placed → List Placed
 itemPlaces l b n [] rest = rest
 itemPlaces l b n (i ∷ is) rest =
-    placed l b n (amount i) (i .detail)
+    placed l b n (amountIn (i .addenda) (i .detail)) (i .detail)
     ∷ alikeThen l b n (addendaThen (i .addenda) (viewsThen (i .views) [])) (itemPlaces l b (n + 1) is rest)
 
--- "Headers and controls carry the ordinals of their own level and those above"; "debit cents as added up for 70, 90 and 99"
-abbrev pub bundlePlaces : ℕ → ℕ → List Bundle → List Placed → List Placed
-bundlePlaces l n [] rest = rest
-bundlePlaces l n (b ∷ bs) rest =
-    placed l n 0 0 (b .header) ∷ itemPlaces l n 1 (b .items) (placed l n 0 (debitOf b) (b .control) ∷ bundlePlaces l (n + 1) bs rest)
+-- "Headers and controls carry the ordinals of their own level and those above"; "debit cents as added up for 70, 90 and 99". What a cash
+-- letter holds, where n is the ordinal of its next bundle: a 61 outside a bundle, with its views, has 0 for bundle and item (request 2)
+abbrev pub contentPlaces : ℕ → ℕ → List Content → List Placed → List Placed
+contentPlaces l n [] rest = rest
+contentPlaces l n (bundled b ∷ cs) rest =
+    placed l n 0 0 (b .header)
+    ∷ itemPlaces l n 1 (b .items) (placed l n 0 (ofBundle debitCents b) (b .control) ∷ contentPlaces l (n + 1) cs rest)
+contentPlaces l n (direct c ∷ cs) rest =
+    placed l 0 0 (amountIn ofCredit (c .detail)) (c .detail) ∷ alikeThen l 0 0 (viewsThen (c .views) []) (contentPlaces l n cs rest)
 
 abbrev pub letterPlaces : ℕ → List CashLetter → List Placed → List Placed
 letterPlaces n [] rest = rest
 letterPlaces n (l ∷ ls) rest =
-    placed n 0 0 0 (l .header) ∷ bundlePlaces n 1 (l .bundles) (placed n 0 0 (debitIn l) (l .control) ∷ letterPlaces (n + 1) ls rest)
+    placed n 0 0 0 (l .header)
+    ∷ contentPlaces n 1 (l .contents) (placed n 0 0 (ofLetter debitCents l) (l .control) ∷ letterPlaces (n + 1) ls rest)
 
 abbrev pub places : File → List Placed
-places f = placed 0 0 0 0 (f .header) ∷ letterPlaces 1 (f .letters) (placed 0 0 0 (centsOf f) (f .control) ∷ [])
+places f = placed 0 0 0 0 (f .header) ∷ letterPlaces 1 (f .letters) (placed 0 0 0 (ofFile debitCents f) (f .control) ∷ [])
 
 -- "record type; offset of the record's length field; the length; cash letter ordinal; bundle ordinal; item ordinal; amount"
 abbrev pub row : ℕ → Placed → List ℕ
@@ -59,12 +64,13 @@ rowsFrom at (p ∷ ps) = row at p ++ rowsFrom (at + 4 + length (p .body)) ps
 abbrev pub rows : File → List ℕ
 rows f = rowsFrom 0 (places f)
 
--- the totals: records, cash letters, bundles, items, views, debit cents, of all the items added up
+-- the totals: records, cash letters, bundles, items; debits, debit cents, credits, credit cents and views, of all the items added up
 abbrev pub totals : File → Totals
 totals f =
     record {
       records = measures.records (length (records f));
       letters = length (f .letters);
-      bundles = total (λ (l : CashLetter). length (l .bundles)) (f .letters);
-      sums = sums (itemsOf f) (centsOf f) (total viewsIn (f .letters));
+      bundles = total bundleCount (f .letters);
+      items = measures.items (ofFile everyItem f);
+      sums = sums (ofFile debits f) (ofFile debitCents f) (ofFile credits f) (ofFile creditCents f) (ofFile viewCount f);
     }

@@ -1,6 +1,6 @@
 -- What is right about an arrangement, from document 01's "Fields, links and sums" and the clauses beside each line.
 use Prim.Native.Nat.{ℕ, _+_, _≤_}
-use mathlib.Core.Bool.{true, false, cond}
+use mathlib.Core.Bool.{Bool, true, false, not, cond}
 use mathlib.Core.Logic.{_⊎_}
 use mathlib.Core.Path.{_≡_}
 use mathlib.Core.List.{List, [], _∷_}
@@ -12,10 +12,11 @@ use Rattle.text.specs.Capitals.{capital}
 use Rattle.text.specs.DataTypes.{every, ofType}
 use Rattle.text.specs.Number.{number}
 use Rattle.layout.specs.Layout.{Line, Layout, Sized, sizedParts}
-use Rattle.layout.specs.Layouts.{fileHeader, cashLetterHeader, bundleHeader, checkDetail, checkDetailAddendumA, checkDetailAddendumB, checkDetailAddendumC, returnRecord, returnAddendumA, returnAddendumB, returnAddendumC, returnAddendumD, imageViewDetail, imageViewData, imageViewAnalysis, bundleControl, cashLetterControl, fileControl}
+use Rattle.layout.specs.Layouts.{creditRecord, fileHeader, cashLetterHeader, bundleHeader, checkDetail, checkDetailAddendumA, checkDetailAddendumB, checkDetailAddendumC, returnRecord, returnAddendumA, returnAddendumB, returnAddendumC, returnAddendumD, imageViewDetail, imageViewData, imageViewAnalysis, bundleControl, cashLetterControl, fileControl}
 use Rattle.judge.specs.Alone.{typeOf, lineHolds, statedSize, statedSizes}
 use Rattle.file_as_records.specs.Framed.{Body, fieldOf}
-use Rattle.arrangement.specs.Tree.{View, Addenda, ofCheck, ofReturn, Item, Bundle, CashLetter, File}
+use Rattle.standing.specs.History.{one}
+use Rattle.arrangement.specs.Tree.{View, Addenda, ofCheck, ofReturn, ofCredit, Item, Bundle, Credit, Content, bundled, direct, CashLetter, File}
 use Rattle.arrangement.specs.Written.{addendaThen, records}
 
 abbrev pub All : {A : Type 0} → (A → Type 0) → List A → Type 0
@@ -56,57 +57,96 @@ abbrev pub Numbered : Layout → ℕ → List Body → Type 0
 Numbered k n [] = Unit {0}
 Numbered k n (b ∷ bs) = RightAt k n b × Numbered k (n + 1) bs
 
--- what an item is and says: its type, its amount (field 6), its sequence number (field 7), and how many addenda it has (field 12 of a 25,
--- field 8 of a 31)
+-- what an item is and says: its type; its amount (field 6, of a 61 field 7); its sequence number (field 7, of a 61 field 8); and how many
+-- addenda it has (field 12 of a 25, field 8 of a 31; a 61 has none)
 abbrev pub layoutIn : Addenda → Layout
 layoutIn (ofCheck a b c) = checkDetail
 layoutIn (ofReturn a b c d) = returnRecord
+layoutIn ofCredit = creditRecord
 
 abbrev pub layoutOf : Item → Layout
 layoutOf i = layoutIn (i .addenda)
 
-abbrev pub amount : Item → ℕ
-amount i = stated (layoutOf i) 6 (i .detail)
+abbrev pub amountIn : Addenda → Body → ℕ
+amountIn (ofCheck a b c) detail = stated checkDetail 6 detail
+amountIn (ofReturn a b c d) detail = stated returnRecord 6 detail
+amountIn ofCredit detail = stated creditRecord 7 detail
 
-abbrev pub sequence : Item → List ℕ
-sequence i = fieldOf (layoutOf i) 7 (i .detail)
+abbrev pub sequenceIn : Addenda → Body → List ℕ
+sequenceIn (ofCheck a b c) detail = fieldOf checkDetail 7 detail
+sequenceIn (ofReturn a b c d) detail = fieldOf returnRecord 7 detail
+sequenceIn ofCredit detail = fieldOf creditRecord 8 detail
 
 abbrev pub statedIn : Addenda → Body → ℕ
 statedIn (ofCheck a b c) detail = stated checkDetail 12 detail
 statedIn (ofReturn a b c d) detail = stated returnRecord 8 detail
+statedIn ofCredit detail = 0
 
-abbrev pub statedAddenda : Item → ℕ
-statedAddenda i = statedIn (i .addenda) (i .detail)
+-- whether views are demanded of it: of checks and returns, "none being demanded" of a 61 (request 2)
+abbrev pub demandsView : Addenda → Bool
+demandsView (ofCheck a b c) = true
+demandsView (ofReturn a b c d) = true
+demandsView ofCredit = false
+
+-- "Usage indicator 9 makes a debit, any other defined value a credit" (request 2): field 2 of a 61. Every check and return is a debit.
+abbrev pub isDebitIn : Addenda → Body → Bool
+isDebitIn (ofCheck a b c) detail = true
+isDebitIn (ofReturn a b c d) detail = true
+isDebitIn ofCredit detail = eqb (stated creditRecord 2 detail) 9
+
+-- A figure of an item, from its addenda, its first record and its views; and that of a level, added up from the items themselves. A credit
+-- directly in a cash letter counts there and in the file.
+abbrev pub Figure : Type 0
+Figure = Addenda → Body → List View → ℕ
+
+abbrev pub ofItem : Figure → Item → ℕ
+ofItem figure i = figure (i .addenda) (i .detail) (i .views)
+
+abbrev pub ofBundle : Figure → Bundle → ℕ
+ofBundle figure b = total (ofItem figure) (b .items)
+
+abbrev pub ofContent : Figure → Content → ℕ
+ofContent figure (bundled b) = ofBundle figure b
+ofContent figure (direct c) = figure ofCredit (c .detail) (c .views)
+
+abbrev pub ofLetter : Figure → CashLetter → ℕ
+ofLetter figure l = total (ofContent figure) (l .contents)
+
+abbrev pub ofFile : Figure → File → ℕ
+ofFile figure f = total (ofLetter figure) (f .letters)
+
+-- every 25, 31 and 61 (clause 35.4); the debits and their cents; the credits and theirs; the views
+abbrev pub everyItem : Figure
+everyItem a detail vs = 1
+
+abbrev pub debits : Figure
+debits a detail vs = one (isDebitIn a detail)
+
+abbrev pub debitCents : Figure
+debitCents a detail vs = cond (isDebitIn a detail) (amountIn a detail) 0
+
+abbrev pub credits : Figure
+credits a detail vs = one (not (isDebitIn a detail))
+
+abbrev pub creditCents : Figure
+creditCents a detail vs = cond (isDebitIn a detail) 0 (amountIn a detail)
+
+abbrev pub viewCount : Figure
+viewCount a detail vs = length vs
 
 -- "cents of the 25s whose MICR Valid Indicator is 1": field 10
-abbrev pub micrIn : Addenda → Body → ℕ
-micrIn (ofCheck a b c) detail = cond (eqb (stated checkDetail 10 detail) 1) (stated checkDetail 6 detail) 0
-micrIn (ofReturn a b c d) detail = 0
+abbrev pub micr : Figure
+micr (ofCheck a b c) detail vs = cond (eqb (stated checkDetail 10 detail) 1) (stated checkDetail 6 detail) 0
+micr (ofReturn a b c d) detail vs = 0
+micr ofCredit detail vs = 0
 
-abbrev pub micr : Item → ℕ
-micr i = micrIn (i .addenda) (i .detail)
+-- the bundles among what a cash letter holds
+abbrev pub isBundle : Content → ℕ
+isBundle (bundled b) = 1
+isBundle (direct c) = 0
 
-abbrev pub viewsOf : Item → ℕ
-viewsOf i = length (i .views)
-
--- the sums of each level, from the items themselves
-abbrev pub itemsIn : CashLetter → ℕ
-itemsIn l = total (λ (b : Bundle). length (b .items)) (l .bundles)
-
-abbrev pub debitOf : Bundle → ℕ
-debitOf b = total amount (b .items)
-
-abbrev pub debitIn : CashLetter → ℕ
-debitIn l = total debitOf (l .bundles)
-
-abbrev pub viewsIn : CashLetter → ℕ
-viewsIn l = total (λ (b : Bundle). total viewsOf (b .items)) (l .bundles)
-
-abbrev pub itemsOf : File → ℕ
-itemsOf f = total itemsIn (f .letters)
-
-abbrev pub centsOf : File → ℕ
-centsOf f = total debitIn (f .letters)
+abbrev pub bundleCount : CashLetter → ℕ
+bundleCount l = total isBundle (l .contents)
 
 -- "26 and 32: record numbers run from 1 in each item; 28 and 35 likewise, each on its own": the addenda of a check, and those of a return
 pub record SoundOfCheck (a : List Body) (b : Option Body) (c : List Body) : Type 0 where
@@ -123,17 +163,48 @@ pub record SoundOfReturn (a : List Body) (b : Body) (c : Option Body) (d : List 
 abbrev pub SoundAddenda : Addenda → Type 0
 SoundAddenda (ofCheck a b c) = SoundOfCheck a b c
 SoundAddenda (ofReturn a b c d) = SoundOfReturn a b c d
+SoundAddenda ofCredit = Unit {0}
 
--- "52: field 2 equals the bundle header's field 4, field 3 its field 5, field 4 its field 9; field 5 equals field 7 of the item. Fields 7
--- and 8 are not blank if the 50's field 10 is 1"
-pub record SoundView (header : Body) (i : Item) (v : View) : Type 0 where
+-- What fields 2 to 5 of a 52 have to equal. In a bundle: "field 2 equals the bundle header's field 4, field 3 its field 5, field 4 its field 9;
+-- field 5 equals field 7 of the item". "Outside a bundle the 52's fields 2 and 3 equal the cash letter header's fields 4 and 5, and its
+-- field 4 is not compared"; field 5 equals field 8 of a 61 (request 2).
+pub record Owner : Type 0 where
+  pub institution : List ℕ
+  pub date : List ℕ
+  pub cycle : Option (List ℕ)
+  pub sequence : List ℕ
+
+abbrev pub inBundle : Body → Item → Owner
+inBundle header i =
+    record {
+      institution = fieldOf bundleHeader 4 header;
+      date = fieldOf bundleHeader 5 header;
+      cycle = some (fieldOf bundleHeader 9 header);
+      sequence = sequenceIn (i .addenda) (i .detail);
+    }
+
+abbrev pub inLetter : Body → Credit → Owner
+inLetter letter c =
+    record {
+      institution = fieldOf cashLetterHeader 4 letter;
+      date = fieldOf cashLetterHeader 5 letter;
+      cycle = none;
+      sequence = sequenceIn ofCredit (c .detail);
+    }
+
+abbrev pub Equals : Option (List ℕ) → List ℕ → Type 0
+Equals none xs = Unit {0}
+Equals (some ys) xs = xs ≡ ys
+
+-- a view; "fields 7 and 8 are not blank if the 50's field 10 is 1"
+pub record SoundView (o : Owner) (v : View) : Type 0 where
   pub detail : Right imageViewDetail (v .detail)
   pub image : Right imageViewData (v .image)
   pub analysis : IfAny (Right imageViewAnalysis) (v .analysis)
-  pub institution : fieldOf imageViewData 2 (v .image) ≡ fieldOf bundleHeader 4 header
-  pub date : fieldOf imageViewData 3 (v .image) ≡ fieldOf bundleHeader 5 header
-  pub cycle : fieldOf imageViewData 4 (v .image) ≡ fieldOf bundleHeader 9 header
-  pub number : fieldOf imageViewData 5 (v .image) ≡ sequence i
+  pub institution : fieldOf imageViewData 2 (v .image) ≡ o .institution
+  pub date : fieldOf imageViewData 3 (v .image) ≡ o .date
+  pub cycle : Equals (o .cycle) (fieldOf imageViewData 4 (v .image))
+  pub number : fieldOf imageViewData 5 (v .image) ≡ o .sequence
   pub signer : stated imageViewDetail 10 (v .detail) ≡ 1 → every isBlank (fieldOf imageViewData 7 (v .image)) ≡ false
   pub key : stated imageViewDetail 10 (v .detail) ≡ 1 → every isBlank (fieldOf imageViewData 8 (v .image)) ≡ false
 
@@ -153,52 +224,71 @@ I = 0x49
 abbrev pub F : ℕ
 F = 0x46
 
--- an item under a cash letter header and a bundle header: it has the addenda that it states, no view in a letter of type E, and at least
--- one in a letter of type I or F
+-- an item under a cash letter header and a bundle header: it has the addenda that it states, no view in a letter of type E, and, where
+-- views are demanded of it, at least one in a letter of type I or F
 pub record SoundItem (letter header : Body) (i : Item) : Type 0 where
   pub detail : Right (layoutOf i) (i .detail)
   pub addenda : SoundAddenda (i .addenda)
-  pub number : length (addendaThen (i .addenda) []) ≡ statedAddenda i
-  pub views : All (SoundView header i) (i .views)
+  pub number : length (addendaThen (i .addenda) []) ≡ statedIn (i .addenda) (i .detail)
+  pub views : All (SoundView (inBundle header i)) (i .views)
   pub unseen : indicator letter ≡ E → length (i .views) ≡ 0
-  pub seen : (indicator letter ≡ I) ⊎ (indicator letter ≡ F) → 1 ≤ length (i .views)
+  pub seen : demandsView (i .addenda) ≡ true → (indicator letter ≡ I) ⊎ (indicator letter ≡ F) → 1 ≤ length (i .views)
 
--- "Items in a bundle are all 25 or all 31, as the first"
-abbrev pub OneItemType : List Item → Type 0
-OneItemType [] = Unit {0}
-OneItemType (i ∷ is) = All (λ (j : Item). layoutOf j .typeNumber ≡ layoutOf i .typeNumber) is
+-- "Items in a bundle are all 25 or all 31, as the first"; "the one-kind rule ignores 61s" (request 2)
+abbrev pub itemTypesIn : Addenda → List ℕ → List ℕ
+itemTypesIn (ofCheck a b c) others = 25 ∷ others
+itemTypesIn (ofReturn a b c d) others = 31 ∷ others
+itemTypesIn ofCredit others = others
 
--- a bundle; no bundle stands in a letter of type N. Its control (clause 31): items, debit cents, cents of the 25s with a valid MICR line
--- ("blank is not compared"), views, no credits
+abbrev pub itemTypes : List Item → List ℕ
+itemTypes [] = []
+itemTypes (i ∷ is) = itemTypesIn (i .addenda) (itemTypes is)
+
+abbrev pub AllTheFirst : List ℕ → Type 0
+AllTheFirst [] = Unit {0}
+AllTheFirst (t ∷ ts) = All (λ (u : ℕ). u ≡ t) ts
+
+-- a bundle; no bundle stands in a letter of type N. Its control (clause 31): debits, debit cents, cents of the 25s with a valid MICR line
+-- ("blank is not compared"), views, credits, credit cents
 pub record SoundBundle (letter : Body) (b : Bundle) : Type 0 where
   pub header : Right bundleHeader (b .header)
   pub allowed : indicator letter ≡ N → ⊥
   pub filled : 1 ≤ length (b .items)
   pub items : All (SoundItem letter (b .header)) (b .items)
-  pub one-item-type : OneItemType (b .items)
+  pub one-item-type : AllTheFirst (itemTypes (b .items))
   pub control : Right bundleControl (b .control)
-  pub item-count : stated bundleControl 2 (b .control) ≡ length (b .items)
-  pub debit : stated bundleControl 3 (b .control) ≡ debitOf b
-  pub valid : (every isBlank (fieldOf bundleControl 4 (b .control)) ≡ true) ⊎ (stated bundleControl 4 (b .control) ≡ total micr (b .items))
-  pub view-count : stated bundleControl 5 (b .control) ≡ total viewsOf (b .items)
-  pub credit-count : stated bundleControl 6 (b .control) ≡ 0
-  pub credit : stated bundleControl 7 (b .control) ≡ 0
+  pub debit-count : stated bundleControl 2 (b .control) ≡ ofBundle debits b
+  pub debit-cents : stated bundleControl 3 (b .control) ≡ ofBundle debitCents b
+  pub valid : (every isBlank (fieldOf bundleControl 4 (b .control)) ≡ true) ⊎ (stated bundleControl 4 (b .control) ≡ ofBundle micr b)
+  pub view-count : stated bundleControl 5 (b .control) ≡ ofBundle viewCount b
+  pub credit-count : stated bundleControl 6 (b .control) ≡ ofBundle credits b
+  pub credit-cents : stated bundleControl 7 (b .control) ≡ ofBundle creditCents b
 
--- a cash letter; one of type E, I or F has a bundle. Its control (clause 34): bundles, items, debit cents, views, no credits
+-- a credit directly in a cash letter: no view in a letter of type E, and none demanded in any
+pub record SoundCredit (letter : Body) (c : Credit) : Type 0 where
+  pub detail : Right creditRecord (c .detail)
+  pub views : All (SoundView (inLetter letter c)) (c .views)
+  pub unseen : indicator letter ≡ E → length (c .views) ≡ 0
+
+abbrev pub SoundContent : Body → Content → Type 0
+SoundContent letter (bundled b) = SoundBundle letter b
+SoundContent letter (direct c) = SoundCredit letter c
+
+-- a cash letter; one of type E, I or F has a bundle. Its control (clause 34): bundles, debits, debit cents, views, credits, credit cents
 pub record SoundLetter (l : CashLetter) : Type 0 where
   pub header : Right cashLetterHeader (l .header)
-  pub filled : (indicator (l .header) ≡ N) ⊎ (1 ≤ length (l .bundles))
-  pub bundles : All (SoundBundle (l .header)) (l .bundles)
+  pub filled : (indicator (l .header) ≡ N) ⊎ (1 ≤ bundleCount l)
+  pub contents : All (SoundContent (l .header)) (l .contents)
   pub control : Right cashLetterControl (l .control)
-  pub bundle-count : stated cashLetterControl 2 (l .control) ≡ length (l .bundles)
-  pub item-count : stated cashLetterControl 3 (l .control) ≡ itemsIn l
-  pub debit : stated cashLetterControl 4 (l .control) ≡ debitIn l
-  pub view-count : stated cashLetterControl 5 (l .control) ≡ viewsIn l
-  pub credit-count : stated cashLetterControl 8 (l .control) ≡ 0
-  pub credit : stated cashLetterControl 9 (l .control) ≡ 0
+  pub bundle-count : stated cashLetterControl 2 (l .control) ≡ bundleCount l
+  pub debit-count : stated cashLetterControl 3 (l .control) ≡ ofLetter debits l
+  pub debit-cents : stated cashLetterControl 4 (l .control) ≡ ofLetter debitCents l
+  pub view-count : stated cashLetterControl 5 (l .control) ≡ ofLetter viewCount l
+  pub credit-count : stated cashLetterControl 8 (l .control) ≡ ofLetter credits l
+  pub credit-cents : stated cashLetterControl 9 (l .control) ≡ ofLetter creditCents l
 
 -- a file, with a cash letter at least. Its control (clause 35): cash letters, "all records with 01 and 99 included", items, debit cents,
--- no credits
+-- credit cents
 pub record Sound (f : File) : Type 0 where
   pub header : Right fileHeader (f .header)
   pub filled : 1 ≤ length (f .letters)
@@ -206,6 +296,6 @@ pub record Sound (f : File) : Type 0 where
   pub control : Right fileControl (f .control)
   pub letter-count : stated fileControl 2 (f .control) ≡ length (f .letters)
   pub record-count : stated fileControl 3 (f .control) ≡ length (records f)
-  pub item-count : stated fileControl 4 (f .control) ≡ itemsOf f
-  pub debit : stated fileControl 5 (f .control) ≡ centsOf f
-  pub credit : stated fileControl 8 (f .control) ≡ 0
+  pub item-count : stated fileControl 4 (f .control) ≡ ofFile everyItem f
+  pub debit-cents : stated fileControl 5 (f .control) ≡ ofFile debitCents f
+  pub credit-cents : stated fileControl 8 (f .control) ≡ ofFile creditCents f

@@ -5,7 +5,7 @@ use mathlib.Core.Option.{Option}
 use Prim.Native.Nat.{ℕ}
 use Rattle.judge.specs.Alone.{typeOf}
 use Rattle.file_as_records.specs.Framed.{Body}
-use Rattle.arrangement.specs.Tree.{View, Addenda, ofCheck, ofReturn, Item, Bundle, CashLetter, File}
+use Rattle.arrangement.specs.Tree.{View, Addenda, ofCheck, ofReturn, ofCredit, Item, Bundle, Credit, Content, bundled, direct, CashLetter, File}
 use Rattle.arrangement.specs.Sound.{All, IfAny, layoutOf}
 
 abbrev pub OfType : ℕ → Body → Type 0
@@ -31,6 +31,7 @@ pub record TypedOfReturn (a : List Body) (b : Body) (c : Option Body) (d : List 
 abbrev pub TypedAddenda : Addenda → Type 0
 TypedAddenda (ofCheck a b c) = TypedOfCheck a b c
 TypedAddenda (ofReturn a b c d) = TypedOfReturn a b c d
+TypedAddenda ofCredit = Unit {0}
 
 pub record TypedItem (i : Item) : Type 0 where
   pub detail : OfType (layoutOf i .typeNumber) (i .detail)
@@ -42,9 +43,17 @@ pub record TypedBundle (b : Bundle) : Type 0 where
   pub items : All TypedItem (b .items)
   pub control : OfType 70 (b .control)
 
+pub record TypedCredit (c : Credit) : Type 0 where
+  pub detail : OfType 61 (c .detail)
+  pub views : All TypedView (c .views)
+
+abbrev pub TypedContent : Content → Type 0
+TypedContent (bundled b) = TypedBundle b
+TypedContent (direct c) = TypedCredit c
+
 pub record TypedLetter (l : CashLetter) : Type 0 where
   pub header : OfType 10 (l .header)
-  pub bundles : All TypedBundle (l .bundles)
+  pub contents : All TypedContent (l .contents)
   pub control : OfType 90 (l .control)
 
 pub record Typed (f : File) : Type 0 where

@@ -15,8 +15,8 @@ use Rattle.field.specs.declared.Usage.{Usage}
 use Rattle.field.specs.declared.Usage.the-variants.{Mandatory, Conditional}
 use Rattle.field.specs.declared.CodeList.{CodeList}
 use Rattle.field.specs.declared.Rule.{Rule}
-use Rattle.field.specs.declared.Rule.the-variants.{DataTypeAlone, Numbers, AllDigits, OneOrTwoDigits, StandardLevel, CollectionType, BundleCollectionType, Code, Date, HoursMinutes, HoursMinutesSeconds, Routing, ClippingCoordinate}
-use Rattle.field.specs.Values.{isCode, isStandardLevel, isCollectionType, isBundleCollectionType}
+use Rattle.field.specs.declared.Rule.the-variants.{DataTypeAlone, Numbers, AllDigits, OneOrTwoDigits, StandardLevel, CollectionType, BundleCollectionType, SourceOfWork, Code, Date, HoursMinutes, HoursMinutesSeconds, Routing, ClippingCoordinate}
+use Rattle.field.specs.Values.{isCode, isStandardLevel, isCollectionType, isBundleCollectionType, isSourceOfWork}
 use Rattle.field.specs.Formats.{isDate, isHoursMinutes, isHoursMinutesSeconds}
 use Rattle.field.specs.RoutingForms.{fitsSome}
 
@@ -45,6 +45,7 @@ follows OneOrTwoDigits part body = oneOrTwoDigits part
 follows StandardLevel part body = digitsWith isStandardLevel part
 follows CollectionType part body = digitsWith isCollectionType part
 follows BundleCollectionType part body = digitsWith isBundleCollectionType part
+follows SourceOfWork part body = digitsWith isSourceOfWork part
 follows (Code list) part body = code list part
 follows Date part body = isDate part
 follows HoursMinutes part body = isHoursMinutes part

@@ -8,7 +8,7 @@ ghost use Rattle.text.specs.Ranges.{within};
 ghost use Rattle.text.specs.Characters.{isNumeric, isBlank, isDash};
 ghost use Rattle.text.specs.DataTypes.{every, some, isMark};
 ghost use Rattle.text.specs.Number.{number};
-ghost use Rattle.field.specs.Values.{isCode, isStandardLevel, isCollectionType, isBundleCollectionType};
+ghost use Rattle.field.specs.Values.{isCode, isStandardLevel, isCollectionType, isBundleCollectionType, isSourceOfWork};
 ghost use Rattle.field.specs.Formats.{isDate, isHoursMinutes, isHoursMinutesSeconds};
 ghost use Rattle.field.specs.RoutingForms.{weightedSum, isTTTTAAAAC, partedBy, isNNNNNNNNN, fitsRarer, fitsSome};
 ghost use Rattle.field.specs.Rules.{digitsWith, oneOrTwoDigits, code, clippingCoordinate, follows, leftBlank};
@@ -30,6 +30,7 @@ pub enum CodeList {
     ReturnAcceptance,
     ArchiveTypes,
     TestOverrides,
+    AccountTypes,
 }
 
 // The forms of a routing number that a field's Format lines list.
@@ -57,6 +58,7 @@ pub enum Rule {
     StandardLevel,
     CollectionType,
     BundleCollectionType,
+    SourceOfWork,
     Code(CodeList),
     Date,
     HoursMinutes,
@@ -79,6 +81,7 @@ pub fn is_code(list: CodeList, x: u8) -> bool
         CodeList::ReturnAcceptance => ((b'0' <= x) & (x <= b'9')) | ((b'A' <= x) & (x <= b'F')),
         CodeList::ArchiveTypes => (b'A' <= x) & (x <= b'I'),
         CodeList::TestOverrides => (x == b'0') | ((b'A' <= x) & (x <= b'R')),
+        CodeList::AccountTypes => ((b'1' <= x) & (x <= b'5')) | ((b'A' <= x) & (x <= b'J')),
     }
 }
 
@@ -108,6 +111,12 @@ fn is_collection_type(n: u64) -> bool
     ensures { λ r. ⌜ r ≡ isCollectionType n ⌝ }
 {
     is_bundle_collection_type(n) | ((n == 10) | ((n == 20) | (n == 99)))
+}
+
+fn is_source_of_work(n: u64) -> bool
+    ensures { λ r. ⌜ r ≡ isSourceOfWork n ⌝ }
+{
+    ((1 <= n) & (n <= 11)) | ((21 <= n) & (n <= 99))
 }
 
 fn number_within(low: u64, high: u64, part: &[u8]) -> bool
@@ -258,6 +267,7 @@ pub fn follows_rule<'a>(rule: Rule, part: &'a [u8], body: &'a [u8]) -> bool
         Rule::BundleCollectionType => {
             text::all_numeric(part) & is_bundle_collection_type(text::number_in(part))
         }
+        Rule::SourceOfWork => text::all_numeric(part) & is_source_of_work(text::number_in(part)),
         Rule::Code(list) => holds_code(list, part),
         Rule::Date => is_date(part),
         Rule::HoursMinutes => is_hours_minutes(part),

@@ -1,27 +1,27 @@
 -- The reading over the bodies of records: each is judged against the list of those before it, newest first. Nothing here need be believed:
 -- it stands between the reading of a file, by offsets, and an arrangement, by its parts. Assumes nothing.
 use Prim.Native.Nat.{ℕ, _+_}
-use mathlib.Core.Bool.{true, cond}
+use mathlib.Core.Bool.{true, _||_, cond}
 use mathlib.Core.Path.{_≡_}
 use mathlib.Core.List.{List, [], _∷_, _++_}
 use lib.Dec.{eqb}
 use lib.ListN.{length}
 use Rattle.judge.specs.declared.Judged.the-variants.{Sound}
 use Rattle.judge.specs.Alone.{typeOf, judgedAs}
-use Rattle.measure.specs.Measures.{sums}
+use Rattle.measure.specs.Measures.{sums, capped, cappedSums}
 use Rattle.order.specs.MayFollow.{mayFollow, isCarried}
 use Rattle.passes.specs.declared.Totals.{Totals}
-use Rattle.passes.specs.Rows.{outsideLetter, outsideBundle, outsideItem}
+use Rattle.passes.specs.Rows.{outsideLetter}
 use Rattle.file_as_records.specs.Framed.{Body}
 use Rattle.file_as_records.proofs.LinksByName.{Linked}
 use Rattle.file_as_records.proofs.TotalsByName.{Totalled}
-use Rattle.file_as_records.proofs.Figures.{amountAs, bundlesIn, debitSince, itemsSince, lastIn, lettersIn, openedIn, presentIn, viewsSince, is, never}
+use Rattle.file_as_records.proofs.Figures.{amountAs, bundlesIn, debitsSince, debitSince, creditsSince, creditSince, insideIn, itemsSince, lastIn, lettersIn, openedIn, presentIn, viewsSince, is, never}
 use Rattle.measure.specs.Measures as measures
 
 -- a record of type k that is good behind those of past
 pub record GoodAs (k : ℕ) (past : List Body) (b : Body) : Type 0 where
   pub carried : isCarried k ≡ true
-  pub follows : mayFollow (lastIn past) (presentIn past) k ≡ true
+  pub follows : mayFollow (insideIn past) (lastIn past) (presentIn past) k ≡ true
   pub alone : judgedAs k b ≡ Sound
   pub linked : Linked k past b
   pub totalled : Totalled k past b
@@ -51,18 +51,21 @@ totalsAfter past =
       records = measures.records (length past);
       letters = lettersIn past;
       bundles = bundlesIn past;
-      sums = sums (itemsSince never past) (debitSince never past) (viewsSince never past);
+      items = measures.items (itemsSince never past);
+      sums =
+          cappedSums
+          (sums (debitsSince never past) (debitSince never past) (creditsSince never past) (creditSince never past) (viewsSince never past));
     }
 
 abbrev pub amountAfter : ℕ → List Body → Body → ℕ
 amountAfter t past b =
-    cond (eqb t 70) (debitSince (is 20) past)
-    (cond (eqb t 90) (debitSince (is 10) past) (cond (eqb t 99) (debitSince never past) (amountAs t b)))
+    cond (eqb t 70) (capped (debitSince (is 20) past))
+    (cond (eqb t 90) (capped (debitSince (is 10) past)) (cond (eqb t 99) (capped (debitSince never past)) (amountAs t b)))
 
 abbrev pub rowAs : ℕ → ℕ → List Body → Body → List ℕ
 rowAs t at past b =
-    t ∷ at ∷ length b ∷ cond (outsideLetter t) 0 (lettersIn past) ∷ cond (outsideBundle t) 0 (openedIn past)
-    ∷ cond (outsideItem t) 0 (itemsSince (is 20) past) ∷ amountAfter t past b ∷ []
+    t ∷ at ∷ length b ∷ cond (outsideLetter t) 0 (lettersIn past) ∷ cond (insideIn past || eqb t 70) (openedIn past) 0
+    ∷ cond (insideIn past) (itemsSince (is 20) past) 0 ∷ amountAfter t past b ∷ []
 
 abbrev pub rowsAll : ℕ → List Body → List Body → List ℕ
 rowsAll at past [] = []

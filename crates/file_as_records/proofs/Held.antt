@@ -1,7 +1,7 @@
 -- The bodies of a file's records where they stand in it: the entries that they make, and that the figures of those are theirs. Assumes nothing.
 use Prim.Native.Nat.{ℕ, _+_, _-_, _≤_}
 use native.Mathlib.Omega.{arith}
-use mathlib.Core.Bool.{Bool, true, false, _&&_, _||_, cond}
+use mathlib.Core.Bool.{Bool, true, false, _&&_, _||_, not, cond}
 use mathlib.Core.Path.{_≡_, refl, sym, ap, ap₂, _∙_}
 use mathlib.Core.List.{List, [], _∷_, _++_, map}
 use lib.Dec.{leb, eqb}
@@ -12,19 +12,20 @@ use Rattle.text.specs.Capitals.{capital}
 use Rattle.text.specs.Number.{number}
 use Rattle.frame.specs.Frames.{part}
 use Rattle.layout.specs.Layout.{Line, Layout, sizedParts}
-use Rattle.layout.specs.Layouts.{cashLetterHeader, checkDetail, returnRecord, imageViewDetail}
+use Rattle.layout.specs.Layouts.{cashLetterHeader, checkDetail, returnRecord, imageViewDetail, creditRecord}
 use Rattle.judge.specs.declared.Judged.the-variants.{Sound}
 use Rattle.judge.specs.Alone.{typeOf, judgedAs, alone}
 use Rattle.judge.proofs.Laws.{sound-fills}
 use Rattle.measure.specs.Measures.{sums, noSums, together, cents}
-use Rattle.order.specs.MayFollow.{isItem, isAddendum, lastOf, itemTypeInBundle}
-use Rattle.standing.specs.History.{Entry, entry, fieldIn, field, amountOf, micrOf, statedBy, one, sumsSince, countSince, isBofdAddendum, isEndorserAddendum}
+use Rattle.measure.specs.declared.Sums.{Sums}
+use Rattle.order.specs.MayFollow.{isCheckOrReturn, isItem, isAddendum, lastOf, isOpen, itemTypeInBundle, newestItemType}
+use Rattle.standing.specs.History.{Entry, entry, fieldIn, field, amountOf, isDebit, isCredit, adds, micrOf, statedBy, one, sumsSince, countSince, isBofdAddendum, isEndorserAddendum}
 use Rattle.standing.specs.Standing.{standing}
 use Rattle.standing.specs.declared.Standing.{Standing}
 use Rattle.standing.proofs.Laws.{assembled}
 use Rattle.file_as_records.specs.Framed.{Body, fieldAmong, fieldOf}
-use Rattle.file_as_records.proofs.Figures.{value, sumSince, never, is, count, amountAs, micrAs, statedAs, indicatorOf, signatureOf, lastIn, presentIn, lettersIn, bundlesIn, openedIn, itemsSince, debitSince, viewsSince, micrIn, addendaIn, bofdIn, endorserIn, shownIn, statedIn, indicatorIn, signatureIn}
-use Rattle.file_as_records.proofs.Tests.{both}
+use Rattle.file_as_records.proofs.Figures.{value, sumSince, never, is, count, amountAs, isDebitAs, isCreditAs, debitAs, creditAs, micrAs, statedAs, indicatorOf, signatureOf, lastIn, insideIn, presentIn, holderIn, lettersIn, bundlesIn, openedIn, itemsSince, debitsSince, debitSince, creditsSince, creditSince, viewsSince, micrIn, addendaIn, bofdIn, endorserIn, shownIn, statedIn, indicatorIn, signatureIn}
+use Rattle.file_as_records.proofs.Tests.{both, under, under-and}
 use Rattle.measure.specs.Measures as measures
 use Rattle.standing.specs.History as history
 
@@ -46,12 +47,6 @@ pub record HeldAt (file : List ℕ) (at : ℕ) (b : Body) : Type 0 where
 abbrev pub Held : List ℕ → List Body → Type 0
 Held file [] = Unit {0}
 Held file (b ∷ past) = HeldAt file (extent past) b × Held file past
-
--- the part that a test does not pick need not agree
-pub under : {A : Type 0} (pick : Bool → A → A → A) (c : Bool) {x x′ y y′ : A} → (c ≡ true → x ≡ x′) → y ≡ y′
-    → ((z : A) → pick false x z ≡ pick false x′ z) → pick c x y ≡ pick c x′ y′
-under pick true p q unread = ap₂ (pick true) (p refl) q
-under pick false {x} {x′} {y} {y′} p q unread = ap (pick false x) q ∙ unread y′
 
 -- the lines of a layout lie within so many characters
 abbrev pub within : ℕ → List Line → Bool
@@ -91,32 +86,51 @@ module _ {file : List ℕ} {at : ℕ} {b : Body} (h : HeldAt file at b) where
   pub amount-held : amountOf file (typeOf b) at ≡ amountAs (typeOf b) b
   unfolding judgedAs
   amount-held =
-      under cond (eqb (typeOf b) 25) (λ e. ap number (fields-at checkDetail (λ c. refl) refl e 6))
-      (under cond (eqb (typeOf b) 31) (λ e. ap number (fields-at returnRecord (λ c. refl) refl e 6)) refl (λ z. refl))
-      (λ z. refl)
+      under (eqb (typeOf b) 25) (λ e. ap number (fields-at checkDetail (λ c. refl) refl e 6))
+      (under (eqb (typeOf b) 31) (λ e. ap number (fields-at returnRecord (λ c. refl) refl e 6))
+      (under (eqb (typeOf b) 61) (λ e. ap number (fields-at creditRecord (λ c. refl) refl e 7)) refl))
+
+  debit-held : isDebit file (typeOf b) at ≡ isDebitAs (typeOf b) b
+  unfolding judgedAs
+  debit-held =
+      ap (λ (c : Bool). isCheckOrReturn (typeOf b) || c)
+      (under-and (eqb (typeOf b) 61) (λ e. ap (λ (x : List ℕ). eqb (number x) 9) (fields-at creditRecord (λ c. refl) refl e 2)))
+
+  credit-held : isCredit file (typeOf b) at ≡ isCreditAs (typeOf b) b
+  unfolding judgedAs
+  credit-held =
+      under-and (eqb (typeOf b) 61) (λ e. ap (λ (x : List ℕ). not (eqb (number x) 9)) (fields-at creditRecord (λ c. refl) refl e 2))
+
+  adds-held : adds file (typeOf b) at
+      ≡ sums (one (isDebitAs (typeOf b) b)) (debitAs (typeOf b) b) (one (isCreditAs (typeOf b) b)) (creditAs (typeOf b) b) (one (eqb (typeOf b) 50))
+  adds-held = rw (debit-held, credit-held, amount-held)
 
   stated-held : statedBy file (typeOf b) at ≡ statedAs (typeOf b) b
   unfolding judgedAs
   stated-held =
-      under cond (eqb (typeOf b) 25) (λ e. ap number (fields-at checkDetail (λ c. refl) refl e 12))
-      (under cond (eqb (typeOf b) 31) (λ e. ap number (fields-at returnRecord (λ c. refl) refl e 8)) refl (λ z. refl))
-      (λ z. refl)
+      under (eqb (typeOf b) 25) (λ e. ap number (fields-at checkDetail (λ c. refl) refl e 12))
+      (under (eqb (typeOf b) 31) (λ e. ap number (fields-at returnRecord (λ c. refl) refl e 8)) refl)
 
   micr-held : micrOf file (typeOf b) at ≡ micrAs (typeOf b) b
   unfolding judgedAs
   micr-held =
       ap₂ (λ (c : Bool) (n : ℕ). cond c n 0)
-      (under (λ c valid z. c && valid) (eqb (typeOf b) 25) {y = true}
-      (λ e. ap (λ (x : List ℕ). eqb (number x) 1) (fields-at checkDetail (λ c. refl) refl e 10)) refl (λ z. refl))
+      (under-and (eqb (typeOf b) 25) (λ e. ap (λ (x : List ℕ). eqb (number x) 1) (fields-at checkDetail (λ c. refl) refl e 10)))
       amount-held
 
   pub item-long : isItem (typeOf b) ≡ true → 80 ≤ length b
   unfolding judgedAs
-  item-long e = cases (eqb (typeOf b) 25) refl e
+  item-long e = cases (eqb (typeOf b) 25) (eqb (typeOf b) 31) refl refl e
     where
-      cases : (c : Bool) → eqb (typeOf b) 25 ≡ c → c || eqb (typeOf b) 31 ≡ true → 80 ≤ length b
-      cases true q e = layout-long checkDetail (λ c. refl) q
-      cases false q e = layout-long returnRecord (λ c. refl) e
+      cases : (c d : Bool) → eqb (typeOf b) 25 ≡ c → eqb (typeOf b) 31 ≡ d → (c || d) || eqb (typeOf b) 61 ≡ true → 80 ≤ length b
+      cases true d p q e = layout-long checkDetail (λ c. refl) p
+      cases false true p q e = layout-long returnRecord (λ c. refl) q
+      cases false false p q e = omega (arith, layout-long creditRecord (λ c. refl) e)
+
+-- the sums since a level began
+abbrev pub sumsOver : (ℕ → Bool) → List Body → Sums
+sumsOver begins past =
+    sums (debitsSince begins past) (debitSince begins past) (creditsSince begins past) (creditSince begins past) (viewsSince begins past)
 
 -- a figure that each entry moves on as its body does
 module _ (file : List ℕ) where
@@ -149,21 +163,27 @@ module _ (file : List ℕ) where
   newest-held test figure figureAs same =
       figure-held (λ es. history.atNewest (λ r. test (r .type)) (λ r. figure (r .type) (r .offset)) es) 0
       (λ t b x. cond (test t) (figureAs t b) x) refl
-      (λ at b older h. under cond (test (typeOf b)) (λ e. same at b h e) refl (λ z. refl))
+      (λ at b older h. under (test (typeOf b)) (same at b h) refl)
 
-  pick-sums : (c : Bool) (i d v j e w : ℕ)
-      → cond c noSums (together (sums i d v) (sums j e w)) ≡ sums (cond c 0 (i + j)) (cond c 0 (d + e)) (cond c 0 (v + w))
-  pick-sums true i d v j e w = refl
-  pick-sums false i d v j e w = refl
+  pick-sums : (c : Bool) (s t : Sums)
+      → cond c noSums (together s t)
+      ≡ sums (cond c 0 (s .debits .0 + t .debits .0)) (cond c 0 (s .debit .0 + t .debit .0)) (cond c 0 (s .credits .0 + t .credits .0))
+      (cond c 0 (s .credit .0 + t .credit .0)) (cond c 0 (s .views .0 + t .views .0))
+  pick-sums true s t = refl
+  pick-sums false s t = refl
 
-  sums-held : (begins : ℕ → Bool) (past : List Body) → Held file past
-      → sumsSince (λ r. begins (r .type)) file (entries past) ≡ sums (itemsSince begins past) (debitSince begins past) (viewsSince begins past)
+  sums-held : (begins : ℕ → Bool) (past : List Body) → Held file past → sumsSince (λ r. begins (r .type)) file (entries past) ≡ sumsOver begins past
   sums-held begins [] h = refl
   sums-held begins (b ∷ past) h =
-      ap₂ (λ d older. cond (begins (typeOf b)) noSums (together (sums (one (isItem (typeOf b))) d (one (eqb (typeOf b) 50))) older))
-      (amount-held (h .0)) (sums-held begins past (h .1))
-      ∙ pick-sums (begins (typeOf b)) (one (isItem (typeOf b))) (amountAs (typeOf b) b) (one (eqb (typeOf b) 50))
-      (itemsSince begins past) (debitSince begins past) (viewsSince begins past)
+      ap₂ (λ (here older : Sums). cond (begins (typeOf b)) noSums (together here older)) (adds-held (h .0)) (sums-held begins past (h .1))
+      ∙ pick-sums (begins (typeOf b)) _ (sumsOver begins past)
+
+-- a figure of the types of the entries
+types-held : {X : Type 0} (figure : List ℕ → X) (next : ℕ → X → X) → ((t : ℕ) (ts : List ℕ) → figure (t ∷ ts) ≡ next t (figure ts))
+    → (past : List Body) → figure (map (λ (r : Entry). r .type) (entries past)) ≡ value (figure []) (λ t b x. next t x) past
+types-held figure next moves [] = refl
+types-held figure next moves (b ∷ past) =
+    moves (typeOf b) (map (λ (r : Entry). r .type) (entries past)) ∙ ap (next (typeOf b)) (types-held figure next moves past)
 
 length-entries : (past : List Body) → length (entries past) ≡ length past
 length-entries [] = refl
@@ -178,14 +198,18 @@ abbrev pub over : List Body → Standing
 over past =
     record {
       last = lastIn past;
+      inside = insideIn past;
       present = presentIn past;
+      holder = holderIn past;
       records = measures.records (length past);
       letters = lettersIn past;
       bundles = bundlesIn past;
       opened = openedIn past;
-      whole = sums (itemsSince never past) (debitSince never past) (viewsSince never past);
-      letter = sums (itemsSince (is 10) past) (debitSince (is 10) past) (viewsSince (is 10) past);
-      bundle = sums (itemsSince (is 20) past) (debitSince (is 20) past) (viewsSince (is 20) past);
+      items = measures.items (itemsSince never past);
+      ordinal = itemsSince (is 20) past;
+      whole = sumsOver never past;
+      letter = sumsOver (is 10) past;
+      bundle = sumsOver (is 20) past;
       micr = cents (micrIn past);
       addenda = addendaIn past;
       bofd = bofdIn past;
@@ -194,6 +218,7 @@ over past =
       stated = statedIn past;
       item = newestAt isItem past;
       header = newestAt (is 20) past;
+      heading = newestAt (is 10) past;
       indicator = indicatorIn past;
       signature = signatureIn past;
     }
@@ -202,13 +227,16 @@ pub stands : (file : List ℕ) (past : List Body) → Held file past → standin
 unfolding standing judgedAs
 stands file past h =
     assembled
-    (figure-held file (λ es. lastOf (map (λ (r : Entry). r .type) es)) 0 (λ t b x. t) refl (λ at b older k. refl) past h)
-    (figure-held file (λ es. itemTypeInBundle (map (λ (r : Entry). r .type) es)) 0 (λ t b x. cond (eqb t 20) 0 (cond (isItem t) t x)) refl
-    (λ at b older k. refl) past h)
+    (types-held lastOf (λ t x. t) (λ t ts. refl) past)
+    (types-held isOpen (λ t x. cond (eqb t 20) true (cond (eqb t 70) false x)) (λ t ts. refl) past)
+    (types-held itemTypeInBundle (λ t x. cond (eqb t 20) 0 (cond (isCheckOrReturn t) t x)) (λ t ts. refl) past)
+    (types-held newestItemType (λ t x. cond (eqb t 10 || (eqb t 20 || eqb t 70)) 0 (cond (isItem t) t x)) (λ t ts. refl) past)
     (ap measures.records (length-entries past))
     (count-held file never (is 10) past h)
     (count-held file never (is 20) past h)
     (count-held file (is 10) (is 20) past h)
+    (ap measures.items (count-held file never isItem past h))
+    (count-held file (is 20) isItem past h)
     (sums-held file never past h)
     (sums-held file (is 10) past h)
     (sums-held file (is 20) past h)
@@ -218,6 +246,7 @@ stands file past h =
     (count-held file isItem isEndorserAddendum past h)
     (count-held file isItem (is 50) past h)
     (newest-held file isItem (statedBy file) statedAs (λ at b k e. stated-held k) past h)
+    refl
     refl
     refl
     (newest-held file (is 10) (λ t at. history.indicatorIn file at) (λ t b. indicatorOf b)

@@ -55,7 +55,7 @@ module _ (file : List ℕ) (past : List Body) (older : Held file past) (opened :
   step-is =
       rw (
         stands file past older,
-        none-after (lastIn past) _ _ (g .follows),
+        none-after past _ (g .follows),
         frame-is file (extent past) b rest e small,
         part-is file (extent past) b rest e,
       )

@@ -9,32 +9,31 @@ use borrow.Author.Tests.{eqb-true, eq-eqb}
 use Rattle.text.specs.Characters.{isNumeric}
 use Rattle.text.specs.DataTypes.{every}
 use Rattle.text.specs.Number.{number}
-use Rattle.layout.specs.Layouts.{bundleHeader, checkDetail, checkDetailAddendumA, checkDetailAddendumC, returnRecord, returnAddendumA, returnAddendumD, imageViewData, bundleControl, cashLetterControl, fileControl}
+use Rattle.layout.specs.Layouts.{cashLetterHeader, bundleHeader, checkDetail, checkDetailAddendumA, checkDetailAddendumC, returnRecord, returnAddendumA, returnAddendumD, imageViewData, creditRecord, bundleControl, cashLetterControl, fileControl}
 use Rattle.judge.specs.declared.Judged.{Judged}
 use Rattle.judge.specs.declared.Judged.the-variants.{Sound, WrongLength, WrongField}
-use Rattle.judge.specs.Alone.{typeOf, judgedAs, alone}
+use Rattle.judge.specs.Alone.{typeOf, judgedAs}
 use Rattle.order.specs.MayFollow.{isItem, isOneOf, carried, isCarried, mayFollow}
 use Rattle.standing.specs.History.{field}
 use Rattle.standing.specs.declared.Standing.{Standing}
 use Rattle.agree.specs.Checks.{Check, check, firstFailing}
-use Rattle.agree.specs.Links.{addendaKept, annexB, numberedOn, sequenceOfItem, viewLinks, linkFault}
+use Rattle.agree.specs.Links.{same, addendaKept, annexB, numberedOn, sequenceOfItem, viewLinks, linkFault}
 use Rattle.agree.specs.Totals.{totalFault}
 use Rattle.passes.specs.declared.Fault.{Fault}
 use Rattle.passes.specs.declared.Fault.the-variants.{Length, UnknownType, Place, Link, Total}
 use Rattle.passes.specs.declared.Turn.{Turn}
 use Rattle.passes.specs.CheckOrder.{unlessAlone, agreement, turnOf}
 use Rattle.file_as_records.specs.Framed.{Body, fieldOf}
-use Rattle.file_as_records.proofs.Figures.{newest, is, presentIn, bofdIn, endorserIn, signatureIn, statedIn, addendaIn, indicatorIn, openedIn, itemsSince, shownIn, sequenceOf, value}
+use Rattle.file_as_records.proofs.Figures.{newest, is, insideIn, holderIn, bofdIn, endorserIn, statedIn, addendaIn, indicatorIn, openedIn, shownIn, sequenceOf}
 use Rattle.file_as_records.proofs.CheckLists.{numberedAs, viewChecks, linkChecks, bundleChecks, letterChecks, fileChecks, totalChecks, AllHold, _and_, end}
 use Rattle.file_as_records.proofs.Good.{Good}
-use Rattle.file_as_records.proofs.Held.{HeldAt, Held, under, fields-held, fields-at, item-long, newestAt, over}
-use Rattle.file_as_records.proofs.Tests.{both}
-use Rattle.file_as_records.proofs.Opened.{AllOpened, all-opened, has, newest-passes}
+use Rattle.file_as_records.proofs.Held.{HeldAt, Held, fields-held, fields-at, item-long, newestAt, over}
+use Rattle.file_as_records.proofs.Tests.{both, under, under-where}
+use Rattle.file_as_records.proofs.Opened.{AllOpened, all-opened, has, inside-opened, holder-is, newest-passes}
 use Rattle.file_as_records.proofs.LinksByName.{links-out, links-in}
 use Rattle.file_as_records.proofs.TotalsByName.{totals-out, totals-in}
 use Rattle.frame.specs.Unless.{unless}
 use Rattle.judge.specs.declared.Judged.the-variants as judgements
-use Rattle.judge.specs.Alone as kinds
 use Rattle.agree.specs.Links as links
 use Rattle.agree.specs.Totals as totals
 use Rattle.passes.specs.declared.Turn.the-variants as turns
@@ -81,55 +80,72 @@ module _ {file : List ℕ} {at : ℕ} {b : Body} (past : List Body) (older : Hel
   numbered-same : numberedOn file (bofdIn past) (endorserIn past) (typeOf b) at ≡ numberedAs (typeOf b) past b
   unfolding numberedOn judgedAs
   numbered-same =
-      under cond (eqb (typeOf b) 26) (λ e. ap (states (bofdIn past + 1)) (fields-at h checkDetailAddendumA (λ c. refl) refl e 2))
-      (under cond (eqb (typeOf b) 32) (λ e. ap (states (bofdIn past + 1)) (fields-at h returnAddendumA (λ c. refl) refl e 2))
-      (under cond (eqb (typeOf b) 28) (λ e. ap (states (endorserIn past + 1)) (fields-at h checkDetailAddendumC (λ c. refl) refl e 2))
-      (under cond (eqb (typeOf b) 35) (λ e. ap (states (endorserIn past + 1)) (fields-at h returnAddendumD (λ c. refl) refl e 2))
-      refl (λ z. refl)) (λ z. refl)) (λ z. refl)) (λ z. refl)
+      under (eqb (typeOf b) 26) (λ e. ap (states (bofdIn past + 1)) (fields-at h checkDetailAddendumA (λ c. refl) refl e 2))
+      (under (eqb (typeOf b) 32) (λ e. ap (states (bofdIn past + 1)) (fields-at h returnAddendumA (λ c. refl) refl e 2))
+      (under (eqb (typeOf b) 28) (λ e. ap (states (endorserIn past + 1)) (fields-at h checkDetailAddendumC (λ c. refl) refl e 2))
+      (under (eqb (typeOf b) 35) (λ e. ap (states (endorserIn past + 1)) (fields-at h returnAddendumD (λ c. refl) refl e 2))
+      refl)))
     where
       states : ℕ → List ℕ → Bool
       states value characters = eqb (number characters) value
 
-  views-same : AllOpened (b ∷ past) → eqb (typeOf b) 52 ≡ true
-      → viewLinks file (newestAt (is 20) past) (newestAt isItem past) (presentIn past) (signatureIn past) at ≡ viewChecks past b
+  -- a 52 stands behind an item, in a cash letter: their fields, and those of its bundle header, are where the file has them
+  bundle-same : insideIn past ≡ true → (n : ℕ) → field bundleHeader n file (newestAt (is 20) past) ≡ fieldOf bundleHeader n (newest (is 20) past)
+  unfolding judgedAs
+  bundle-same inside =
+      let header = newest-passes file (is 20) past older (inside-opened past inside) in
+      fields-at (header .held) bundleHeader (λ c. refl) refl (header .passes)
+
+  header-same : has (is 10) past ≡ true → (n : ℕ)
+      → cond (insideIn past) (field bundleHeader n file (newestAt (is 20) past)) (field cashLetterHeader n file (newestAt (is 10) past))
+      ≡ cond (insideIn past) (fieldOf bundleHeader n (newest (is 20) past)) (fieldOf cashLetterHeader n (newest (is 10) past))
+  unfolding judgedAs
+  header-same letter n =
+      let heading = newest-passes file (is 10) past older letter in
+      under (insideIn past) (λ inside. bundle-same inside n) (fields-at (heading .held) cashLetterHeader (λ c. refl) refl (heading .passes) n)
+
+  sequence-same : has isItem past ≡ true
+      → sequenceOfItem file (holderIn past) (newestAt isItem past) ≡ sequenceOf (holderIn past) (newest isItem past)
+  unfolding judgedAs
+  sequence-same item =
+      let there = newest-passes file isItem past older item in
+      let long = item-long (there .held) (there .passes) in
+      under (eqb (holderIn past) 61) (λ e. fields-at (there .held) creditRecord (λ c. refl) refl (holder-is past e) 8)
+      (ap₂ (cond (eqb (holderIn past) 31)) (fields-held (there .held) returnRecord refl long 7) (fields-held (there .held) checkDetail refl long 7))
+
+  views-same : AllOpened (b ∷ past) → eqb (typeOf b) 52 ≡ true → viewLinks file (over past) at ≡ viewChecks past b
   unfolding judgedAs
   views-same opened e =
       let t = eqb-true (typeOf b) 52 e in
-      let bundle : has (is 20) past ≡ true = rw t at (opened .bundle (rw t)) in
+      let letter : has (is 10) past ≡ true = rw t at (opened .letter (rw t)) in
       let item : has isItem past ≡ true = rw t at (opened .item (rw t)) in
-      let header = newest-passes file (is 20) past older bundle in
-      let there = newest-passes file isItem past older item in
-      let above : (n : ℕ) → field bundleHeader n file (newestAt (is 20) past) ≡ fieldOf bundleHeader n (newest (is 20) past) =
-      fields-at (header .held) bundleHeader (λ c. refl) refl (header .passes) in
-      let long = item-long (there .held) (there .passes) in
       let own : (n : ℕ) → field imageViewData n file at ≡ fieldOf imageViewData n b = fields-at h imageViewData (λ c. refl) refl e in
-      let sequence : sequenceOfItem file (presentIn past) (newestAt isItem past) ≡ sequenceOf (presentIn past) (newest isItem past) =
-      ap₂ (cond (eqb (presentIn past) 31)) (fields-held (there .held) returnRecord refl long 7) (fields-held (there .held) checkDetail refl long 7) in
-      rw (own 2, own 3, own 4, own 5, own 7, own 8, above 4, above 5, above 9, sequence)
+      let cycle = under-where (insideIn past) (λ inside. ap (same (fieldOf imageViewData 4 b)) (bundle-same inside 9)) in
+      rw (own 2, own 3, own 4, own 5, own 7, own 8, header-same letter 4, header-same letter 5, cycle, sequence-same item)
 
   links-same : AllOpened (b ∷ past) → links.linkChecks file (over past) (typeOf b) at ≡ linkChecks (typeOf b) past b
   links-same opened =
       ap₂
       (λ (inOrder : Bool) (view : List Check).
       check 1 (addendaKept (typeOf b) (statedIn past) (addendaIn past))
-      ∷ check 1 (annexB (typeOf b) (indicatorIn past) (openedIn past) (itemsSince (is 20) past) (shownIn past)) ∷ check 2 inOrder ∷ view)
-      numbered-same (under cond (eqb (typeOf b) 52) (views-same opened) refl (λ z. refl))
+      ∷ check 1 (annexB (typeOf b) (indicatorIn past) (openedIn past) (holderIn past) (shownIn past)) ∷ check 2 inOrder ∷ view)
+      numbered-same (under (eqb (typeOf b) 52) (views-same opened) refl)
 
   totals-same : totals.totalChecks file (over past) (typeOf b) at ≡ totalChecks (typeOf b) past b
   unfolding judgedAs
   totals-same =
-      under cond (eqb (typeOf b) 70)
+      under (eqb (typeOf b) 70)
       (λ e. let own = fields-at h bundleControl (λ c. refl) refl e in rw (own 2, own 3, own 4, own 5, own 6, own 7))
-      (under cond (eqb (typeOf b) 90)
+      (under (eqb (typeOf b) 90)
       (λ e. let own = fields-at h cashLetterControl (λ c. refl) refl e in rw (own 2, own 3, own 4, own 5, own 8, own 9))
-      (under cond (eqb (typeOf b) 99)
+      (under (eqb (typeOf b) 99)
       (λ e. let own = fields-at h fileControl (λ c. refl) refl e in rw (own 2, own 3, own 4, own 5, own 8))
-      refl (λ z. refl)) (λ z. refl)) (λ z. refl)
+      refl))
 
 -- a turn that goes on passed each check, and the other way
 record Passed (file : List ℕ) (s : Standing) (at : ℕ) (b : Body) : Type 0 where
   carried : isCarried (typeOf b) ≡ true
-  follows : mayFollow (s .last) (s .present) (typeOf b) ≡ true
+  follows : mayFollow (s .inside) (s .last) (s .present) (typeOf b) ≡ true
   alone : judgedAs (typeOf b) b ≡ Sound
   linked : firstFailing (links.linkChecks file s (typeOf b) at) ≡ 0
   totalled : firstFailing (totals.totalChecks file s (typeOf b) at) ≡ 0
@@ -163,7 +179,7 @@ module _ {file : List ℕ} {s : Standing} {at : ℕ} {b : Body} where
   passed-in e =
       let long = through (leb 2 (length b)) Length _ e in
       let carries = through (isCarried (typeOf b)) UnknownType _ (long .on) in
-      let placed = through (mayFollow (s .last) (s .present) (typeOf b)) Place _ (carries .on) in
+      let placed = through (mayFollow (s .inside) (s .last) (s .present) (typeOf b)) Place _ (carries .on) in
       let judged = through-alone (judgedAs (typeOf b) b) _ (placed .on) in
       let links = through (eqb (linkFault file s (typeOf b) at) 0) (Link (linkFault file s (typeOf b) at)) _ (judged .on) in
       let sums = through (eqb (totalFault file s (typeOf b) at) 0) (Total (totalFault file s (typeOf b) at)) _ (links .on) in

@@ -1,9 +1,9 @@
 -- A test and the fact that it tests, both ways. Assumes nothing.
 use Prim.Native.Nat.{ℕ}
 use native.Mathlib.Omega.{arith}
-use mathlib.Core.Bool.{Bool, true, false, _&&_, _||_, not}
+use mathlib.Core.Bool.{Bool, true, false, _&&_, _||_, not, cond}
 use mathlib.Core.Logic.{_⊎_, inl, inr}
-use mathlib.Core.Path.{_≡_, refl, sym, subst, _∙_}
+use mathlib.Core.Path.{_≡_, refl, sym, ap, subst, _∙_}
 use mathlib.Core.List.{List, [], _∷_}
 use lib.Dec.{eqb}
 use borrow.Author.Tests.{eqb-true, eq-eqb}
@@ -38,21 +38,38 @@ same-self (x ∷ xs) = rw (eq-eqb x x refl) (same-self xs)
 pub same-out : (xs ys : List ℕ) → xs ≡ ys → same xs ys ≡ true
 same-out xs ys e = subst (λ (zs : List ℕ). same xs zs ≡ true) e (same-self xs)
 
+-- one test where another holds
+pub where-in : (a b : Bool) → not a || b ≡ true → a ≡ true → b ≡ true
+where-in true b e h = e
+where-in false b e h = cc
+
+pub where-out : (a b : Bool) → (a ≡ true → b ≡ true) → not a || b ≡ true
+where-out true b h = h refl
+where-out false b h = refl
+
+pub untrue : (c : Bool) → not c ≡ true → c ≡ false
+untrue true e = cc
+untrue false e = refl
+
+-- what a test does not pick need not agree
+pub under : {A : Type 0} (c : Bool) {x x′ y y′ : A} → (c ≡ true → x ≡ x′) → y ≡ y′ → cond c x y ≡ cond c x′ y′
+under true p q = p refl
+under false p q = q
+
+pub under-and : (c : Bool) {d d′ : Bool} → (c ≡ true → d ≡ d′) → c && d ≡ c && d′
+under-and true p = p refl
+under-and false p = refl
+
+pub under-where : (c : Bool) {d d′ : Bool} → (c ≡ true → d ≡ d′) → not c || d ≡ not c || d′
+under-where true p = p refl
+under-where false p = refl
+
 -- "not blank if .. is 1"
-signed-bools : (a b : Bool) → not a || not b ≡ true → a ≡ true → b ≡ false
-signed-bools true true e h = sym e
-signed-bools true false e h = refl
-signed-bools false b e h = cc
-
 pub signed-in : (n : ℕ) (blank : Bool) → not (eqb n 1) || not blank ≡ true → n ≡ 1 → blank ≡ false
-signed-in n blank e h = signed-bools (eqb n 1) blank e (eq-eqb n 1 h)
-
-signed-cases : (a b : Bool) → (a ≡ true → b ≡ false) → not a || not b ≡ true
-signed-cases true b h = rw (h refl)
-signed-cases false b h = refl
+signed-in n blank e h = untrue blank (where-in (eqb n 1) (not blank) e (eq-eqb n 1 h))
 
 pub signed-out : (n : ℕ) (blank : Bool) → (n ≡ 1 → blank ≡ false) → not (eqb n 1) || not blank ≡ true
-signed-out n blank h = signed-cases (eqb n 1) blank (λ e. h (eqb-true n 1 e))
+signed-out n blank h = where-out (eqb n 1) (not blank) (λ e. ap not (h (eqb-true n 1 e)))
 
 -- "blank is not compared"
 pub blank-in : (blank : Bool) (n m : ℕ) → blank || eqb n m ≡ true → (blank ≡ true) ⊎ (n ≡ m)

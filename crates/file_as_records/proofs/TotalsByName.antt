@@ -14,33 +14,33 @@ use Rattle.layout.specs.Layouts.{bundleControl, cashLetterControl, fileControl}
 use Rattle.file_as_records.specs.Framed.{Body, fieldOf}
 use Rattle.file_as_records.proofs.CheckLists.{AllHold, bundleChecks, fileChecks, letterChecks, totalChecks, _and_, end}
 use Rattle.file_as_records.proofs.Tests.{blank-in, blank-out, refuted}
-use Rattle.file_as_records.proofs.Figures.{debitSince, itemsSince, lettersIn, openedIn, viewsSince, is, micrIn, never}
+use Rattle.file_as_records.proofs.Figures.{debitsSince, debitSince, creditsSince, creditSince, itemsSince, lettersIn, openedIn, viewsSince, is, micrIn, never}
 
 -- a 70
 pub record BundleTotals (past : List Body) (b : Body) : Type 0 where
-  pub item-count : number (fieldOf bundleControl 2 b) ≡ itemsSince (is 20) past
-  pub debit : number (fieldOf bundleControl 3 b) ≡ debitSince (is 20) past
+  pub debit-count : number (fieldOf bundleControl 2 b) ≡ debitsSince (is 20) past
+  pub debit-cents : number (fieldOf bundleControl 3 b) ≡ debitSince (is 20) past
   pub valid : (every isBlank (fieldOf bundleControl 4 b) ≡ true) ⊎ (number (fieldOf bundleControl 4 b) ≡ micrIn past)
   pub view-count : number (fieldOf bundleControl 5 b) ≡ viewsSince (is 20) past
-  pub credit-count : number (fieldOf bundleControl 6 b) ≡ 0
-  pub credit : number (fieldOf bundleControl 7 b) ≡ 0
+  pub credit-count : number (fieldOf bundleControl 6 b) ≡ creditsSince (is 20) past
+  pub credit-cents : number (fieldOf bundleControl 7 b) ≡ creditSince (is 20) past
 
 -- a 90
 pub record LetterTotals (past : List Body) (b : Body) : Type 0 where
   pub bundle-count : number (fieldOf cashLetterControl 2 b) ≡ openedIn past
-  pub item-count : number (fieldOf cashLetterControl 3 b) ≡ itemsSince (is 10) past
-  pub debit : number (fieldOf cashLetterControl 4 b) ≡ debitSince (is 10) past
+  pub debit-count : number (fieldOf cashLetterControl 3 b) ≡ debitsSince (is 10) past
+  pub debit-cents : number (fieldOf cashLetterControl 4 b) ≡ debitSince (is 10) past
   pub view-count : number (fieldOf cashLetterControl 5 b) ≡ viewsSince (is 10) past
-  pub credit-count : number (fieldOf cashLetterControl 8 b) ≡ 0
-  pub credit : number (fieldOf cashLetterControl 9 b) ≡ 0
+  pub credit-count : number (fieldOf cashLetterControl 8 b) ≡ creditsSince (is 10) past
+  pub credit-cents : number (fieldOf cashLetterControl 9 b) ≡ creditSince (is 10) past
 
 -- a 99
 pub record FileTotals (past : List Body) (b : Body) : Type 0 where
   pub letter-count : number (fieldOf fileControl 2 b) ≡ lettersIn past
   pub record-count : number (fieldOf fileControl 3 b) ≡ length past + 1
   pub item-count : number (fieldOf fileControl 4 b) ≡ itemsSince never past
-  pub debit : number (fieldOf fileControl 5 b) ≡ debitSince never past
-  pub credit : number (fieldOf fileControl 8 b) ≡ 0
+  pub debit-cents : number (fieldOf fileControl 5 b) ≡ debitSince never past
+  pub credit-cents : number (fieldOf fileControl 8 b) ≡ creditSince never past
 
 -- a record of type k
 pub record Totalled (k : ℕ) (past : List Body) (b : Body) : Type 0 where
@@ -68,51 +68,51 @@ module _ (past : List Body) (b : Body) where
       }
 
 bundle-in : (past : List Body) (b : Body) → AllHold (bundleChecks past b) → BundleTotals past b
-bundle-in past b (item-count and debit and valid and view-count and credit-count and credit and end) =
+bundle-in past b (debit-count and debit-cents and valid and view-count and credit-count and credit-cents and end) =
     record {
-      item-count = eqb-true _ _ item-count;
-      debit = eqb-true _ _ debit;
+      debit-count = eqb-true _ _ debit-count;
+      debit-cents = eqb-true _ _ debit-cents;
       valid = blank-in _ _ _ valid;
       view-count = eqb-true _ _ view-count;
       credit-count = eqb-true _ _ credit-count;
-      credit = eqb-true _ _ credit;
+      credit-cents = eqb-true _ _ credit-cents;
     }
 
 bundle-out : (past : List Body) (b : Body) → BundleTotals past b → AllHold (bundleChecks past b)
 bundle-out past b t =
-    eq-eqb _ _ (t .item-count) and eq-eqb _ _ (t .debit) and blank-out _ _ _ (t .valid) and eq-eqb _ _ (t .view-count)
-    and eq-eqb _ _ (t .credit-count) and eq-eqb _ _ (t .credit) and end
+    eq-eqb _ _ (t .debit-count) and eq-eqb _ _ (t .debit-cents) and blank-out _ _ _ (t .valid) and eq-eqb _ _ (t .view-count)
+    and eq-eqb _ _ (t .credit-count) and eq-eqb _ _ (t .credit-cents) and end
 
 letter-in : (past : List Body) (b : Body) → AllHold (letterChecks past b) → LetterTotals past b
-letter-in past b (bundle-count and item-count and debit and view-count and credit-count and credit and end) =
+letter-in past b (bundle-count and debit-count and debit-cents and view-count and credit-count and credit-cents and end) =
     record {
       bundle-count = eqb-true _ _ bundle-count;
-      item-count = eqb-true _ _ item-count;
-      debit = eqb-true _ _ debit;
+      debit-count = eqb-true _ _ debit-count;
+      debit-cents = eqb-true _ _ debit-cents;
       view-count = eqb-true _ _ view-count;
       credit-count = eqb-true _ _ credit-count;
-      credit = eqb-true _ _ credit;
+      credit-cents = eqb-true _ _ credit-cents;
     }
 
 letter-out : (past : List Body) (b : Body) → LetterTotals past b → AllHold (letterChecks past b)
 letter-out past b t =
-    eq-eqb _ _ (t .bundle-count) and eq-eqb _ _ (t .item-count) and eq-eqb _ _ (t .debit) and eq-eqb _ _ (t .view-count)
-    and eq-eqb _ _ (t .credit-count) and eq-eqb _ _ (t .credit) and end
+    eq-eqb _ _ (t .bundle-count) and eq-eqb _ _ (t .debit-count) and eq-eqb _ _ (t .debit-cents) and eq-eqb _ _ (t .view-count)
+    and eq-eqb _ _ (t .credit-count) and eq-eqb _ _ (t .credit-cents) and end
 
 file-in : (past : List Body) (b : Body) → AllHold (fileChecks past b) → FileTotals past b
-file-in past b (letter-count and record-count and item-count and debit and credit and end) =
+file-in past b (letter-count and record-count and item-count and debit-cents and credit-cents and end) =
     record {
       letter-count = eqb-true _ _ letter-count;
       record-count = eqb-true _ _ record-count;
       item-count = eqb-true _ _ item-count;
-      debit = eqb-true _ _ debit;
-      credit = eqb-true _ _ credit;
+      debit-cents = eqb-true _ _ debit-cents;
+      credit-cents = eqb-true _ _ credit-cents;
     }
 
 file-out : (past : List Body) (b : Body) → FileTotals past b → AllHold (fileChecks past b)
 file-out past b t =
-    eq-eqb _ _ (t .letter-count) and eq-eqb _ _ (t .record-count) and eq-eqb _ _ (t .item-count) and eq-eqb _ _ (t .debit)
-    and eq-eqb _ _ (t .credit) and end
+    eq-eqb _ _ (t .letter-count) and eq-eqb _ _ (t .record-count) and eq-eqb _ _ (t .item-count) and eq-eqb _ _ (t .debit-cents)
+    and eq-eqb _ _ (t .credit-cents) and end
 
 pub totals-in : (k : ℕ) (past : List Body) (b : Body) → AllHold (totalChecks k past b) → Totalled k past b
 totals-in k past b h =

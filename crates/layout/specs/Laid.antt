@@ -37,12 +37,12 @@ pub layouts-are-laid-out : allLaidOut layouts ≡ true
 layouts-are-laid-out = refl
 
 -- how many kinds there are, and how many fields they have together
-pub kinds-in-all : length layouts ≡ 18
+pub kinds-in-all : length layouts ≡ 19
 kinds-in-all = refl
 
 abbrev pub fieldsOf : List Layout → ℕ
 fieldsOf [] = 0
 fieldsOf (k ∷ ks) = k .fieldCount + fieldsOf ks
 
-pub fields-in-all : fieldsOf layouts ≡ 291
+pub fields-in-all : fieldsOf layouts ≡ 303
 fields-in-all = refl

@@ -2,8 +2,8 @@
 -- last position, size, data type, and its Format or Defined Values; its name stands behind it.
 use mathlib.Core.List.{List, [], _∷_}
 use Rattle.text.specs.declared.data_types.DataType.the-variants.{AB, A, AN, ANS, Binary, N, NB, NBD, NBQ, NBMc, NBMcd, NBMcdo, NBMU}
-use Rattle.field.specs.declared.CodeList.the-variants.{FileTypes, YesNo, YesNoUnknown, RecordTypeIndicators, CashLetterDocumentation, ItemDocumentation, ReturnAcceptance, ArchiveTypes, TestOverrides}
-use Rattle.field.specs.declared.Rule.the-variants.{AllDigits, OneOrTwoDigits, StandardLevel, CollectionType, BundleCollectionType, Date, HoursMinutes, HoursMinutesSeconds, Code}
+use Rattle.field.specs.declared.CodeList.the-variants.{FileTypes, YesNo, YesNoUnknown, RecordTypeIndicators, CashLetterDocumentation, ItemDocumentation, ReturnAcceptance, ArchiveTypes, TestOverrides, AccountTypes}
+use Rattle.field.specs.declared.Rule.the-variants.{AllDigits, OneOrTwoDigits, StandardLevel, CollectionType, BundleCollectionType, SourceOfWork, Date, HoursMinutes, HoursMinutesSeconds, Code}
 use Rattle.field.specs.RoutingForms.{TTTTAAAAC, TTTTT-FFF, TTTT-AAAA, bTTTTAAAA, NNNNNNNNN}
 use Rattle.layout.specs.Layout.{Layout, layout, line, part, M, C, none, anyNumber, notJudged, numbers, only, clippedBy, routing}
 
@@ -395,6 +395,26 @@ imageViewAnalysis =
     [])
     ([])
 
+-- Clause 26 Credit/Reconciliation Record (Type 61): 12 fields, 84 bytes
+abbrev pub creditRecord : Layout
+creditRecord =
+    layout 61 84 12
+    (
+    line 1 M 1 2 2 N (only 61) ∷  -- Record Type
+    line 2 C 3 3 1 AN (numbers 1 9) ∷  -- Record Usage Indicator
+    line 3 C 4 18 15 NBMcd none ∷  -- Auxiliary On-Us
+    line 4 C 19 19 1 NBMc none ∷  -- External Processing Code
+    line 5 M 20 28 9 NBMcd (routing (TTTTAAAAC ∷ TTTTT-FFF ∷ [])) ∷  -- Posting Bank Routing Number
+    line 6 C 29 48 20 NBMcdo none ∷  -- Posting Account Number (On-Us)
+    line 7 M 49 62 14 N none ∷  -- Item Amount
+    line 8 M 63 77 15 NB none ∷  -- Item Sequence Number
+    line 9 C 78 78 1 AN (Code ItemDocumentation) ∷  -- Documentation Type Indicator
+    line 10 C 79 79 1 AN (Code AccountTypes) ∷  -- Type of Account Code
+    line 11 C 80 81 2 AN SourceOfWork ∷  -- Source of Work Code
+    line 12 M 82 84 3 AB none ∷  -- Reserved
+    [])
+    ([])
+
 -- Clause 31 Bundle Control Record (Type 70): 9 fields, 80 bytes
 abbrev pub bundleControl : Layout
 bundleControl =
@@ -463,6 +483,7 @@ layouts =
     imageViewDetail ∷
     imageViewData ∷
     imageViewAnalysis ∷
+    creditRecord ∷
     bundleControl ∷
     cashLetterControl ∷
     fileControl ∷

@@ -13,9 +13,9 @@ use Rattle.text.specs.declared.data_types.DataType.{DataType}
 use Rattle.text.specs.declared.data_types.DataType.the-variants.{AB, A, AN, ANS, Binary, N, NB, NBD, NBQ, NBMc, NBMcd, NBMcdo, NBMU}
 use Rattle.field.specs.declared.Usage.{Usage}
 use Rattle.field.specs.declared.Usage.the-variants.{Mandatory, Conditional}
-use Rattle.field.specs.declared.CodeList.the-variants.{FileTypes, YesNo, YesNoUnknown, RecordTypeIndicators, CashLetterDocumentation, ItemDocumentation, ReturnAcceptance, ArchiveTypes, TestOverrides}
+use Rattle.field.specs.declared.CodeList.the-variants.{FileTypes, YesNo, YesNoUnknown, RecordTypeIndicators, CashLetterDocumentation, ItemDocumentation, ReturnAcceptance, ArchiveTypes, TestOverrides, AccountTypes}
 use Rattle.field.specs.declared.Rule.{Rule}
-use Rattle.field.specs.declared.Rule.the-variants.{DataTypeAlone, Numbers, AllDigits, OneOrTwoDigits, StandardLevel, CollectionType, BundleCollectionType, Date, HoursMinutes, HoursMinutesSeconds, Routing, Code, ClippingCoordinate}
+use Rattle.field.specs.declared.Rule.the-variants.{DataTypeAlone, Numbers, AllDigits, OneOrTwoDigits, StandardLevel, CollectionType, BundleCollectionType, SourceOfWork, Date, HoursMinutes, HoursMinutesSeconds, Routing, Code, ClippingCoordinate}
 use Rattle.field.specs.declared.Forms.{Forms}
 use Rattle.layout.specs.Layout.{Line, Layout, Sized, sizedParts}
 use Rattle.layout.specs.Layouts.{layouts}
@@ -62,6 +62,7 @@ ruleOf code low high =
     (cond (eqb code 9) HoursMinutesSeconds
     (cond (eqb code 10) (Routing (formsIn high))
     (cond (eqb code 11) (ClippingCoordinate (high - 1))
+    (cond (eqb code 12) SourceOfWork
     (cond (eqb code 21) (Code FileTypes)
     (cond (eqb code 22) (Code YesNo)
     (cond (eqb code 23) (Code YesNoUnknown)
@@ -70,7 +71,8 @@ ruleOf code low high =
     (cond (eqb code 26) (Code ItemDocumentation)
     (cond (eqb code 27) (Code ReturnAcceptance)
     (cond (eqb code 28) (Code ArchiveTypes)
-    (cond (eqb code 29) (Code TestOverrides) DataTypeAlone)))))))))))))))))))
+    (cond (eqb code 29) (Code TestOverrides)
+    (cond (eqb code 30) (Code AccountTypes) DataTypeAlone)))))))))))))))))))))
 
 -- the line that a number stands for, and those of a list, numbered from n on
 abbrev pub lineOf : ℕ → ℕ → Line

@@ -180,6 +180,17 @@ impl ImageViewAnalysis {
     pub const FIELDS: u64 = 47;
 }
 
+// Clause 26: Credit/Reconciliation Record (Type 61).
+pub struct CreditRecord {}
+
+impl CreditRecord {
+    pub const TYPE: u64 = 61;
+
+    pub const LENGTH: u64 = 84;
+
+    pub const FIELDS: u64 = 12;
+}
+
 // Clause 31: Bundle Control Record (Type 70).
 pub struct BundleControl {}
 

@@ -11,6 +11,7 @@ pub use kinds::CheckDetail;
 pub use kinds::CheckDetailAddendumA;
 pub use kinds::CheckDetailAddendumB;
 pub use kinds::CheckDetailAddendumC;
+pub use kinds::CreditRecord;
 pub use kinds::FileControl;
 pub use kinds::FileHeader;
 pub use kinds::ImageViewAnalysis;

@@ -8,6 +8,7 @@ use crate::kinds::CheckDetail;
 use crate::kinds::CheckDetailAddendumA;
 use crate::kinds::CheckDetailAddendumB;
 use crate::kinds::CheckDetailAddendumC;
+use crate::kinds::CreditRecord;
 use crate::kinds::FileControl;
 use crate::kinds::FileHeader;
 use crate::kinds::ImageViewAnalysis;
@@ -20,6 +21,7 @@ use crate::kinds::ReturnAddendumD;
 use crate::kinds::ReturnRecord;
 use crate::packing::A;
 use crate::packing::AB;
+use crate::packing::ACCOUNT_TYPES;
 use crate::packing::ALL_DIGITS;
 use crate::packing::AN;
 use crate::packing::ANS;
@@ -58,6 +60,7 @@ use crate::packing::RECORD_TYPE_INDICATORS;
 use crate::packing::RETURN_ACCEPTANCE;
 use crate::packing::ROUTING;
 use crate::packing::SIZE;
+use crate::packing::SOURCE_OF_WORK;
 use crate::packing::STANDARD_LEVEL;
 use crate::packing::TEST_OVERRIDES;
 use crate::packing::TTTT_AAAA;
@@ -71,7 +74,7 @@ ghost use mathlib.Core.Path.{_≡_};
 ghost use lib.ListN.{length};
 ghost use Rattle.layout.specs.Packing.{Packed, ownIn};
 
-pub const COUNT: usize = 309;
+pub const COUNT: usize = 322;
 
 const LAYOUTS: [u64; COUNT] = [
     // Clause 7: File Header Record.
@@ -394,6 +397,20 @@ const LAYOUTS: [u64; COUNT] = [
     46 * FIRST + 1 * SIZE + M + AB, // 45 Reserved
     47 * FIRST + 20 * SIZE + C + ANS, // 46 User Field
     67 * FIRST + 14 * SIZE + M + AB, // 47 Reserved
+    // Clause 26: Credit/Reconciliation Record.
+    CreditRecord::TYPE * KIND + CreditRecord::LENGTH * LONG + CreditRecord::FIELDS * FIELDS,
+    1 * FIRST + 2 * SIZE + M + N + NUMBERS + 61 * LOW + 61, // 1 Record Type
+    3 * FIRST + 1 * SIZE + C + AN + NUMBERS + 1 * LOW + 9, // 2 Record Usage Indicator
+    4 * FIRST + 15 * SIZE + C + NBMCD, // 3 Auxiliary On-Us
+    19 * FIRST + 1 * SIZE + C + NBMC, // 4 External Processing Code
+    20 * FIRST + 9 * SIZE + M + NBMCD + ROUTING + TTTTAAAAC + TTTTT_FFF, // 5 Posting Bank Routing Number
+    29 * FIRST + 20 * SIZE + C + NBMCDO, // 6 Posting Account Number (On-Us)
+    49 * FIRST + 14 * SIZE + M + N, // 7 Item Amount
+    63 * FIRST + 15 * SIZE + M + NB, // 8 Item Sequence Number
+    78 * FIRST + 1 * SIZE + C + AN + ITEM_DOCUMENTATION, // 9 Documentation Type Indicator
+    79 * FIRST + 1 * SIZE + C + AN + ACCOUNT_TYPES, // 10 Type of Account Code
+    80 * FIRST + 2 * SIZE + C + AN + SOURCE_OF_WORK, // 11 Source of Work Code
+    82 * FIRST + 3 * SIZE + M + AB, // 12 Reserved
     // Clause 31: Bundle Control Record.
     BundleControl::TYPE * KIND + BundleControl::LENGTH * LONG + BundleControl::FIELDS * FIELDS,
     1 * FIRST + 2 * SIZE + M + N + NUMBERS + 70 * LOW + 70, // 1 Record Type

@@ -87,6 +87,8 @@ pub const NNNNNNNNN: u64 = 16;
 
 pub const CLIPPED_BY: u64 = 11 * 0x1_0000;
 
+pub const SOURCE_OF_WORK: u64 = 12 * 0x1_0000;
+
 pub const FILE_TYPES: u64 = 21 * 0x1_0000;
 
 pub const YES_NO: u64 = 22 * 0x1_0000;
@@ -104,6 +106,8 @@ pub const RETURN_ACCEPTANCE: u64 = 27 * 0x1_0000;
 pub const ARCHIVE_TYPES: u64 = 28 * 0x1_0000;
 
 pub const TEST_OVERRIDES: u64 = 29 * 0x1_0000;
+
+pub const ACCOUNT_TYPES: u64 = 30 * 0x1_0000;
 
 // The parts of a kind's number.
 pub fn type_in(header: u64) -> u64
@@ -197,6 +201,7 @@ pub fn rule_of(code: u64, low: u64, high: u64) -> Rule
         9 => Rule::HoursMinutesSeconds,
         10 => Rule::Routing(forms_in(high)),
         11 => Rule::ClippingCoordinate(place_of(high)),
+        12 => Rule::SourceOfWork,
         21 => Rule::Code(CodeList::FileTypes),
         22 => Rule::Code(CodeList::YesNo),
         23 => Rule::Code(CodeList::YesNoUnknown),
@@ -206,6 +211,7 @@ pub fn rule_of(code: u64, low: u64, high: u64) -> Rule
         27 => Rule::Code(CodeList::ReturnAcceptance),
         28 => Rule::Code(CodeList::ArchiveTypes),
         29 => Rule::Code(CodeList::TestOverrides),
+        30 => Rule::Code(CodeList::AccountTypes),
         _ => Rule::DataTypeAlone,
     }
 }

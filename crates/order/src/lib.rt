@@ -1,11 +1,19 @@
 // Which record may follow.
+ghost use mathlib.Core.Bool.{cond};
 ghost use mathlib.Core.Path.{_≡_};
-ghost use Rattle.order.specs.MayFollow.{isCarried, follows, isItem, isAddendum, mayFollow};
+ghost use Prim.Native.Nat.{_≤_};
+ghost use Rattle.order.specs.MayFollow.{isCarried, follows, isCheckOrReturn, isItem, isAddendum, mayFollow};
+
+pub fn is_check_or_return(kind: u64) -> bool
+    ensures { λ r. ⌜ r ≡ isCheckOrReturn kind ⌝ }
+{
+    (kind == 25) | (kind == 31)
+}
 
 pub fn is_item(kind: u64) -> bool
     ensures { λ r. ⌜ r ≡ isItem kind ⌝ }
 {
-    (kind == 25) | (kind == 31)
+    ((kind == 25) | (kind == 31)) | (kind == 61)
 }
 
 pub fn is_addendum(kind: u64) -> bool
@@ -33,36 +41,49 @@ pub fn is_carried(kind: u64) -> bool
         | (kind == 50)
         | (kind == 52)
         | (kind == 54)
+        | (kind == 61)
         | (kind == 70)
         | (kind == 90)
         | (kind == 99)
 }
 
-// The table of document 01 by its pairs, each written LAST_NEXT_0; a LAST of 00 is the start. The 0 behind a pair keeps any two apart: numbers in
-// a row would be compiled to tests of ranges, and the proof would have an answer to write for each.
-fn follows_last(last: u64, next: u64) -> bool
-    ensures { λ r. ⌜ r ≡ follows last next ⌝ }
+fn place_of(inside: bool) -> u64
+    ensures { λ r. ⌜ (r ≡ cond inside 1 0) × (r ≤ 1) ⌝ }
+{
+    if inside { 1 } else { 0 }
+}
+
+// The tables of document 01 and request 2 by their pairs, each written LAST_NEXT_0 where no bundle is open and 1_LAST_NEXT_0 in a bundle; a LAST
+// of 00 is the start. The 0 behind a pair keeps any two apart: numbers in a row would be compiled to tests of ranges, and the proof would have an
+// answer to write for each.
+fn follows_last(inside: bool, last: u64, next: u64) -> bool
+    ensures { λ r. ⌜ r ≡ follows inside last next ⌝ }
 {
     if (last < 100) & (next < 100) {
-        match (last * 100 + next) * 10 {
+        match ((place_of(inside) * 100 + last) * 100 + next) * 10 {
             00_01_0
             | 01_10_0
-            | (10_20_0 | 10_90_0)
-            | (20_25_0 | 20_31_0)
-            | (25_26_0 | 25_27_0 | 25_28_0 | 25_50_0 | 25_25_0 | 25_70_0)
-            | (26_26_0 | 26_27_0 | 26_28_0 | 26_50_0 | 26_25_0 | 26_70_0)
-            | (27_28_0 | 27_50_0 | 27_25_0 | 27_70_0)
-            | (28_28_0 | 28_50_0 | 28_25_0 | 28_70_0)
-            | (31_32_0 | 31_33_0)
-            | (32_32_0 | 32_33_0)
-            | (33_34_0 | 33_35_0 | 33_50_0 | 33_31_0 | 33_70_0)
-            | (34_35_0 | 34_50_0 | 34_31_0 | 34_70_0)
-            | (35_35_0 | 35_50_0 | 35_31_0 | 35_70_0)
+            | (10_20_0 | 10_61_0 | 10_90_0)
             | 50_52_0
-            | (52_50_0 | 52_54_0 | 52_25_0 | 52_31_0 | 52_70_0)
-            | (54_50_0 | 54_25_0 | 54_31_0 | 54_70_0)
-            | (70_20_0 | 70_90_0)
-            | (90_10_0 | 90_99_0) => true,
+            | (52_50_0 | 52_54_0 | 52_61_0 | 52_20_0 | 52_90_0)
+            | (54_50_0 | 54_61_0 | 54_20_0 | 54_90_0)
+            | (61_50_0 | 61_61_0 | 61_20_0 | 61_90_0)
+            | (70_20_0 | 70_61_0 | 70_90_0)
+            | (90_10_0 | 90_99_0)
+            | (1_20_25_0 | 1_20_31_0 | 1_20_61_0)
+            | (1_25_26_0 | 1_25_27_0 | 1_25_28_0 | 1_25_50_0 | 1_25_25_0 | 1_25_61_0 | 1_25_70_0)
+            | (1_26_26_0 | 1_26_27_0 | 1_26_28_0 | 1_26_50_0 | 1_26_25_0 | 1_26_61_0 | 1_26_70_0)
+            | (1_27_28_0 | 1_27_50_0 | 1_27_25_0 | 1_27_61_0 | 1_27_70_0)
+            | (1_28_28_0 | 1_28_50_0 | 1_28_25_0 | 1_28_61_0 | 1_28_70_0)
+            | (1_31_32_0 | 1_31_33_0)
+            | (1_32_32_0 | 1_32_33_0)
+            | (1_33_34_0 | 1_33_35_0 | 1_33_50_0 | 1_33_31_0 | 1_33_61_0 | 1_33_70_0)
+            | (1_34_35_0 | 1_34_50_0 | 1_34_31_0 | 1_34_61_0 | 1_34_70_0)
+            | (1_35_35_0 | 1_35_50_0 | 1_35_31_0 | 1_35_61_0 | 1_35_70_0)
+            | 1_50_52_0
+            | (1_52_50_0 | 1_52_54_0 | 1_52_25_0 | 1_52_31_0 | 1_52_61_0 | 1_52_70_0)
+            | (1_54_50_0 | 1_54_25_0 | 1_54_31_0 | 1_54_61_0 | 1_54_70_0)
+            | (1_61_50_0 | 1_61_61_0 | 1_61_25_0 | 1_61_31_0 | 1_61_70_0) => true,
             _ => false,
         }
     } else {
@@ -70,10 +91,10 @@ fn follows_last(last: u64, next: u64) -> bool
     }
 }
 
-// Whether a type may come next, after the last one and with items of a type in the open bundle (0: none yet).
-pub fn may_follow(last: u64, present: u64, next: u64) -> bool
-    ensures { λ r. ⌜ r ≡ mayFollow last present next ⌝ }
+// Whether a type may come next, with a bundle open or not, after the last one and with checks or returns of a type in the open bundle (0: none yet).
+pub fn may_follow(inside: bool, last: u64, present: u64, next: u64) -> bool
+    ensures { λ r. ⌜ r ≡ mayFollow inside last present next ⌝ }
 {
-    let one_item_type = !is_item(next) | ((present == 0) | (present == next));
-    follows_last(last, next) & one_item_type
+    let one_item_type = !is_check_or_return(next) | ((present == 0) | (present == next));
+    follows_last(inside, last, next) & one_item_type
 }

@@ -14,7 +14,7 @@ use Rattle.frame.specs.declared.Frame.the-variants.{Cut, Whole}
 use Rattle.frame.proofs.Laws.{whole-within, whole-start}
 use Rattle.judge.specs.Alone.{typeOf}
 use Rattle.standing.specs.History.{Entry, entry}
-use Rattle.standing.specs.Standing.{standing, Roomy}
+use Rattle.standing.specs.Standing.{standing, cappedFigures, Roomy}
 use Rattle.standing.specs.declared.Standing.{Standing}
 use Rattle.standing.proofs.Laws.{standing-records, roomy}
 use Rattle.passes.specs.declared.Fault.{Fault}
@@ -26,6 +26,7 @@ use Rattle.passes.specs.declared.Answer.{Answer}
 use Rattle.passes.specs.declared.Answer.the-variants.{Accepted, Refused}
 use Rattle.passes.specs.Rows.{rowOf, rowsFrom, rowsOf}
 use Rattle.passes.specs.Reading.{totalsOf, stepOf, endedWith, run, surveyed, Counted}
+use Rattle.passes.proofs.Capped.{figures-twice, ended-capped, row-capped, step-capped}
 use Rattle.passes.proofs.Laws.{run-end, run-stop, run-on, rows-end, rows-cut, rows-on, Framed, framed, splice, splice-none, splice-more}
 
 -- both passes: the records passed, where the loop is, and how many records may still come
@@ -36,7 +37,7 @@ pub record Place (file : List ℕ) (at : ℕ) (s : Standing) : Type 0 where
   pub limit : length file ≤ 268_435_456
   pub few : length past ≤ at
   pub enough : length file ≤ at + fuel
-  pub stands : s ≡ standing file past
+  pub stands : s ≡ cappedFigures (standing file past)
 
 pub place-roomy : (file : List ℕ) (at : ℕ) (s : Standing) → Place file at s → Roomy s
 place-roomy file at s p = subst Roomy (sym (p .stands)) (roomy file (p .past) (omega (arith, p .few, p .within, p .limit)))
@@ -46,9 +47,20 @@ place-records file at s p = ap (λ (u : Standing). u .records .0) (p .stands) �
 
 -- what `standing::moved` gives for a record of type t at an offset
 abbrev pub Moves : List ℕ → Standing → ℕ → ℕ → Standing → Type 0
-Moves file s t at r = (past : List Entry) (n : ℕ) → s ≡ standing file past → r ≡ standing file (entry t at n ∷ past)
+Moves file s t at r =
+    (past : List Entry) (n : ℕ) → s ≡ cappedFigures (standing file past) → r ≡ cappedFigures (standing file (entry t at n ∷ past))
 
-pub place-first : (file : List ℕ) (s : Standing) → length file ≤ 268_435_456 → s ≡ standing file [] → Place file 0 s
+-- sums that stop have stopped already
+stopped : (s u : Standing) → s ≡ cappedFigures u → cappedFigures s ≡ s
+stopped s u e = ap cappedFigures e ∙ figures-twice u ∙ sym e
+
+pub place-stopped : (file : List ℕ) (at : ℕ) (s : Standing) → Place file at s → cappedFigures s ≡ s
+place-stopped file at s p = stopped s (standing file (p .past)) (p .stands)
+
+pub moves-stopped : (file : List ℕ) (at : ℕ) (s : Standing) → Place file at s → (t : ℕ) (r : Standing) → Moves file s t at r → cappedFigures r ≡ r
+moves-stopped file at s p t r m = stopped r (standing file (entry t at 0 ∷ p .past)) (m (p .past) 0 (p .stands))
+
+pub place-first : (file : List ℕ) (s : Standing) → length file ≤ 268_435_456 → s ≡ cappedFigures (standing file []) → Place file 0 s
 place-first file s h e =
     record {
       past = [];
@@ -79,7 +91,7 @@ pub record Survey (file : List ℕ) (at : ℕ) (s : Standing) : Type 0 where
   pub same : run (length file) file 0 [] ≡ run (place .fuel) file at (place .past)
   pub count : length (rowsOf file) ≡ 7 * length (place .past) + length (rowsFrom (place .fuel) file at (place .past))
 
-pub survey-first : (file : List ℕ) (s : Standing) → length file ≤ 268_435_456 → s ≡ standing file [] → Survey file 0 s
+pub survey-first : (file : List ℕ) (s : Standing) → length file ≤ 268_435_456 → s ≡ cappedFigures (standing file []) → Survey file 0 s
 unfolding place-first
 survey-first file s h e = record { place = place-first file s h e; same = refl; count = omega arith }
 
@@ -88,7 +100,8 @@ module _ (file : List ℕ) (at : ℕ) (s : Standing) (v : Survey file at s) wher
   left h = omega (arith, v .place .enough)
 
   step-here : {x : Step} → stepOf file s at ≡ x → stepOf file (standing file (v .place .past)) at ≡ x
-  step-here {x} e = subst (λ (u : Standing). stepOf file u at ≡ x) (v .place .stands) e
+  step-here {x} e =
+      sym (step-capped (standing file (v .place .past)) file at) ∙ subst (λ (u : Standing). stepOf file u at ≡ x) (v .place .stands) e
 
   pub survey-stop : at < length file → (fault : Fault) → stepOf file s at ≡ Stop fault
       → run (length file) file 0 [] ≡ Refused fault (s .records .0 + 1) at
@@ -98,7 +111,11 @@ module _ (file : List ℕ) (at : ℕ) (s : Standing) (v : Survey file at s) wher
       ∙ ap (λ (n : ℕ). Refused fault (n + 1) at) (sym (place-records file at s (v .place)))
 
   pub survey-end : length file ≤ at → run (length file) file 0 [] ≡ endedWith s at
-  survey-end h = v .same ∙ run-end file at (v .place .past) (v .place .fuel) h ∙ ap (λ (u : Standing). endedWith u at) (sym (v .place .stands))
+  survey-end h =
+      v .same
+      ∙ run-end file at (v .place .past) (v .place .fuel) h
+      ∙ sym (ended-capped (standing file (v .place .past)) at)
+      ∙ ap (λ (u : Standing). endedWith u at) (sym (v .place .stands))
 
   counted-pick : (b : Bool) → length (rowsOf file) ≡ 7 * s .records .0 → Counted file (cond b (Accepted (totalsOf s)) (Refused Open (s .records .0 + 1) at))
   counted-pick true h = h
@@ -146,7 +163,7 @@ pub record Fill (file table₀ : List ℕ) (at : ℕ) (s : Standing) (base : ℕ
   pub room : base + length (rowsFrom (place .fuel) file at (place .past)) ≤ length table
   pub same : splice table₀ 0 (rowsOf file) ≡ splice table base (rowsFrom (place .fuel) file at (place .past))
 
-pub fill-first : (file table : List ℕ) (s : Standing) → length file ≤ 268_435_456 → length (rowsOf file) ≤ length table → s ≡ standing file []
+pub fill-first : (file table : List ℕ) (s : Standing) → length file ≤ 268_435_456 → length (rowsOf file) ≤ length table → s ≡ cappedFigures (standing file [])
     → Fill file table 0 s 0 table
 unfolding place-first
 fill-first file table s h l e = record { place = place-first file s h e; long = refl; room = omega arith; same = refl }
@@ -187,7 +204,9 @@ module _ (file table₀ : List ℕ) (at : ℕ) (s : Standing) (base : ℕ) (tabl
         let stands = m (v .place .past) size (v .place .stands) in
         let begins = whole-start file at start size e in
         let fits = whole-within file at start size e in
-        let written : after ≡ sets table base row = w ∙ ap (λ (u : Standing). sets table base (rowOf file u t at size)) stands in
+        let whole = row-capped (standing file (entry t at size ∷ v .place .past)) file t at size in
+        let written : after ≡ sets table base row =
+        w ∙ ap (λ (u : Standing). sets table base (rowOf file u t at size)) stands ∙ ap (sets table base) whole in
         let long : length (rowsFrom (v .place .fuel) file at (v .place .past)) ≡ 7 + length others = ap length rows-here ∙ length-append row others in
         let width = ap length written ∙ length-sets table base row in
         let there : others ≡ rowsFrom (v .place .fuel - 1) file (at + 4 + size) (entry t at size ∷ v .place .past) =

@@ -35,14 +35,14 @@ fieldOf (Total n) = n
 fieldOf Open = 0
 fieldOf After = 0
 
--- Number, record, field, offset, and the totals: records, cash letters, bundles, items, views, debit cents. "ACCEPTED: record = record
--- count, field 0, offset = file length"; "on every number but 0, totals are zero".
+-- Number, record, field, offset, and the totals: records, cash letters, bundles, items, views, debit cents, credits, credit cents. "ACCEPTED:
+-- record = record count, field 0, offset = file length"; "on every number but 0, totals are zero".
 abbrev pub numbersOf : ℕ → Answer → List ℕ
 numbersOf fileLength (Accepted t) =
-    0 ∷ t .records .0 ∷ 0 ∷ fileLength ∷ t .records .0 ∷ t .letters ∷ t .bundles ∷ t .sums .items .0 ∷ t .sums .views .0
-    ∷ t .sums .debit .0 ∷ []
+    0 ∷ t .records .0 ∷ 0 ∷ fileLength ∷ t .records .0 ∷ t .letters ∷ t .bundles ∷ t .items .0 ∷ t .sums .views .0
+    ∷ t .sums .debit .0 ∷ t .sums .credits .0 ∷ t .sums .credit .0 ∷ []
 numbersOf fileLength (Refused fault place offset) =
-    numberOf fault ∷ place ∷ fieldOf fault ∷ offset ∷ 0 ∷ 0 ∷ 0 ∷ 0 ∷ 0 ∷ 0 ∷ []
+    numberOf fault ∷ place ∷ fieldOf fault ∷ offset ∷ 0 ∷ 0 ∷ 0 ∷ 0 ∷ 0 ∷ 0 ∷ 0 ∷ 0 ∷ []
 
 abbrev pub answerNumber : Answer → ℕ
 answerNumber (Accepted t) = 0

@@ -36,5 +36,5 @@ unfoldable pub turnOf : List ℕ → Standing → ℕ → List ℕ → Turn
 turnOf file s at body =
     unless (leb 2 (length body)) (Faulty Length)
     (unless (isCarried (typeOf body)) (Faulty UnknownType)
-    (unless (mayFollow (s .last) (s .present) (typeOf body)) (Faulty Place)
+    (unless (mayFollow (s .inside) (s .last) (s .present) (typeOf body)) (Faulty Place)
     (unlessAlone (judgedAs (typeOf body) body) (agreement file s at (typeOf body)))))

@@ -5,7 +5,7 @@ use mathlib.Core.Path.{_≡_}
 use mathlib.Core.List.{List, [], _∷_, _++_}
 use lib.Dec.{leb, eqb}
 use lib.ListN.{length, drop}
-use Rattle.measure.specs.Measures.{records}
+use Rattle.measure.specs.Measures.{cappedSums}
 use Rattle.frame.specs.declared.Frame.{Frame}
 use Rattle.frame.specs.declared.Frame.the-variants.{Whole}
 use Rattle.frame.specs.Frames.{part, frameAt}
@@ -24,9 +24,11 @@ use Rattle.passes.specs.CheckOrder.{turnOf}
 use Rattle.passes.specs.Rows.{rowsOf}
 use Rattle.frame.specs.declared.Frame.the-variants as frames
 
--- "the totals are those of the whole file as added up from its records"
+-- "the totals are those of the whole file as added up from its records". They are asked for behind a 99 only, which states their cents, so
+-- that none of them is capped: `Arranged` says so.
 abbrev pub totalsOf : Standing → Totals
-totalsOf s = record { records = s .records; letters = s .letters; bundles = s .bundles; sums = s .whole }
+totalsOf s =
+    record { records = s .records; letters = s .letters; bundles = s .bundles; items = s .items; sums = cappedSums (s .whole) }
 
 abbrev pub ofTurn : ℕ → Turn → Step
 ofTurn size (Faulty fault) = Stop fault

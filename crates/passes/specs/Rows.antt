@@ -8,32 +8,29 @@ use Rattle.frame.specs.declared.Frame.{Frame}
 use Rattle.frame.specs.declared.Frame.the-variants.{Cut, Whole}
 use Rattle.frame.specs.Frames.{part, frameAt}
 use Rattle.judge.specs.Alone.{typeOf}
-use Rattle.order.specs.MayFollow.{isItem}
+use Rattle.measure.specs.Measures.{capped}
 use Rattle.standing.specs.History.{Entry, entry, amountOf}
 use Rattle.standing.specs.Standing.{standing}
 use Rattle.standing.specs.declared.Standing.{Standing}
 
--- outside a cash letter; outside a bundle; outside an item
+-- outside a cash letter
 abbrev pub outsideLetter : ℕ → Bool
 outsideLetter t = eqb t 1 || eqb t 99
 
-abbrev pub outsideBundle : ℕ → Bool
-outsideBundle t = outsideLetter t || (eqb t 10 || eqb t 90)
-
-abbrev pub outsideItem : ℕ → Bool
-outsideItem t = outsideBundle t || (eqb t 20 || eqb t 70)
-
--- "Amount: item amount for 25 and 31, debit cents as added up for 70, 90 and 99, otherwise 0"
+-- "Amount: item amount for 25 and 31, debit cents as added up for 70, 90 and 99, otherwise 0"; a 61's is its field 7 (request 2). The rows
+-- are asked for in an accepted file only, whose controls state these cents, so that none of them is capped: `Arranged` says so.
 abbrev pub amountIn : List ℕ → Standing → ℕ → ℕ → ℕ
 amountIn file s t offset =
-    cond (eqb t 70) (s .bundle .debit .0)
-    (cond (eqb t 90) (s .letter .debit .0) (cond (eqb t 99) (s .whole .debit .0) (amountOf file t offset)))
+    cond (eqb t 70) (capped (s .bundle .debit .0))
+    (cond (eqb t 90) (capped (s .letter .debit .0))
+    (cond (eqb t 99) (capped (s .whole .debit .0)) (amountOf file t offset)))
 
--- a record's row, where s stands after the record: type, offset, length, and the ordinals, "0 where the record lies outside that level"
+-- a record's row, where s stands after the record: type, offset, length, and the ordinals, "0 where the record lies outside that level". In a
+-- bundle, 25s, 31s and 61s are counted together; a 61 directly in a cash letter, with its views, lies in no bundle (request 2).
 abbrev pub rowOf : List ℕ → Standing → ℕ → ℕ → ℕ → List ℕ
 rowOf file s t offset size =
-    t ∷ offset ∷ size ∷ cond (outsideLetter t) 0 (s .letters) ∷ cond (outsideBundle t) 0 (s .opened)
-    ∷ cond (outsideItem t) 0 (s .bundle .items .0) ∷ amountIn file s t offset ∷ []
+    t ∷ offset ∷ size ∷ cond (outsideLetter t) 0 (s .letters) ∷ cond (s .inside || eqb t 70) (s .opened) 0
+    ∷ cond (s .inside) (s .ordinal) 0 ∷ amountIn file s t offset ∷ []
 
 abbrev pub rowAnd : List ℕ → ℕ → List Entry → Frame → (ℕ → List Entry → List ℕ) → List ℕ
 rowAnd file at past Cut others = []

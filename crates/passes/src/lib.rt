@@ -2,6 +2,7 @@
 use frame::Cursor;
 use frame::Frame;
 use judge::Judged;
+use measure::Items;
 use measure::Records;
 use measure::Sums;
 use standing::Standing;
@@ -12,10 +13,10 @@ ghost use Prim.Native.Nat.{ℕ, _+_, _*_, _<_, _≤_};
 ghost use lib.ListN.{length, drop};
 ghost use lib.Seq.{sets};
 ghost use Rattle.layout.specs.Packing.{Packed};
-ghost use Rattle.standing.specs.Standing.{Roomy};
+ghost use Rattle.standing.specs.Standing.{cappedFigures, Roomy};
 ghost use Rattle.passes.specs.Answers.{numberOf, fieldOf};
 ghost use Rattle.passes.specs.CheckOrder.{agreement, turnOf};
-ghost use Rattle.passes.specs.Rows.{outsideLetter, outsideBundle, outsideItem, amountIn, rowOf, rowsOf};
+ghost use Rattle.passes.specs.Rows.{amountIn, rowOf, rowsOf};
 ghost use Rattle.passes.specs.Reading.{stepOf, endedWith, surveyed, Counted};
 
 // Why a file is refused.
@@ -51,6 +52,7 @@ pub struct Totals {
     pub records: Records,
     pub letters: u64,
     pub bundles: u64,
+    pub items: Items,
     pub sums: Sums,
 }
 
@@ -134,7 +136,7 @@ fn judge_next<'a>(
     if !order::is_carried(kind) {
         return Turn::Faulty(Fault::UnknownType);
     }
-    if !order::may_follow(s.last, s.present, kind) {
+    if !order::may_follow(s.inside, s.last, s.present, kind) {
         return Turn::Faulty(Fault::Place);
     }
     match judge::judge_as(layouts, kind, body) {
@@ -169,16 +171,18 @@ fn record_at<'a>(layouts: &'a [u64], file: &'a [u8], s: Standing, at: usize) -> 
 
 // At the end of the bytes.
 fn ended_at(s: Standing, at: usize) -> Answer
-    requires { ⌜ Roomy s ⌝ }
+    requires { ⌜ Roomy s × (cappedFigures s ≡ s) ⌝ }
     ensures { λ r. ⌜ r ≡ endedWith s at ⌝ }
 {
     if s.last == 99 {
         let sums = s.whole;
         let records = s.records;
+        let items = s.items;
         return Answer::Accepted(Totals {
             records,
             letters: s.letters,
             bundles: s.bundles,
+            items,
             sums,
         });
     }
@@ -235,6 +239,7 @@ fn debit_of_bundle(file: &[u8], s: Standing, offset: usize) -> u64
 
 // An item's amount, and for a control record the debit cents as added up.
 fn amount_in(file: &[u8], s: Standing, kind: u64, offset: usize) -> u64
+    requires { ⌜ cappedFigures s ≡ s ⌝ }
     ensures { λ r. ⌜ r ≡ amountIn (now (file .entry)) s kind offset ⌝ }
 {
     match kind {
@@ -255,20 +260,18 @@ fn put_row(
     offset: usize,
     size: usize,
 )
-    requires { ⌜ base + 7 ≤ length (now table) ⌝ }
+    requires { ⌜ (base + 7 ≤ length (now table)) × (cappedFigures s ≡ s) ⌝ }
     ensures { λ _. ⌜ now (table .exit) ≡ sets (now (table .entry)) base (rowOf (now (file .entry)) s kind offset size) ⌝ }
 {
     let outside_letter = (kind == 1) | (kind == 99);
-    let outside_bundle = outside_letter | ((kind == 10) | (kind == 90));
-    let outside_item = outside_bundle | ((kind == 20) | (kind == 70));
+    let in_bundle = s.inside | (kind == 70);
     let amount = amount_in(file, s, kind, offset);
-    let items = s.bundle.items;
     table[base] = kind;
     table[base + 1] = offset as u64;
     table[base + 2] = size as u64;
     table[base + 3] = pick(outside_letter, 0, s.letters);
-    table[base + 4] = pick(outside_bundle, 0, s.opened);
-    table[base + 5] = pick(outside_item, 0, items.0);
+    table[base + 4] = pick(in_bundle, s.opened, 0);
+    table[base + 5] = pick(s.inside, s.ordinal, 0);
     table[base + 6] = amount;
 }
 

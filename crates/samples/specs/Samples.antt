@@ -13,9 +13,9 @@ use Rattle.field.specs.RoutingForms.{TTTTAAAAC, TTTTT-FFF, NNNNNNNNN, listing, 
 use Rattle.field.specs.Rules.{follows, meets, holds}
 use Rattle.frame.specs.Frames.{lengthIn}
 use Rattle.layout.specs.Layout.{Layout}
-use Rattle.layout.specs.Layouts.{checkDetailAddendumB, imageViewData}
-use Rattle.judge.specs.Alone.{numberOf, alone, judged, lineHolds, firstWrong, firstWrongPart, statedSizes}
-use Rattle.order.specs.MayFollow.{lastOf, itemTypeInBundle, mayFollow, follows as follows-last}
+use Rattle.layout.specs.Layouts.{checkDetailAddendumB, imageViewData, creditRecord}
+use Rattle.judge.specs.Alone.{numberOf, fieldOf, alone, judged, lineHolds, firstWrong, firstWrongPart, statedSizes}
+use Rattle.order.specs.MayFollow.{lastOf, isOpen, itemTypeInBundle, mayFollow, follows as follows-last}
 
 -- numeric characters
 abbrev pub digits : List ℕ → List ℕ
@@ -45,12 +45,18 @@ viewData =
 abbrev pub addendumB : List ℕ
 addendumB = digits (2 ∷ 7 ∷ []) ++ blanks 49 ++ digits (0 ∷ 0 ∷ 3 ∷ 4 ∷ []) ++ zeros 13 ++ blanks 5
 
+-- a 61 with a source of work: type, usage indicator 9, blank fields 3 and 4, routing number, blank field 6, amount and sequence number of
+-- zeros, blank fields 9 and 10, the source, and the reserved field
+abbrev pub credit : List ℕ → List ℕ
+credit source =
+    digits (6 ∷ 1 ∷ 9 ∷ []) ++ blanks 16 ++ digits (1 ∷ 2 ∷ 3 ∷ 4 ∷ 5 ∷ 6 ∷ 7 ∷ 8 ∷ 0 ∷ []) ++ blanks 20 ++ zeros 29 ++ blanks 2 ++ source ++ blanks 3
+
 -- the place of the first type that may not follow those before it, counted from 1, or 0 where the order is lawful; the types before it
 -- stand newest first
 abbrev pub misplacedAfter : List ℕ → ℕ → List ℕ → ℕ
 misplacedAfter past n [] = 0
 misplacedAfter past n (t ∷ ts) =
-    cond (mayFollow (lastOf past) (itemTypeInBundle past) t) (misplacedAfter (t ∷ past) (n + 1) ts) n
+    cond (mayFollow (isOpen past) (lastOf past) (itemTypeInBundle past) t) (misplacedAfter (t ∷ past) (n + 1) ts) n
 
 abbrev pub misplaced : List ℕ → ℕ
 misplaced types = misplacedAfter [] 1 types
@@ -94,6 +100,18 @@ samples =
     -- nine digits with a wrong check digit: 01.4, which lists the non-financial number, and 20.10, which does not
     P 20 (fitsSome (listing (TTTTAAAAC ∷ TTTTT-FFF ∷ NNNNNNNNN ∷ [])) (digits (1 ∷ 2 ∷ 3 ∷ 4 ∷ 5 ∷ 6 ∷ 7 ∷ 8 ∷ 1 ∷ []))) ∷
     P 21 (not (fitsSome (listing (TTTTAAAAC ∷ TTTTT-FFF ∷ [])) (digits (1 ∷ 2 ∷ 3 ∷ 4 ∷ 5 ∷ 6 ∷ 7 ∷ 8 ∷ 1 ∷ [])))) ∷
+    -- request 2: a 61 directly in a cash letter, before, between and behind its bundles, one of 61s alone; before the first cash letter, PLACE
+    -- at 2, and between two, at 4; 61s leave a bundle's kind to its first 25 or 31, PLACE at 7
+    P 22 (eqb (misplaced (1 ∷ 10 ∷ 61 ∷ 50 ∷ 52 ∷ 20 ∷ 61 ∷ 61 ∷ 70 ∷ 61 ∷ 20 ∷ 25 ∷ 61 ∷ 50 ∷ 52 ∷ 70 ∷ 61 ∷ 90 ∷ 99 ∷ [])) 0) ∷
+    P 23 (eqb (misplaced (1 ∷ 61 ∷ [])) 2) ∷
+    P 24 (eqb (misplaced (1 ∷ 10 ∷ 90 ∷ 61 ∷ [])) 4) ∷
+    P 25 (eqb (misplaced (1 ∷ 10 ∷ 20 ∷ 61 ∷ 25 ∷ 61 ∷ 31 ∷ [])) 7) ∷
+    -- a 61 is 84 bytes long; its field 11 takes 11 and 21, and not 12 and 20
+    P 26 (eqb (length (credit (blanks 2))) 84 && endsThere creditRecord (credit (blanks 2))) ∷
+    P 27 (eqb (numberOf (alone creditRecord (credit (digits (1 ∷ 1 ∷ []))))) 0) ∷
+    P 28 (eqb (fieldOf (alone creditRecord (credit (digits (1 ∷ 2 ∷ []))))) 11) ∷
+    P 29 (eqb (fieldOf (alone creditRecord (credit (digits (2 ∷ 0 ∷ []))))) 11) ∷
+    P 30 (eqb (numberOf (alone creditRecord (credit (digits (2 ∷ 1 ∷ []))))) 0) ∷
     []
 
 abbrev pub allHold : List Sample → Bool

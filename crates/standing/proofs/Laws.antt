@@ -1,12 +1,15 @@
--- Numbers of fields are small, and so are sums over few records. Assumes nothing.
-use mathlib.Core.Path.{_≡_, refl, sym, _∙_}
+-- Numbers of fields are small, and so are sums over few records; how one record more moves a figure on. Assumes nothing.
+use mathlib.Core.Path.{_≡_, refl, sym, ap₂, _∙_}
 use mathlib.Core.List.{List, [], _∷_}
-use mathlib.Core.Bool.{Bool, true, false, _&&_, cond}
+use mathlib.Core.Bool.{Bool, true, false, _&&_, not, cond}
 use lib.Dec.{eqb}
+use borrow.Author.Tests.{eqb-true}
 use Rattle.layout.specs.Layouts.{checkDetail}
-use Rattle.measure.specs.Measures.{noSums, together, Small}
+use Rattle.measure.specs.Measures.{noSums, together, cappedSums, Small}
+use Rattle.measure.proofs.Capped.{capped-small, capped-sums-since}
 use Rattle.measure.specs.declared.Sums.{Sums}
 use Rattle.measure.specs.declared.Cents.{Cents}
+use Rattle.measure.specs.declared.Items.{Items}
 use Rattle.measure.specs.declared.Records.{Records}
 use Rattle.order.specs.MayFollow.{isItem, isAddendum}
 use Rattle.standing.specs.declared.Standing.{Standing}
@@ -15,14 +18,29 @@ use native.Mathlib.Omega.{arith}
 use lib.ListN.{length, drop, length-take}
 use Rattle.text.specs.Number.{number}
 use Rattle.text.proofs.Laws.{number-below}
-use Rattle.frame.specs.Frames.{part}
-use Rattle.standing.specs.History.{Entry, characters, field, amountOf, micrOf, adds, one, sumSince, sumsSince, countSince, never, is, isItemEntry, isBofdAddendum, isEndorserAddendum}
-use Rattle.standing.specs.Standing.{standing, Roomy}
+use Rattle.standing.specs.History.{Entry, characters, field, isDebit, isCredit, micrOf, adds, one, sumSince, sumsSince, countSince, never, is, isItemEntry, isBofdAddendum, isEndorserAddendum}
+use Rattle.standing.specs.Standing.{standing, cappedFigures, Roomy}
 
--- the number of ten characters
-pub ten-digits : (file : List ℕ) (offset first : ℕ) → number (characters file offset first 10) < 10_000_000_000
-ten-digits file offset first =
-    number-below (characters file offset first 10) 10 (omega (arith, length-take 10 (drop (offset + 4 + (first - 1)) file)))
+-- the number of a few characters
+pub few-digits : (file : List ℕ) (offset first size k : ℕ) → size ≤ k → number (characters file offset first size) < 10 ^ k
+few-digits file offset first size k h =
+    number-below (characters file offset first size) k (omega (arith, length-take size (drop (offset + 4 + (first - 1)) file)))
+
+-- what one record adds leaves room for more
+pub one-roomy : {n : ℕ} → n ≤ 1 → n < 0x4000_0000_0000_0000
+one-roomy h = omega arith
+
+pub amount-roomy : (t : Bool) {n : ℕ} → n < 100_000_000_000_000 → cond t n 0 < 0x4000_0000_0000_0000
+amount-roomy true h = omega arith
+amount-roomy false h = omega arith
+
+-- a 61 is a credit where it is no debit
+pub credit-else : (file : List ℕ) (t offset : ℕ) → eqb t 61 && not (isDebit file t offset) ≡ isCredit file t offset
+credit-else file t offset = by (eqb t 61) refl
+  where
+    by : (b : Bool) → eqb t 61 ≡ b → eqb t 61 && not (isDebit file t offset) ≡ isCredit file t offset
+    by true e = rw (eqb-true t 61 e)
+    by false e = rw e
 
 -- a figure moved on, with its parts replaced by equals
 pub since-moves : {r m m′ o o′ : ℕ} {b b′ : Bool} → r ≡ cond b 0 (m + o) → b ≡ b′ → m ≡ m′ → o ≡ o′ → r ≡ cond b′ 0 (m′ + o′)
@@ -31,16 +49,17 @@ since-moves e b m o = rw (sym b, sym m, sym o) e
 pub newest-moves : {r v v′ o o′ : ℕ} {b b′ : Bool} → r ≡ cond b v o → b ≡ b′ → v ≡ v′ → o ≡ o′ → r ≡ cond b′ v′ o′
 newest-moves e b v o = rw (sym b, sym v, sym o) e
 
-pub sums-move : (b : Bool) {r a a′ o o′ : Sums} → r ≡ cond b noSums (together a o) → a ≡ a′ → o ≡ o′ → r ≡ cond b noSums (together a′ o′)
-sums-move b e a o = rw (sym a, sym o) e
+pub sums-move : (b : Bool) {r a a′ o : Sums} (o′ : Sums) → r ≡ cond b noSums (cappedSums (together a o)) → a ≡ a′ → o ≡ cappedSums o′
+    → r ≡ cappedSums (cond b noSums (together a′ o′))
+sums-move b {a′ = a′} o′ e a o = e ∙ ap₂ (λ (x y : Sums). cond b noSums (cappedSums (together x y))) a o ∙ capped-sums-since b a′ o′
 
 -- figures that are equal one by one
-pub assembled : {last last′ : ℕ} {present present′ : ℕ} {records records′ : Records} {letters letters′ : ℕ} {bundles bundles′ : ℕ} {opened opened′ : ℕ} {whole whole′ : Sums} {letter letter′ : Sums} {bundle bundle′ : Sums} {micr micr′ : Cents} {addenda addenda′ : ℕ} {bofd bofd′ : ℕ} {endorser endorser′ : ℕ} {shown shown′ : ℕ} {stated stated′ : ℕ} {item item′ : ℕ} {header header′ : ℕ} {indicator indicator′ : ℕ} {signature signature′ : ℕ}
-    → last ≡ last′ → present ≡ present′ → records ≡ records′ → letters ≡ letters′ → bundles ≡ bundles′ → opened ≡ opened′ → whole ≡ whole′ → letter ≡ letter′ → bundle ≡ bundle′ → micr ≡ micr′ → addenda ≡ addenda′ → bofd ≡ bofd′ → endorser ≡ endorser′ → shown ≡ shown′ → stated ≡ stated′ → item ≡ item′ → header ≡ header′ → indicator ≡ indicator′ → signature ≡ signature′
+pub assembled : {last last′ : ℕ} {inside inside′ : Bool} {present present′ : ℕ} {holder holder′ : ℕ} {records records′ : Records} {letters letters′ : ℕ} {bundles bundles′ : ℕ} {opened opened′ : ℕ} {items items′ : Items} {ordinal ordinal′ : ℕ} {whole whole′ : Sums} {letter letter′ : Sums} {bundle bundle′ : Sums} {micr micr′ : Cents} {addenda addenda′ : ℕ} {bofd bofd′ : ℕ} {endorser endorser′ : ℕ} {shown shown′ : ℕ} {stated stated′ : ℕ} {item item′ : ℕ} {header header′ : ℕ} {heading heading′ : ℕ} {indicator indicator′ : ℕ} {signature signature′ : ℕ}
+    → last ≡ last′ → inside ≡ inside′ → present ≡ present′ → holder ≡ holder′ → records ≡ records′ → letters ≡ letters′ → bundles ≡ bundles′ → opened ≡ opened′ → items ≡ items′ → ordinal ≡ ordinal′ → whole ≡ whole′ → letter ≡ letter′ → bundle ≡ bundle′ → micr ≡ micr′ → addenda ≡ addenda′ → bofd ≡ bofd′ → endorser ≡ endorser′ → shown ≡ shown′ → stated ≡ stated′ → item ≡ item′ → header ≡ header′ → heading ≡ heading′ → indicator ≡ indicator′ → signature ≡ signature′
     → _≡_ {A = Standing}
-    (record { last = last; present = present; records = records; letters = letters; bundles = bundles; opened = opened; whole = whole; letter = letter; bundle = bundle; micr = micr; addenda = addenda; bofd = bofd; endorser = endorser; shown = shown; stated = stated; item = item; header = header; indicator = indicator; signature = signature })
-    (record { last = last′; present = present′; records = records′; letters = letters′; bundles = bundles′; opened = opened′; whole = whole′; letter = letter′; bundle = bundle′; micr = micr′; addenda = addenda′; bofd = bofd′; endorser = endorser′; shown = shown′; stated = stated′; item = item′; header = header′; indicator = indicator′; signature = signature′ })
-assembled e0 e1 e2 e3 e4 e5 e6 e7 e8 e9 e10 e11 e12 e13 e14 e15 e16 e17 e18 = rw (e0, e1, e2, e3, e4, e5, e6, e7, e8, e9, e10, e11, e12, e13, e14, e15, e16, e17, e18)
+    (record { last = last; inside = inside; present = present; holder = holder; records = records; letters = letters; bundles = bundles; opened = opened; items = items; ordinal = ordinal; whole = whole; letter = letter; bundle = bundle; micr = micr; addenda = addenda; bofd = bofd; endorser = endorser; shown = shown; stated = stated; item = item; header = header; heading = heading; indicator = indicator; signature = signature })
+    (record { last = last′; inside = inside′; present = present′; holder = holder′; records = records′; letters = letters′; bundles = bundles′; opened = opened′; items = items′; ordinal = ordinal′; whole = whole′; letter = letter′; bundle = bundle′; micr = micr′; addenda = addenda′; bofd = bofd′; endorser = endorser′; shown = shown′; stated = stated′; item = item′; header = header′; heading = heading′; indicator = indicator′; signature = signature′ })
+assembled e0 e1 e2 e3 e4 e5 e6 e7 e8 e9 e10 e11 e12 e13 e14 e15 e16 e17 e18 e19 e20 e21 e22 e23 = rw (e0, e1, e2, e3, e4, e5, e6, e7, e8, e9, e10, e11, e12, e13, e14, e15, e16, e17, e18, e19, e20, e21, e22, e23)
 
 pub standing-records : (file : List ℕ) (past : List Entry) → standing file past .records .0 ≡ length past
 unfolding standing
@@ -60,46 +79,47 @@ one-small : (t : Bool) → one t ≤ 1
 one-small true = omega arith
 one-small false = omega arith
 
-amount-pick : (a b : Bool) {x y : ℕ} → x < 10_000_000_000 → y < 10_000_000_000 → cond a x (cond b y 0) ≤ 10_000_000_000
-amount-pick true b h l = omega arith
-amount-pick false true h l = omega arith
-amount-pick false false h l = omega arith
+micr-pick : (t valid : Bool) {x : ℕ} (y : ℕ) → x < 10 ^ 10 → cond (t && valid) (cond t x y) 0 ≤ 10 ^ 10
+micr-pick true true y h = omega arith
+micr-pick true false y h = omega arith
+micr-pick false valid y h = omega arith
 
-amount-small : (file : List ℕ) (t offset : ℕ) → amountOf file t offset ≤ 10_000_000_000
-amount-small file t offset = amount-pick (eqb t 25) (eqb t 31) (ten-digits file offset 48) (ten-digits file offset 48)
+micr-small : (file : List ℕ) (t offset : ℕ) → micrOf file t offset ≤ 10 ^ 10
+micr-small file t offset = micr-pick (eqb t 25) (eqb (number (field checkDetail 10 file offset)) 1) _ (few-digits file offset 48 10 10 (omega arith))
 
-micr-pick : (t : Bool) {x : ℕ} → x ≤ 10_000_000_000 → cond t x 0 ≤ 10_000_000_000
-micr-pick true h = h
-micr-pick false h = omega arith
-
-micr-small : (file : List ℕ) (t offset : ℕ) → micrOf file t offset ≤ 10_000_000_000
-micr-small file t offset = micr-pick (eqb t 25 && eqb (number (field checkDetail 10 file offset)) 1) (amount-small file t offset)
-
+-- sums whose counts are those of so many records; their cents stop by themselves
 pub record Below (s : Sums) (n : ℕ) : Type 0 where
-  pub items : s .items .0 ≤ n
-  pub debit : s .debit .0 ≤ n * 10_000_000_000
+  pub debits : s .debits .0 ≤ n
+  pub credits : s .credits .0 ≤ n
   pub views : s .views .0 ≤ n
 
 below-pick : (t : Bool) (s : Sums) (n : ℕ) → Below s n → Below (cond t noSums s) n
-below-pick true s n h = record { items = omega arith; debit = omega arith; views = omega arith }
+below-pick true s n h = record { debits = omega arith; credits = omega arith; views = omega arith }
 below-pick false s n h = h
 
 sums-below : (begins : Entry → Bool) (file : List ℕ) (past : List Entry) → Below (sumsSince begins file past) (length past)
-sums-below begins file [] = record { items = omega arith; debit = omega arith; views = omega arith }
+sums-below begins file [] = record { debits = omega arith; credits = omega arith; views = omega arith }
 sums-below begins file (r ∷ rs) =
     let older = sums-below begins file rs in
     below-pick (begins r) (together (adds file (r .type) (r .offset)) (sumsSince begins file rs)) (length (r ∷ rs))
     (record {
-      items = omega (arith, older .items, one-small (isItem (r .type)));
-      debit = omega (arith, older .debit, amount-small file (r .type) (r .offset));
+      debits = omega (arith, older .debits, one-small (isDebit file (r .type) (r .offset)));
+      credits = omega (arith, older .credits, one-small (isCredit file (r .type) (r .offset)));
       views = omega (arith, older .views, one-small (eqb (r .type) 50));
     })
 
-small : (s : Sums) (n : ℕ) → n ≤ 268_435_456 → Below s n → Small s
-small s n h b = record { items = omega (arith, b .items); debit = omega (arith, b .debit); views = omega (arith, b .views) }
+small : (s : Sums) (n : ℕ) → n ≤ 268_435_456 → Below s n → Small (cappedSums s)
+small s n h b =
+    record {
+      debits = omega (arith, b .debits);
+      debit = omega (arith, capped-small (s .debit .0));
+      credits = omega (arith, b .credits);
+      credit = omega (arith, capped-small (s .credit .0));
+      views = omega (arith, b .views);
+    }
 
 -- the figures of as many records as a file can have leave room for one more
-pub roomy : (file : List ℕ) (past : List Entry) → length past ≤ 268_435_456 → Roomy (standing file past)
+pub roomy : (file : List ℕ) (past : List Entry) → length past ≤ 268_435_456 → Roomy (cappedFigures (standing file past))
 unfolding standing
 roomy file past h =
     let count : (begins : Entry → Bool) (sort : ℕ → Bool) → countSince begins sort past ≤ length past * 1 =
@@ -109,11 +129,12 @@ roomy file past h =
       letters = omega (arith, count never (λ t. eqb t 10));
       bundles = omega (arith, count never (λ t. eqb t 20));
       opened = omega (arith, count (is 10) (λ t. eqb t 20));
+      items = omega (arith, count never isItem);
+      ordinal = omega (arith, count (is 20) isItem);
       whole = small (sumsSince never file past) (length past) h (sums-below never file past);
       letter = small (sumsSince (is 10) file past) (length past) h (sums-below (is 10) file past);
       bundle = small (sumsSince (is 20) file past) (length past) h (sums-below (is 20) file past);
-      micr =
-          omega (arith, sum-small (is 20) (λ r. micrOf file (r .type) (r .offset)) 10_000_000_000 (λ r. micr-small file (r .type) (r .offset)) past);
+      micr = omega (arith, sum-small (is 20) (λ r. micrOf file (r .type) (r .offset)) (10 ^ 10) (λ r. micr-small file (r .type) (r .offset)) past);
       addenda = omega (arith, count isItemEntry isAddendum);
       bofd = omega (arith, count isItemEntry isBofdAddendum);
       endorser = omega (arith, count isItemEntry isEndorserAddendum);

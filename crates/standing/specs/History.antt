@@ -1,6 +1,6 @@
 -- What a record has before it: the records read so far, the newest first, and what they come to.
 use Prim.Native.Nat.{ℕ, _+_, _-_}
-use mathlib.Core.Bool.{Bool, true, false, _&&_, _||_, cond}
+use mathlib.Core.Bool.{Bool, true, false, _&&_, _||_, not, cond}
 use mathlib.Core.List.{List, [], _∷_, map}
 use lib.Dec.{eqb}
 use lib.ListN.{length, getD}
@@ -8,10 +8,10 @@ use Rattle.text.specs.Capitals.{capital}
 use Rattle.text.specs.Number.{number}
 use Rattle.frame.specs.Frames.{part}
 use Rattle.layout.specs.Layout.{Line, Layout}
-use Rattle.layout.specs.Layouts.{cashLetterHeader, checkDetail, returnRecord, imageViewDetail}
+use Rattle.layout.specs.Layouts.{cashLetterHeader, checkDetail, returnRecord, imageViewDetail, creditRecord}
 use Rattle.measure.specs.Measures.{sums, noSums, together}
 use Rattle.measure.specs.declared.Sums.{Sums}
-use Rattle.order.specs.MayFollow.{isItem, isAddendum}
+use Rattle.order.specs.MayFollow.{isCheckOrReturn, isItem, isAddendum}
 
 -- a record of the file: its type, the offset of its length field, and its size as the length field says it
 pub record Entry : Type 0 where
@@ -34,11 +34,19 @@ fieldIn (l ∷ ls) n file offset = cond (eqb (l .number) n) (characters file off
 abbrev pub field : Layout → ℕ → List ℕ → ℕ → List ℕ
 field k n file offset = fieldIn (k .lines) n file offset
 
--- the amount of an item, in cents: field 6 of a 25 or a 31
+-- the amount of an item, in cents: field 6 of a 25 or a 31, field 7 of a 61
 abbrev pub amountOf : List ℕ → ℕ → ℕ → ℕ
 amountOf file t offset =
     cond (eqb t 25) (number (field checkDetail 6 file offset))
-    (cond (eqb t 31) (number (field returnRecord 6 file offset)) 0)
+    (cond (eqb t 31) (number (field returnRecord 6 file offset))
+    (cond (eqb t 61) (number (field creditRecord 7 file offset)) 0))
+
+-- "Usage indicator 9 makes a debit, any other defined value a credit" (request 2): field 2 of a 61. Every 25 and 31 is a debit.
+abbrev pub isDebit : List ℕ → ℕ → ℕ → Bool
+isDebit file t offset = isCheckOrReturn t || (eqb t 61 && eqb (number (field creditRecord 2 file offset)) 9)
+
+abbrev pub isCredit : List ℕ → ℕ → ℕ → Bool
+isCredit file t offset = eqb t 61 && not (eqb (number (field creditRecord 2 file offset)) 9)
 
 -- "cents of the 25s whose MICR Valid Indicator is 1": field 10
 abbrev pub micrOf : List ℕ → ℕ → ℕ → ℕ
@@ -63,7 +71,9 @@ one false = 0
 
 -- what one record adds to the sums of each level
 abbrev pub adds : List ℕ → ℕ → ℕ → Sums
-adds file t offset = sums (one (isItem t)) (amountOf file t offset) (one (eqb t 50))
+adds file t offset =
+    sums (one (isDebit file t offset)) (cond (isDebit file t offset) (amountOf file t offset) 0) (one (isCredit file t offset))
+    (cond (isCredit file t offset) (amountOf file t offset) 0) (one (eqb t 50))
 
 -- a measure added up over the records after the newest at which a level begins
 abbrev pub sumSince : (Entry → Bool) → (Entry → ℕ) → List Entry → ℕ
@@ -79,7 +89,7 @@ abbrev pub atNewest : (Entry → Bool) → (Entry → ℕ) → List Entry → �
 atNewest test figure [] = 0
 atNewest test figure (r ∷ rs) = cond (test r) (figure r) (atNewest test figure rs)
 
--- where levels begin: never, in the file; at a 10, in a cash letter; at a 20, in a bundle; at a 25 or 31, in an item
+-- where levels begin: never, in the file; at a 10, in a cash letter; at a 20, in a bundle; at a 25, 31 or 61, in an item
 abbrev pub never : Entry → Bool
 never r = false
 

@@ -3,8 +3,8 @@ use Prim.Native.Nat.{ℕ, _+_, _<_}
 use mathlib.Core.List.{List, map}
 use lib.Dec.{eqb}
 use lib.ListN.{length}
-use Rattle.measure.specs.Measures.{cents, records, Small}
-use Rattle.order.specs.MayFollow.{isItem, isAddendum, lastOf, itemTypeInBundle}
+use Rattle.measure.specs.Measures.{cents, items, records, cappedSums, Small}
+use Rattle.order.specs.MayFollow.{isItem, isAddendum, lastOf, isOpen, itemTypeInBundle, newestItemType}
 use Rattle.standing.specs.History.{Entry, micrOf, statedBy, indicatorIn, signatureIn, sumSince, sumsSince, atNewest, never, is, isItemEntry, countSince, isBofdAddendum, isEndorserAddendum}
 use Rattle.standing.specs.declared.Standing.{Standing}
 
@@ -12,11 +12,15 @@ unfoldable pub standing : List ℕ → List Entry → Standing
 standing file past =
     record {
       last = lastOf (map (λ (r : Entry). r .type) past);
+      inside = isOpen (map (λ (r : Entry). r .type) past);
       present = itemTypeInBundle (map (λ (r : Entry). r .type) past);
+      holder = newestItemType (map (λ (r : Entry). r .type) past);
       records = records (length past);
       letters = countSince never (λ t. eqb t 10) past;
       bundles = countSince never (λ t. eqb t 20) past;
       opened = countSince (is 10) (λ t. eqb t 20) past;
+      items = items (countSince never isItem past);
+      ordinal = countSince (is 20) isItem past;
       whole = sumsSince never file past;
       letter = sumsSince (is 10) file past;
       bundle = sumsSince (is 20) file past;
@@ -28,8 +32,39 @@ standing file past =
       stated = atNewest isItemEntry (λ r. statedBy file (r .type) (r .offset)) past;
       item = atNewest isItemEntry (λ r. r .offset) past;
       header = atNewest (is 20) (λ r. r .offset) past;
+      heading = atNewest (is 10) (λ r. r .offset) past;
       indicator = atNewest (is 10) (λ r. indicatorIn file (r .offset)) past;
       signature = atNewest (is 50) (λ r. signatureIn file (r .offset)) past;
+    }
+
+-- the same figures as the code carries them along, where sums of cents stop at what no control field can state
+abbrev pub cappedFigures : Standing → Standing
+cappedFigures s =
+    record {
+      last = s .last;
+      inside = s .inside;
+      present = s .present;
+      holder = s .holder;
+      records = s .records;
+      letters = s .letters;
+      bundles = s .bundles;
+      opened = s .opened;
+      items = s .items;
+      ordinal = s .ordinal;
+      whole = cappedSums (s .whole);
+      letter = cappedSums (s .letter);
+      bundle = cappedSums (s .bundle);
+      micr = s .micr;
+      addenda = s .addenda;
+      bofd = s .bofd;
+      endorser = s .endorser;
+      shown = s .shown;
+      stated = s .stated;
+      item = s .item;
+      header = s .header;
+      heading = s .heading;
+      indicator = s .indicator;
+      signature = s .signature;
     }
 
 -- figures that leave room for those of one record more
@@ -38,6 +73,8 @@ pub record Roomy (s : Standing) : Type 0 where
   pub letters : s .letters < 0x4000_0000_0000_0000
   pub bundles : s .bundles < 0x4000_0000_0000_0000
   pub opened : s .opened < 0x4000_0000_0000_0000
+  pub items : s .items .0 < 0x4000_0000_0000_0000
+  pub ordinal : s .ordinal < 0x4000_0000_0000_0000
   pub whole : Small (s .whole)
   pub letter : Small (s .letter)
   pub bundle : Small (s .bundle)

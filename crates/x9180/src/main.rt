@@ -15,7 +15,7 @@ fn say_accepted(totals: Totals) {
     say(b"accepted records ", totals.records.0);
     say(b" letters ", totals.letters);
     say(b" bundles ", totals.bundles);
-    say(b" items ", sums.items.0);
+    say(b" items ", totals.items.0);
     say(b" views ", sums.views.0);
     say(b" debit ", sums.debit.0);
 }

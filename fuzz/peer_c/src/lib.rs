@@ -5,7 +5,7 @@ mod repair;
 
 use std::slice::{from_raw_parts, from_raw_parts_mut};
 
-use peer_reader::descent::{read, Number, Reading};
+use peer_reader::descent::{read, Number, Reading, LISTED};
 use peer_reader::judge::{self, Flaw};
 use peer_reader::layout::{carried, layout};
 use peer_reader::picture::picture;
@@ -38,11 +38,11 @@ pub unsafe extern "C" fn peer_rows(reading: *const Reading) -> usize {
 /// The answer for a lent table, and the table as it is to be left.
 ///
 /// # Safety
-/// `reading` came from `peer_open`; `table` points to `len` numbers, `answer` to ten.
+/// `reading` came from `peer_open`; `table` points to `len` numbers, `answer` to twelve.
 #[no_mangle]
 pub unsafe extern "C" fn peer_fill(reading: *const Reading, table: *mut u64, len: usize, answer: *mut u64) -> u64 {
     let filled = (*reading).fill(from_raw_parts_mut(table, len));
-    from_raw_parts_mut(answer, 10).copy_from_slice(&filled.listed());
+    from_raw_parts_mut(answer, LISTED).copy_from_slice(&filled.listed());
     filled.number as u64
 }
 

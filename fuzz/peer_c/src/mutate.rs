@@ -5,7 +5,7 @@ use std::panic::{self, AssertUnwindSafe};
 use std::slice::{from_raw_parts, from_raw_parts_mut};
 use std::sync::atomic::{AtomicBool, Ordering};
 
-use peer_reader::descent::split_record;
+use peer_reader::descent::{split_record, Inside};
 use peer_reader::harm;
 use peer_reader::layout::{carried, CARRIED};
 use peer_reader::make::{self, encode, Rec, Wish};
@@ -136,6 +136,11 @@ fn code_of(piece: &Piece) -> u8 {
     }
 }
 
+/// What the record at this place belongs to, as far as the types before it say.
+fn inside_of(pieces: &[Piece], at: usize) -> Inside {
+    harm::insides(pieces[..=at].iter().map(code_of)).pop().unwrap_or(Inside::File)
+}
+
 /// One file with records of another: one record for one of its type, or the other file's end behind a place it may follow.
 fn crossed(one: &[u8], two: &[u8], random: &mut Random) -> Vec<u8> {
     let (control, first) = parts(one);
@@ -153,7 +158,8 @@ fn crossed(one: &[u8], two: &[u8], random: &mut Random) -> Vec<u8> {
     } else {
         pieces.truncate(random.below(pieces.len() + 1));
         let last = pieces.last().map_or(0, code_of);
-        let fits = |place: &usize| harm::followers(last).contains(&code_of(&second[*place]));
+        let inside = pieces.len().checked_sub(1).map_or(Inside::File, |at| inside_of(&pieces, at));
+        let fits = |place: &usize| harm::followers(inside, last).contains(&code_of(&second[*place]));
         let places: Vec<usize> = (0..second.len()).filter(fits).collect();
         let skip = if places.is_empty() { random.below(second.len() + 1) } else { random.pick(&places) };
         pieces.extend_from_slice(&second[skip..]);
@@ -278,7 +284,7 @@ fn one_change(pieces: &mut Vec<Piece>, random: &mut Random, bytewise: Bytewise) 
 
 /// A record that may follow the one here.
 fn insert_lawful(pieces: &mut Vec<Piece>, at: usize, random: &mut Random) {
-    let next = harm::followers(code_of(&pieces[at]));
+    let next = harm::followers(inside_of(pieces, at), code_of(&pieces[at]));
     if !next.is_empty() {
         let code = random.pick(next);
         pieces.insert(at + 1, Piece::Known(make::record(random, code, 40)));

@@ -1,5 +1,6 @@
 //! The independent reader: recursive descent over the records of a file.
-//! A file calls for cash letters, a cash letter for bundles, a bundle for items, an item for addenda and views.
+//! A file calls for cash letters, a cash letter for bundles and credits, a bundle for items and credits, an item for addenda and
+//! views, a credit for views.
 
 use crate::judge::{self, Flaw};
 use crate::layout::{carried, layout, Layout};
@@ -24,16 +25,22 @@ pub enum Number {
     After = 11,
 }
 
-/// The six totals of an answer.
+/// The eight totals of an answer.
 #[derive(Clone, Copy, Debug, Default, PartialEq, Eq)]
 pub struct Totals {
     pub records: u64,
     pub letters: u64,
     pub bundles: u64,
+    /// Every 25, 31 and 61 (clause 35.4).
     pub items: u64,
     pub views: u64,
     pub debit_cents: u64,
+    pub credit_items: u64,
+    pub credit_cents: u64,
 }
+
+/// The numbers of an answer in the C call.
+pub const LISTED: usize = 12;
 
 /// What comes back from one reading.
 #[derive(Clone, Copy, Debug, PartialEq, Eq)]
@@ -47,11 +54,13 @@ pub struct Answer {
 
 impl Answer {
     /// In the order of the C call.
-    pub fn listed(&self) -> [u64; 10] {
-        let totals = self.totals;
-        let whole = [totals.records, totals.letters, totals.bundles, totals.items, totals.views, totals.debit_cents];
-        let mut listed = [self.number as u64, self.record, self.field, self.offset, 0, 0, 0, 0, 0, 0];
-        listed[4..].copy_from_slice(&whole);
+    pub fn listed(&self) -> [u64; LISTED] {
+        let t = self.totals;
+        let place = [self.number as u64, self.record, self.field, self.offset];
+        let totals = [t.records, t.letters, t.bundles, t.items, t.views, t.debit_cents, t.credit_items, t.credit_cents];
+        let mut listed = [0; LISTED];
+        listed[..4].copy_from_slice(&place);
+        listed[4..].copy_from_slice(&totals);
         listed
     }
 
@@ -71,6 +80,31 @@ pub struct Reading {
     pub why: &'static str,
     /// The type of the last record that was read whole and sound, 0 at the start.
     pub last: u8,
+    /// What the last of these belongs to.
+    pub inside: Inside,
+}
+
+/// What a record belongs to: a 50, 52, 54 or 61 has other followers, and a 52 another key, inside each.
+#[derive(Clone, Copy, Debug, PartialEq, Eq, PartialOrd, Ord)]
+pub enum Inside {
+    File,
+    Letter,
+    /// A 61 directly in a cash letter, with its views.
+    CreditInLetter,
+    Bundle,
+    Item,
+    CreditInBundle,
+}
+
+impl Inside {
+    /// What a 61 belongs to, and each of its views.
+    pub fn credit(in_bundle: bool) -> Inside {
+        if in_bundle {
+            Inside::CreditInBundle
+        } else {
+            Inside::CreditInLetter
+        }
+    }
 }
 
 impl Reading {
@@ -100,26 +134,19 @@ pub fn read(file: &[u8]) -> Reading {
     let size = file.len() as u64;
     if size == 0 || size > LARGEST {
         let answer = Answer::refused(Number::Size, 0, 0, 0);
-        return Reading { answer, rows: Vec::new(), why: "size", last: 0 };
+        return Reading { answer, rows: Vec::new(), why: "size", last: 0, inside: Inside::File };
     }
-    let mut descent = Descent { file, at: 0, read: 0, last: 0, rows: Vec::new() };
+    let mut descent = Descent { file, at: 0, read: 0, last: 0, inside: Inside::File, rows: Vec::new() };
     match descent.file() {
         Ok(sums) => {
             let records = descent.read;
-            let totals = Totals {
-                records,
-                letters: sums.letters,
-                bundles: sums.bundles,
-                items: sums.items,
-                views: sums.views,
-                debit_cents: sums.cents,
-            };
+            let totals = sums.totals(records);
             let answer = Answer { number: Number::Accepted, record: records, field: 0, offset: size, totals };
-            Reading { answer, rows: descent.rows, why: "accepted", last: 99 }
+            Reading { answer, rows: descent.rows, why: "accepted", last: 99, inside: Inside::File }
         }
         Err(fault) => {
             let answer = Answer::refused(fault.number, fault.record, u64::from(fault.field), fault.offset as u64);
-            Reading { answer, rows: Vec::new(), why: fault.why, last: descent.last }
+            Reading { answer, rows: Vec::new(), why: fault.why, last: descent.last, inside: descent.inside }
         }
     }
 }
@@ -138,26 +165,67 @@ struct Fault {
     why: &'static str,
 }
 
-/// What a part of the file adds up to.
+/// What a part of the file adds up to. Three million amounts of fourteen digits pass 64 bits, and stay far below 128 (point 14 of the
+/// readings of request 2).
 #[derive(Clone, Copy, Default)]
 struct Sums {
-    letters: u64,
-    bundles: u64,
-    items: u64,
-    views: u64,
-    cents: u64,
-    micr_valid_cents: u64,
+    letters: u128,
+    bundles: u128,
+    debit_items: u128,
+    credit_items: u128,
+    views: u128,
+    debit_cents: u128,
+    credit_cents: u128,
+    micr_valid_cents: u128,
 }
 
 impl Sums {
     fn add(&mut self, part: Sums) {
         self.letters += part.letters;
         self.bundles += part.bundles;
-        self.items += part.items;
+        self.debit_items += part.debit_items;
+        self.credit_items += part.credit_items;
         self.views += part.views;
-        self.cents += part.cents;
+        self.debit_cents += part.debit_cents;
+        self.credit_cents += part.credit_cents;
         self.micr_valid_cents += part.micr_valid_cents;
     }
+
+    /// Clause 35.4: every 25, 31 and 61.
+    fn items(&self) -> u128 {
+        self.debit_items + self.credit_items
+    }
+
+    /// A 25, a 31, or a 61 whose usage indicator is 9.
+    fn debit(&mut self, cents: u64) {
+        self.debit_items += 1;
+        self.debit_cents += u128::from(cents);
+    }
+
+    /// A 61 with any other usage indicator, or none (point 9).
+    fn credit(&mut self, cents: u64) {
+        self.credit_items += 1;
+        self.credit_cents += u128::from(cents);
+    }
+
+    /// The totals of a file whose control records have stated these sums.
+    fn totals(&self, records: u64) -> Totals {
+        Totals {
+            records,
+            letters: stated(self.letters),
+            bundles: stated(self.bundles),
+            items: stated(self.items()),
+            views: stated(self.views),
+            debit_cents: stated(self.debit_cents),
+            credit_items: stated(self.credit_items),
+            credit_cents: stated(self.credit_cents),
+        }
+    }
+}
+
+/// A sum that a control field of at most sixteen digits has stated.
+fn stated(sum: u128) -> u64 {
+    u64::try_from(sum).expect("a control field states it")
 }
 
 /// A record that has passed every check of its own.
@@ -190,8 +258,8 @@ impl<'a> Record<'a> {
     }
 
     /// A control field must state the sum; a conditional one left blank is not compared.
-    fn total(&self, field: u8, sum: u64) -> Result<(), Fault> {
-        if judge::all_blank(self.field(field)) || self.number_in(field) == sum {
+    fn total(&self, field: u8, sum: u128) -> Result<(), Fault> {
+        if judge::all_blank(self.field(field)) || u128::from(self.number_in(field)) == sum {
             Ok(())
         } else {
             Err(self.fault(Number::Total, field, "total"))
@@ -223,7 +291,7 @@ impl Content {
     }
 }
 
-/// An item once its own records are read: what it still lacks is faulted at the next item or the 70.
+/// An item once its own records are read: what it still lacks is faulted at the next item, 61 or 70 of its bundle.
 struct Item {
     place: Ordinals,
     stated_addenda: u64,
@@ -232,19 +300,43 @@ struct Item {
 }
 
 impl Item {
+    fn owes_addenda(&self) -> bool {
+        self.addenda < self.stated_addenda
+    }
+
     /// Checked at the record that comes after the item within the bundle.
     fn closed_by(&self, next: &Record, content: Content) -> Result<(), Fault> {
-        next.link(1, self.addenda >= self.stated_addenda, "addenda owed")?;
+        next.link(1, !self.owes_addenda(), "addenda owed")?;
         let why = if content == Content::ViewsEach { "no view under I" } else { "no view under F" };
         next.link(1, !content.wants_views() || self.views > 0, why)
     }
 }
 
-/// The bundle header's fields that every 52 of the bundle repeats (clause 22).
-struct BundleKey<'a> {
+/// The header's fields that every 52 under it repeats (clause 22): the bundle's 4, 5 and 9, or, outside a bundle, the cash letter's 4
+/// and 5. A cash letter has no cycle number, so that none is compared there (request 2).
+#[derive(Clone, Copy)]
+struct HeaderKey<'a> {
     routing: &'a [u8],
     date: &'a [u8],
-    cycle: &'a [u8],
+    cycle: Option<&'a [u8]>,
+}
+
+impl<'a> HeaderKey<'a> {
+    fn of_bundle(header: &Record<'a>) -> HeaderKey<'a> {
+        HeaderKey { routing: header.field(4), date: header.field(5), cycle: Some(header.field(9)) }
+    }
+
+    fn of_letter(header: &Record<'a>) -> HeaderKey<'a> {
+        HeaderKey { routing: header.field(4), date: header.field(5), cycle: None }
+    }
+}
+
+/// What the records of a bundle or a cash letter share: its ordinals, the cash letter's field 8, the header's part of the key.
+#[derive(Clone, Copy)]
+struct Level<'a> {
+    ordinals: Ordinals,
+    content: Content,
+    key: HeaderKey<'a>,
 }
 
 struct Descent<'a> {
@@ -252,6 +344,7 @@ struct Descent<'a> {
     at: usize,
     read: u64,
     last: u8,
+    inside: Inside,
     rows: Vec<Row>,
 }
 
@@ -317,8 +410,10 @@ impl<'a> Descent<'a> {
         let header = self.take(1)?;
         self.row(&header, [0, 0, 0], 0);
         let mut sums = Sums::default();
+        let mut letter = 0;
         loop {
-            sums.add(self.cash_letter(sums.letters + 1)?);
+            letter += 1;
+            sums.add(self.cash_letter(letter)?);
             match self.peek()? {
                 10 => {}
                 99 => break,
@@ -336,23 +431,30 @@ impl<'a> Descent<'a> {
     fn file_control(&mut self, sums: &Sums) -> Result<(), Fault> {
         let control = self.take(99)?;
         control.total(2, sums.letters)?;
-        control.total(3, self.read)?; // 01 and 99 included
-        control.total(4, sums.items)?;
-        control.total(5, sums.cents)?;
-        control.total(8, 0)?; // no type 61, no credit
-        self.row(&control, [0, 0, 0], sums.cents);
+        control.total(3, u128::from(self.read))?; // 01 and 99 included
+        control.total(4, sums.items())?;
+        control.total(5, sums.debit_cents)?;
+        control.total(8, sums.credit_cents)?;
+        self.row(&control, [0, 0, 0], stated(sums.debit_cents));
         Ok(())
     }
 
-    /// 10, bundles, 90 (clauses 8 and 34).
+    /// 10, bundles and credits, 90 (clauses 8, 26 and 34).
     fn cash_letter(&mut self, letter: u64) -> Result<Sums, Fault> {
         let header = self.take(10)?;
         let content = Content::of(&header);
         self.row(&header, [letter, 0, 0], 0);
+        let direct = Level { ordinals: [letter, 0, 0], content, key: HeaderKey::of_letter(&header) };
         let mut sums = Sums { letters: 1, ..Sums::default() };
+        let mut bundle = 0;
+        self.inside = Inside::Letter;
         loop {
             match self.peek()? {
-                20 => sums.add(self.bundle([letter, sums.bundles + 1, 0], content)?),
+                20 => {
+                    bundle += 1;
+                    sums.add(self.bundle([letter, bundle, 0], content)?);
+                }
+                61 => self.credit(None, &direct, &mut sums)?,
                 90 => break,
                 _ => return Err(self.out_of_place()),
             }
@@ -371,79 +473,109 @@ impl<'a> Descent<'a> {
         };
         control.link(1, content == Content::Nothing || sums.bundles > 0, why)?;
         control.total(2, sums.bundles)?;
-        control.total(3, sums.items)?;
-        control.total(4, sums.cents)?;
+        control.total(3, sums.debit_items)?;
+        control.total(4, sums.debit_cents)?;
         control.total(5, sums.views)?;
-        control.total(8, 0)?;
-        control.total(9, 0)?;
-        self.row(&control, [letter, 0, 0], sums.cents);
+        control.total(8, sums.credit_items)?;
+        control.total(9, sums.credit_cents)?;
+        self.row(&control, [letter, 0, 0], stated(sums.debit_cents));
+        self.inside = Inside::Letter;
         Ok(())
     }
 
-    /// 20, items, 70 (clauses 9 and 31).
+    /// 20, items and credits, 70 (clauses 9, 26 and 31).
     fn bundle(&mut self, ordinals: Ordinals, content: Content) -> Result<Sums, Fault> {
         let header = self.take(20)?;
         header.link(1, content != Content::Nothing, "bundle under N")?;
         self.row(&header, ordinals, 0);
-        let key = BundleKey { routing: header.field(4), date: header.field(5), cycle: header.field(9) };
+        self.inside = Inside::Bundle;
+        let mut level = Level { ordinals, content, key: HeaderKey::of_bundle(&header) };
         let mut sums = Sums { bundles: 1, ..Sums::default() };
-        let kind = self.peek()?;
-        if kind != 25 && kind != 31 {
-            return Err(self.out_of_place());
-        }
-        let [letter, bundle, _] = ordinals;
-        let mut previous: Option<Item> = None;
+        let mut kind = None; // that of the first 25 or 31: a 61 sets none
+        let mut previous = None;
         loop {
-            let place = [letter, bundle, sums.items + 1];
-            previous = Some(self.item(kind, place, previous, content, &key, &mut sums)?);
-            match self.peek()? {
-                70 => break,
-                next if next == kind => {}
+            let next = self.peek()?;
+            level.ordinals[2] += 1;
+            match next {
+                25 | 31 if kind.is_none_or(|kind| kind == next) => {
+                    kind = Some(next);
+                    previous = Some(self.item(next, previous, &level, &mut sums)?);
+                }
+                61 => {
+                    self.credit(previous.take(), &level, &mut sums)?;
+                }
+                70 if sums.items() > 0 => break,
                 _ => return Err(self.out_of_place()),
             }
         }
+        self.bundle_control(ordinals, content, previous, &sums)?;
+        Ok(sums)
+    }
+
+    /// Clause 31.
+    fn bundle_control(
+        &mut self,
+        ordinals: Ordinals,
+        content: Content,
+        previous: Option<Item>,
+        sums: &Sums,
+    ) -> Result<(), Fault> {
         let control = self.take(70)?;
         if let Some(item) = previous {
             item.closed_by(&control, content)?;
         }
-        bundle_totals(&control, &sums)?;
-        self.row(&control, ordinals, sums.cents);
-        Ok(sums)
+        control.total(2, sums.debit_items)?;
+        control.total(3, sums.debit_cents)?;
+        control.total(4, sums.micr_valid_cents)?;
+        control.total(5, sums.views)?;
+        control.total(6, sums.credit_items)?;
+        control.total(7, sums.credit_cents)?;
+        self.row(&control, ordinals, stated(sums.debit_cents));
+        self.inside = Inside::Bundle;
+        Ok(())
     }
 
     /// 25 or 31, its addenda and its views (clauses 10 to 18).
-    fn item(
-        &mut self,
-        kind: u8,
-        place: Ordinals,
-        previous: Option<Item>,
-        content: Content,
-        key: &BundleKey,
-        sums: &mut Sums,
-    ) -> Result<Item, Fault> {
+    fn item(&mut self, kind: u8, previous: Option<Item>, level: &Level, sums: &mut Sums) -> Result<Item, Fault> {
         let head = self.take(kind)?;
         if let Some(item) = previous {
-            item.closed_by(&head, content)?;
+            item.closed_by(&head, level.content)?;
         }
         let cents = head.number_in(6);
-        self.row(&head, place, cents);
-        sums.items += 1;
-        sums.cents += cents;
+        self.row(&head, level.ordinals, cents);
+        self.inside = Inside::Item;
+        sums.debit(cents);
         if kind == 25 && head.field(10) == b"1" {
-            sums.micr_valid_cents += cents;
+            sums.micr_valid_cents += u128::from(cents);
         }
         let stated_addenda = head.number_in(if kind == 25 { 12 } else { 8 });
-        let mut item = Item { place, stated_addenda, addenda: 0, views: 0 };
+        let mut item = Item { place: level.ordinals, stated_addenda, addenda: 0, views: 0 };
         if kind == 25 {
             self.check_addenda(&mut item)?;
         } else {
             self.return_addenda(&mut item)?;
         }
-        while self.peek()? == 50 {
-            self.view(&mut item, content, key, head.field(7))?;
-            sums.views += 1;
-        }
+        item.views = self.views(item.owes_addenda(), level, head.field(7))?;
+        sums.views += u128::from(item.views);
         Ok(item)
+    }
+
+    /// 61 and its views (clause 26). It has no addenda, and owes no view: nothing is missing after it.
+    fn credit(&mut self, previous: Option<Item>, level: &Level, sums: &mut Sums) -> Result<(), Fault> {
+        let head = self.take(61)?;
+        if let Some(item) = previous {
+            item.closed_by(&head, level.content)?;
+        }
+        let cents = head.number_in(7);
+        self.row(&head, level.ordinals, cents);
+        self.inside = Inside::credit(level.key.cycle.is_some());
+        if head.field(2) == b"9" {
+            sums.debit(cents);
+        } else {
+            sums.credit(cents);
+        }
+        sums.views += u128::from(self.views(false, level, head.field(8))?);
+        Ok(())
     }
 
     /// 26s, at most one 27, 28s (clauses 11 to 13).
@@ -487,43 +619,42 @@ impl<'a> Descent<'a> {
         Ok(())
     }
 
+    /// The views of an item or a credit.
+    fn views(&mut self, addenda_owed: bool, level: &Level, sequence: &[u8]) -> Result<u64, Fault> {
+        let mut views = 0;
+        while self.peek()? == 50 {
+            self.view(addenda_owed, level, sequence)?;
+            views += 1;
+        }
+        Ok(views)
+    }
+
     /// 50, 52 and at most one 54 (clauses 21 to 23).
-    fn view(&mut self, item: &mut Item, content: Content, key: &BundleKey, sequence: &[u8]) -> Result<(), Fault> {
+    fn view(&mut self, addenda_owed: bool, level: &Level, sequence: &[u8]) -> Result<(), Fault> {
         let detail = self.take(50)?;
-        detail.link(1, item.addenda >= item.stated_addenda, "addenda owed")?;
-        detail.link(1, content != Content::NoViews, "view under E")?;
-        self.row(&detail, item.place, 0);
-        self.view_data(item.place, key, sequence, detail.field(10) == b"1")?;
+        detail.link(1, !addenda_owed, "addenda owed")?;
+        detail.link(1, level.content != Content::NoViews, "view under E")?;
+        self.row(&detail, level.ordinals, 0);
+        self.view_data(level, sequence, detail.field(10) == b"1")?;
         if self.peek()? == 54 {
             let analysis = self.take(54)?;
-            self.row(&analysis, item.place, 0);
+            self.row(&analysis, level.ordinals, 0);
         }
-        item.views += 1;
         Ok(())
     }
 
-    /// Clause 22: the item reference key repeats the bundle header and the item byte by byte.
-    fn view_data(&mut self, place: Ordinals, key: &BundleKey, sequence: &[u8], signed: bool) -> Result<(), Fault> {
+    /// Clause 22: the item reference key repeats the header and the item, or the credit, byte by byte.
+    fn view_data(&mut self, level: &Level, sequence: &[u8], signed: bool) -> Result<(), Fault> {
         let data = self.take(52)?;
-        data.link(2, data.field(2) == key.routing, "routing number")?;
-        data.link(3, data.field(3) == key.date, "business date")?;
-        data.link(4, data.field(4) == key.cycle, "cycle number")?;
+        data.link(2, data.field(2) == level.key.routing, "routing number")?;
+        data.link(3, data.field(3) == level.key.date, "business date")?;
+        data.link(4, level.key.cycle.is_none_or(|cycle| data.field(4) == cycle), "cycle number")?;
         data.link(5, data.field(5) == sequence, "sequence number")?;
         data.link(7, !signed || !judge::all_blank(data.field(7)), "authenticator name")?;
         data.link(8, !signed || !judge::all_blank(data.field(8)), "key name")?;
-        self.row(&data, place, 0);
+        self.row(&data, level.ordinals, 0);
         Ok(())
     }
-}
-
-/// Clause 31: a bundle's control fields; without type 61 the credit fields are zero.
-fn bundle_totals(control: &Record, sums: &Sums) -> Result<(), Fault> {
-    control.total(2, sums.items)?;
-    control.total(3, sums.cents)?;
-    control.total(4, sums.micr_valid_cents)?;
-    control.total(5, sums.views)?;
-    control.total(6, 0)?;
-    control.total(7, 0)
 }
 
 /// The bytes of the record whose length field stands first, if that many are there.

@@ -1,9 +1,10 @@
 //! Damage: each function makes a file wrong in one chosen way, or tries to.
 
-use crate::descent::{read, Number};
+use crate::books::{self, changed_by, Way, WRONG_WAYS};
+use crate::descent::{read, Inside, Number};
 use crate::judge;
 use crate::layout::{layout, name_of, Rule, Type, CARRIED, LAYOUTS, NOT_CARRIED};
-use crate::make::{characters, encode, numbered, record, sound, value, Rec, Wish};
+use crate::make::{characters, encode, numbered, record, set_key, sound, value, Rec, Wish};
 use crate::random::Random;
 use crate::routing::{self, Shape};
 
@@ -18,45 +19,95 @@ pub fn field_targets() -> Vec<(u8, u8)> {
     targets
 }
 
-/// The types that may follow a type (document 01, "Which record may follow"); 0 is the start.
-pub fn followers(last: u8) -> &'static [u8] {
+/// The types that may follow a type (document 01, "Which record may follow", and request 2 with point 7 of its readings); 0 is the
+/// start. After a 61 and its views it matters whether that 61 stands directly in a cash letter.
+pub fn followers(inside: Inside, last: u8) -> &'static [u8] {
+    let direct = inside == Inside::CreditInLetter;
     match last {
         0 => &[1],
         1 => &[10],
-        10 => &[20, 90],
-        20 => &[25, 31],
-        25 | 26 => &[26, 27, 28, 50, 25, 70],
-        27 | 28 => &[28, 50, 25, 70],
+        10 | 70 => &[20, 61, 90],
+        20 => &[25, 31, 61],
+        25 | 26 => &[26, 27, 28, 50, 25, 61, 70],
+        27 | 28 => &[28, 50, 25, 61, 70],
         31 | 32 => &[32, 33],
-        33 => &[34, 35, 50, 31, 70],
-        34 | 35 => &[35, 50, 31, 70],
+        33 => &[34, 35, 50, 31, 61, 70],
+        34 | 35 => &[35, 50, 31, 61, 70],
         50 => &[52],
-        52 => &[50, 54, 25, 31, 70],
-        54 => &[50, 25, 31, 70],
-        70 => &[20, 90],
+        52 if direct => &[50, 54, 61, 20, 90],
+        52 => &[50, 54, 25, 31, 61, 70],
+        54 if direct => &[50, 61, 20, 90],
+        54 => &[50, 25, 31, 61, 70],
+        61 if direct => &[61, 50, 20, 90],
+        61 => &[61, 50, 25, 31, 70],
         90 => &[10, 99],
         _ => &[],
     }
 }
 
-/// Every pair that a file may hold.
-pub fn lawful_pairs() -> Vec<(u8, u8)> {
-    let starts = [0].into_iter().chain(CARRIED);
-    starts.flat_map(|last| followers(last).iter().map(move |next| (last, *next))).collect()
+/// What records of a type can belong to.
+fn insides_of(code: u8) -> &'static [Inside] {
+    use Inside::{Bundle, CreditInBundle, CreditInLetter, File, Item, Letter};
+    match code {
+        0 | 1 | 99 => &[File],
+        10 | 90 => &[Letter],
+        20 | 70 => &[Bundle],
+        50 | 52 | 54 => &[Item, CreditInBundle, CreditInLetter],
+        61 => &[CreditInBundle, CreditInLetter],
+        _ => &[Item],
+    }
 }
 
-/// Every pair that can be refused at PLACE: the unlawful ones, and an item of the other kind after a view.
-pub fn place_targets() -> Vec<(u8, u8)> {
-    let mut targets = Vec::new();
-    for last in [0].into_iter().chain(CARRIED).filter(|last| *last != 99) {
-        for next in CARRIED {
-            let other_kind = matches!((last, next), (52 | 54, 25 | 31));
-            if other_kind || !followers(last).contains(&next) {
-                targets.push((last, next));
-            }
+/// What each record of a sound file, or of its beginning, belongs to, from their types alone.
+pub fn insides(codes: impl IntoIterator<Item = u8>) -> Vec<Inside> {
+    let mut in_bundle = false;
+    let mut holder = Inside::File;
+    let mut inside = |code: u8| {
+        match code {
+            20 => in_bundle = true,
+            70 => in_bundle = false,
+            25 | 31 => holder = Inside::Item,
+            61 => holder = Inside::credit(in_bundle),
+            _ => {}
         }
-    }
-    targets
+        match insides_of(code) {
+            [one] => *one,
+            _ => holder,
+        }
+    };
+    codes.into_iter().map(&mut inside).collect()
+}
+
+fn insides_in(records: &[Rec]) -> Vec<Inside> {
+    insides(records.iter().map(|record| record.code))
+}
+
+/// A pair of types, and what the first belongs to.
+pub type Pair = (Inside, u8, u8);
+
+fn all_pairs() -> impl Iterator<Item = Pair> {
+    let starts = [0].into_iter().chain(CARRIED).filter(|last| *last != 99);
+    let settled = starts.flat_map(|last| insides_of(last).iter().map(move |inside| (*inside, last)));
+    settled.flat_map(|(inside, last)| CARRIED.into_iter().map(move |next| (inside, last, next)))
+}
+
+fn is_lawful((inside, last, next): Pair) -> bool {
+    followers(inside, last).contains(&next)
+}
+
+/// Pairs that are lawful in a bundle of the item's kind, or of no kind yet, and else are not.
+fn hangs_on_kind((inside, last, next): Pair) -> bool {
+    inside != Inside::CreditInLetter && matches!((last, next), (52 | 54 | 61, 25 | 31))
+}
+
+/// Every pair that a file may hold.
+pub fn lawful_pairs() -> Vec<Pair> {
+    all_pairs().filter(|pair| is_lawful(*pair)).collect()
+}
+
+/// Every pair that can be refused at PLACE: the unlawful ones, and an item of the other kind after a view or a 61.
+pub fn place_targets() -> Vec<Pair> {
+    all_pairs().filter(|pair| hangs_on_kind(*pair) || !is_lawful(*pair)).collect()
 }
 
 /// Every control field that is added up (clauses 31, 34, 35).
@@ -80,6 +131,20 @@ fn holding(random: &mut Random, wish: &Wish, code: u8) -> (Vec<Rec>, usize) {
     loop {
         let records = sound(random, wish);
         if let Some(at) = some(random, &records, code) {
+            return (records, at);
+        }
+    }
+}
+
+/// A sound file that holds the type inside this, and the index of one such record.
+fn holding_in(random: &mut Random, wish: &Wish, inside: Inside, code: u8) -> (Vec<Rec>, usize) {
+    loop {
+        let records = sound(random, wish);
+        let insides = insides_in(&records);
+        let fits = |at: &usize| records[*at].code == code && insides[*at] == inside;
+        let found: Vec<usize> = (0..records.len()).filter(fits).collect();
+        if !found.is_empty() {
+            let at = random.pick(&found);
             return (records, at);
         }
     }
@@ -185,14 +250,19 @@ fn near_rule(random: &mut Random, rule: Rule, before: &[u8]) -> Vec<u8> {
             1 => characters(random, Type::Numeric, before.len()),
             _ => (0..before.len()).map(|_| b'A' + random.below(26) as u8).collect(),
         },
-        Rule::Range(low, high) => {
-            let size = before.len();
-            let near = random.pick(&[low, high, low.saturating_sub(1), high + 1]);
-            let digits = format!("{near:0size$}");
-            digits.as_bytes()[digits.len() - size..].to_vec()
+        Rule::Range(low, high) => near_range(random, (low, high), before.len()),
+        Rule::Ranges(ranges) => {
+            let range = random.pick(ranges);
+            near_range(random, range, before.len())
         }
         _ => before.to_vec(),
     }
+}
+
+fn near_range(random: &mut Random, (low, high): (u64, u64), size: usize) -> Vec<u8> {
+    let near = random.pick(&[low, high, low.saturating_sub(1), high + 1]);
+    let digits = format!("{near:0size$}");
+    digits.as_bytes()[digits.len() - size..].to_vec()
 }
 
 /// Every routing field with every shape of contents.
@@ -201,20 +271,33 @@ pub fn routing_targets() -> Vec<(u8, u8, Shape)> {
     routing::fields().into_iter().flat_map(|(code, field)| of_field(code, field.number)).collect()
 }
 
-/// A file with contents of this shape in a routing field, and sound beside it. The 52s repeat the bundle header's field 4 byte by
-/// byte, so where the contents pass, the header and all 52s of its bundle change together.
+/// A file with contents of this shape in a routing field, and sound beside it. The 52s repeat their header's field 4 byte by byte, so
+/// where the contents pass, the header and all 52s that repeat it change together.
 pub fn routing_file(random: &mut Random, (code, number, shape): (u8, u8, Shape)) -> Vec<Rec> {
     let (mut records, at) = holding(random, &Wish::holding(code), code);
     let contents = routing::of_shape(random, shape);
     records[at].set(number, &contents);
     let passes = routing::passes(layout(code).field(number), shape);
-    if passes && matches!((code, number), (20, 4) | (52, 2)) {
-        let first = (0..=at).rev().find(|at| records[*at].code == 20).expect("the bundle header");
-        records[first].set(4, &contents);
-        let of_bundle = records[first..].iter_mut().take_while(|record| record.code != 70);
-        of_bundle.filter(|record| record.code == 52).for_each(|data| data.set(2, &contents));
+    if passes && matches!((code, number), (10, 4) | (20, 4) | (52, 2)) {
+        let header = header_of(&records, at);
+        records[header].set(4, &contents);
+        let under: Vec<usize> = (header..records.len())
+            .filter(|at| records[*at].code == 52 && header_of(&records, *at) == header)
+            .collect();
+        under.into_iter().for_each(|at| records[at].set(2, &contents));
     }
     records
+}
+
+/// The header whose fields the 52 at this place repeats: its bundle's, or for a 61 outside a bundle its cash letter's. A header is its own.
+fn header_of(records: &[Rec], at: usize) -> usize {
+    let before = |code: u8| (0..=at).rev().find(|at| records[*at].code == code);
+    let (letter, bundle, closed) = (before(10), before(20), before(70));
+    match records[at].code {
+        10 => at,
+        _ if bundle > letter && bundle > closed => bundle.expect("a bundle header"),
+        _ => letter.expect("a cash letter header"),
+    }
 }
 
 /// Puts a wrong byte into a variable part, giving it a length first if it has none.
@@ -240,18 +323,22 @@ fn harm_part(random: &mut Random, record: &mut Rec, number: u8) {
 // ---- order ----
 
 /// A file in which `next` stands where it may not, right after `last`.
-pub fn place_file(random: &mut Random, (last, next): (u8, u8)) -> Vec<Rec> {
-    let mut wish = if last == 0 { Wish::any() } else { Wish::holding(last) };
-    match (last, next) {
-        (52 | 54, 25) => wish.kinds = &[31],
-        (52 | 54, 31) => wish.kinds = &[25],
-        _ => {}
-    }
-    let (mut records, at) = match last {
-        0 => (sound(random, &wish), 0),
-        _ => {
-            let (records, at) = holding(random, &wish, last);
-            (records, at + 1)
+pub fn place_file(random: &mut Random, pair: Pair) -> Vec<Rec> {
+    let (inside, last, next) = pair;
+    let (mut records, at) = loop {
+        let records = place_base(random, pair);
+        if last == 0 {
+            break (records, 0);
+        }
+        let insides = insides_in(&records);
+        let other_kind = |at: usize| kind_before(&records, at).is_some_and(|kind| kind != next);
+        let fits = |at: &usize| {
+            records[*at].code == last && insides[*at] == inside && (!hangs_on_kind(pair) || other_kind(*at))
+        };
+        let found: Vec<usize> = (0..records.len()).filter(fits).collect();
+        if !found.is_empty() {
+            let at = random.pick(&found) + 1;
+            break (records, at);
         }
     };
     let stranger = match some(random, &records, next) {
@@ -265,6 +352,24 @@ pub fn place_file(random: &mut Random, (last, next): (u8, u8)) -> Vec<Rec> {
         records[at] = stranger;
     }
     records
+}
+
+/// A sound file to harm in this way; a 61 comes before its bundle's first item or behind one.
+fn place_base(random: &mut Random, pair: Pair) -> Vec<Rec> {
+    let (inside, last, next) = pair;
+    let mut wish = if last == 0 { Wish::any() } else { Wish::inside(inside, last) };
+    match next {
+        25 if hangs_on_kind(pair) => wish.kinds = &[31],
+        31 if hangs_on_kind(pair) => wish.kinds = &[25],
+        _ => {}
+    }
+    sound(random, &wish)
+}
+
+/// The kind of the items that stand in the same bundle up to this place.
+fn kind_before(records: &[Rec], at: usize) -> Option<u8> {
+    let of_bundle = records[..=at].iter().rev().take_while(|record| record.code != 20);
+    of_bundle.map(|record| record.code).find(|code| matches!(code, 25 | 31))
 }
 
 /// The record as it was, or with a wrong length or field of its own: PLACE still comes first.
@@ -321,54 +426,63 @@ pub fn shuffle(random: &mut Random, records: &mut Vec<Rec>) {
 
 // ---- links ----
 
-/// The LINK rules of document 01.
+/// The LINK rules of document 01 and request 2.
 #[derive(Clone, Copy, Debug)]
 pub enum Link {
     RecordNumber(u8),
     Tenth(u8),
     Beyond(u8),
     OwedAt(u8),
-    Key(u8),
-    Name(u8),
-    BundleUnderN,
-    ViewUnderE,
-    NoBundle(u8),
+    /// A field of a 52's key, by what the 52 belongs to.
+    Key(Inside, u8),
+    /// The same field as the other header has it: the cash letter's in a bundle, a bundle's outside.
+    OtherHeader(Inside, u8),
+    /// The sequence number of another item or 61.
+    OtherSequence(Inside),
+    Name(Inside, u8),
+    /// Directly behind the 10, or behind a 61.
+    BundleUnderN(Inside),
+    ViewUnderE(Inside),
+    /// Without anything in the cash letter, or with 61s.
+    NoBundle(Inside, u8),
     NoView(u8, u8),
 }
 
 pub fn link_targets() -> Vec<Link> {
-    let mut targets = vec![Link::BundleUnderN, Link::ViewUnderE, Link::Tenth(26), Link::Tenth(32)];
+    use Inside::{CreditInBundle, CreditInLetter, Item, Letter};
+    let mut targets = vec![Link::Tenth(26), Link::Tenth(32)];
     targets.extend([26, 28, 32, 35].map(Link::RecordNumber));
     targets.extend([26, 27, 28, 32, 33, 34, 35].map(Link::Beyond));
-    targets.extend([25, 31, 50, 70].map(Link::OwedAt));
-    targets.extend([2, 3, 4, 5].map(Link::Key));
-    targets.extend([7, 8].map(Link::Name));
-    targets.extend([b'E', b'I', b'F'].map(Link::NoBundle));
-    for at in [25, 31, 70] {
+    targets.extend([25, 31, 50, 61, 70].map(Link::OwedAt));
+    for inside in [Item, CreditInBundle, CreditInLetter] {
+        targets.extend(key_fields(inside).iter().map(|field| Link::Key(inside, *field)));
+        targets.extend([2, 3].map(|field| Link::OtherHeader(inside, field)));
+        targets.extend([7, 8].map(|field| Link::Name(inside, field)));
+        targets.extend([Link::OtherSequence(inside), Link::ViewUnderE(inside)]);
+    }
+    for inside in [Letter, CreditInLetter] {
+        targets.extend([b'E', b'I', b'F'].map(|content| Link::NoBundle(inside, content)));
+        targets.push(Link::BundleUnderN(inside));
+    }
+    for at in [25, 31, 61, 70] {
         targets.extend([b'I', b'F'].map(|content| Link::NoView(content, at)));
     }
     targets
 }
 
+/// The fields of a 52's key that are compared.
+pub fn key_fields(inside: Inside) -> &'static [u8] {
+    match inside {
+        Inside::CreditInLetter => &[2, 3, 5],
+        _ => &[2, 3, 4, 5],
+    }
+}
+
 /// A file that breaks one link.
 pub fn link_file(random: &mut Random, link: Link) -> Vec<Rec> {
     match link {
-        Link::RecordNumber(code) => {
-            let wish = Wish { addenda: (1, 4), ..Wish::holding(code) };
-            let (mut records, at) = holding(random, &wish, code);
-            let right = judge::number(records[at].get(2));
-            let wrong = random.pick(&[right + 1, right.saturating_sub(1), 0, random.clone().draw() % 100]);
-            records[at].set_number(2, wrong);
-            records
-        }
-        Link::Tenth(code) => {
-            let wish = Wish { addenda: (10, 11), items: (1, 1), bundles: (1, 1), ..Wish::holding(code) };
-            let (mut records, at) = holding(random, &wish, code);
-            let first = (0..=at).rev().find(|at| records[*at].code != code).expect("the item") + 1;
-            let digit = random.digit();
-            records[first + 9].set(2, &[digit]);
-            records
-        }
+        Link::RecordNumber(code) => wrong_number(random, code),
+        Link::Tenth(code) => tenth(random, code),
         Link::Beyond(code) => {
             let (mut records, at) = holding(random, &Wish::holding(code), code);
             let head = (0..at).rev().find(|at| matches!(records[*at].code, 25 | 31)).expect("the item");
@@ -377,29 +491,119 @@ pub fn link_file(random: &mut Random, link: Link) -> Vec<Rec> {
             records
         }
         Link::OwedAt(code) => owed_at(random, code),
-        Link::Key(field) => {
-            let (mut records, at) = holding(random, &Wish::holding(52), 52);
+        Link::Key(inside, field) => {
+            let (mut records, at) = holding_in(random, &Wish::inside(inside, 52), inside, 52);
             other_key(random, &mut records[at], field);
             records
         }
-        Link::Name(field) => {
-            let (mut records, at) = holding(random, &Wish::holding(52), 52);
+        Link::OtherHeader(inside, field) => other_header(random, inside, field),
+        Link::OtherSequence(inside) => other_sequence(random, inside),
+        Link::Name(inside, field) => {
+            let (mut records, at) = holding_in(random, &Wish::inside(inside, 52), inside, 52);
             records[at - 1].set(10, b"1");
             records[at].set(7, b"AUTHENTICATOR  1");
             records[at].set(field, b"                ");
             records
         }
-        Link::BundleUnderN => relabelled(random, &Wish::holding(20), b"Nn"),
-        Link::ViewUnderE => relabelled(random, &Wish::holding(50), b"Ee"),
-        Link::NoBundle(content) => {
-            let wish = Wish { contents: b"N", letters: (1, 2), ..Wish::any() };
-            let mut records = sound(random, &wish);
-            let at = some(random, &records, 10).expect("a cash letter");
-            records[at].set(8, &[either_case(random, content)]);
-            records
-        }
+        Link::BundleUnderN(inside) => bundle_under_n(random, inside),
+        Link::ViewUnderE(inside) => view_under_e(random, inside),
+        Link::NoBundle(inside, content) => no_bundle(random, inside, content),
         Link::NoView(content, at) => no_view(random, content, at),
     }
+}
+
+fn wrong_number(random: &mut Random, code: u8) -> Vec<Rec> {
+    let wish = Wish { addenda: (1, 4), ..Wish::holding(code) };
+    let (mut records, at) = holding(random, &wish, code);
+    let right = judge::number(records[at].get(2));
+    let wrong = random.pick(&[right + 1, right.saturating_sub(1), 0, random.clone().draw() % 100]);
+    records[at].set_number(2, wrong);
+    records
+}
+
+fn tenth(random: &mut Random, code: u8) -> Vec<Rec> {
+    let wish = Wish { addenda: (10, 11), items: (1, 1), bundles: (1, 1), ..Wish::holding(code) };
+    let (mut records, at) = holding(random, &wish, code);
+    let first = (0..=at).rev().find(|at| records[*at].code != code).expect("the item") + 1;
+    let digit = random.digit();
+    records[first + 9].set(2, &[digit]);
+    records
+}
+
+/// A 52 that repeats the header of the other level: the cash letter's in a bundle, the last bundle's outside. What a wrong reader would
+/// take for right.
+fn other_header(random: &mut Random, inside: Inside, field: u8) -> Vec<Rec> {
+    let wish = Wish { contents: b"IF", ..Wish::inside(inside, 52) };
+    let other = if inside == Inside::CreditInLetter { 20 } else { 10 };
+    let of_header = field + 2; // 52.2 is field 4 of either header, 52.3 field 5
+    loop {
+        let (mut records, at) = holding_in(random, &wish, inside, 52);
+        let header = records[..at].iter().rev().find(|record| record.code == other);
+        let contents = header.map(|header| header.get(of_header).to_vec());
+        if let Some(contents) = contents.filter(|contents| *contents != records[at].get(field)) {
+            records[at].set(field, &contents);
+            return records;
+        }
+    }
+}
+
+/// A sequence number is field 7 of a 25 or 31, field 8 of a 61.
+pub fn sequence_field(code: u8) -> u8 {
+    if code == 61 {
+        8
+    } else {
+        7
+    }
+}
+
+/// A 52 that repeats the sequence number of the item or 61 before its own.
+fn other_sequence(random: &mut Random, inside: Inside) -> Vec<Rec> {
+    loop {
+        let (mut records, at) = holding_in(random, &Wish::inside(inside, 52), inside, 52);
+        let heads: Vec<usize> = (0..at).filter(|at| matches!(records[*at].code, 25 | 31 | 61)).collect();
+        if heads.len() < 2 {
+            continue;
+        }
+        let before = &records[heads[heads.len() - 2]];
+        let contents = before.get(sequence_field(before.code)).to_vec();
+        if contents != records[at].get(5) {
+            records[at].set(5, &contents);
+            return records;
+        }
+    }
+}
+
+/// A cash letter with a bundle directly behind its 10, or behind a 61, that says N.
+fn bundle_under_n(random: &mut Random, inside: Inside) -> Vec<Rec> {
+    let credits = if inside == Inside::CreditInLetter { 100 } else { 0 };
+    let wish = Wish { letters: (1, 1), contents: b"EIF", credits, ..Wish::any() };
+    relabelled(random, &wish, b"Nn")
+}
+
+/// A view in a cash letter of E: an item's, a 61's in a bundle, or one's outside.
+fn view_under_e(random: &mut Random, inside: Inside) -> Vec<Rec> {
+    if inside == Inside::Item {
+        let wish = Wish { credits: 0, ..Wish::holding(50) };
+        return relabelled(random, &wish, b"Ee");
+    }
+    let wish = Wish { contents: b"E", ..Wish::inside(inside, 61) };
+    let (mut records, at) = holding_in(random, &wish, inside, 61);
+    let (detail, mut data) = (record(random, 50, 0), record(random, 52, 20));
+    let header = records[header_of(&records, at)].clone();
+    set_key(&mut data, &header, records[at].get(8));
+    records.splice(at + 1..at + 1, [detail, data]);
+    records
+}
+
+/// A cash letter without a bundle that says E, I or F: empty, or with 61s directly in it.
+fn no_bundle(random: &mut Random, inside: Inside, content: u8) -> Vec<Rec> {
+    let credits = if inside == Inside::CreditInLetter { 100 } else { 0 };
+    let credit_views = if content == b'E' { 0 } else { 40 };
+    let wish = Wish { contents: b"N", letters: (1, 2), credits, credit_views, ..Wish::any() };
+    let mut records = sound(random, &wish);
+    let at = some(random, &records, 10).expect("a cash letter");
+    records[at].set(8, &[either_case(random, content)]);
+    records
 }
 
 fn set_count(head: &mut Rec, count: u64) {
@@ -426,9 +630,11 @@ fn item_end(records: &[Rec], head: usize, views_too: bool) -> usize {
 fn owed_at(random: &mut Random, code: u8) -> Vec<Rec> {
     let mut wish = Wish { items: (1, 3), letters: (1, 1), ..Wish::any() };
     wish.contents = if code == 50 { b"IF" } else { b"E" };
-    if code == 25 || code == 31 {
-        wish.kinds = if code == 25 { &[25] } else { &[31] };
-        wish.items = (2, 3);
+    match code {
+        25 => (wish.kinds, wish.items) = (&[25], (2, 3)),
+        31 => (wish.kinds, wish.items) = (&[31], (2, 3)),
+        61 => wish.credits = 60,
+        _ => {}
     }
     loop {
         let mut records = sound(random, &wish);
@@ -478,9 +684,11 @@ fn relabelled(random: &mut Random, wish: &Wish, letters: &[u8]) -> Vec<Rec> {
 /// An item without a view in a cash letter of I or F.
 fn no_view(random: &mut Random, content: u8, at: u8) -> Vec<Rec> {
     let mut wish = Wish { items: (1, 3), letters: (1, 2), contents: b"I", ..Wish::any() };
-    if at != 70 {
-        wish.kinds = if at == 25 { &[25] } else { &[31] };
-        wish.items = (2, 3);
+    match at {
+        25 => (wish.kinds, wish.items) = (&[25], (2, 3)),
+        31 => (wish.kinds, wish.items) = (&[31], (2, 3)),
+        61 => wish.credits = 60,
+        _ => {}
     }
     loop {
         let mut records = sound(random, &wish);
@@ -527,13 +735,45 @@ pub fn harm_total(random: &mut Random, control: &mut Rec, field: u8) {
     control.set_number(field, wrong.min(most));
 }
 
+/// Every control field with every wrong way of counting 61s that can change it.
+pub fn slip_targets() -> Vec<(u8, u8, Way)> {
+    let of_way = |way: Way| changed_by(way).iter().map(move |(code, field)| (*code, *field, way));
+    WRONG_WAYS.into_iter().flat_map(of_way).collect()
+}
+
+/// A file with one control field that states what a wrong way of counting 61s comes to.
+pub fn slip_file(random: &mut Random, (code, field, way): (u8, u8, Way)) -> Vec<Rec> {
+    let views = matches!(field, 5) && code != 99;
+    let contents: &'static [u8] = match code {
+        70 if views => b"IF",
+        70 => b"EIF",
+        _ if views => b"NIF",
+        _ => b"NEIF",
+    };
+    let wish = Wish { contents, credits: 60, ..Wish::any() };
+    loop {
+        let mut records = sound(random, &wish);
+        let bodies: Vec<&[u8]> = records.iter().map(|record| record.body.as_slice()).collect();
+        let wrong = |at: usize| books::stated(&bodies, at, field, way);
+        let slipped =
+            |at: &usize| records[*at].code == code && wrong(*at) != books::stated(&bodies, *at, field, Way::Right);
+        let found: Vec<(usize, Option<u128>)> = (0..records.len()).filter(slipped).map(|at| (at, wrong(at))).collect();
+        if found.is_empty() {
+            continue;
+        }
+        let (at, number) = random.pick(&found);
+        records[at].set_number(field, number.expect("a sum") as u64);
+        return records;
+    }
+}
+
 // ---- order of checks ----
 
 /// Two faults in one record.
 #[derive(Clone, Copy, Debug)]
 pub enum Both {
     Totals(u8, u8, u8),
-    Links(u8, u8),
+    Links(Inside, u8, u8),
     BeyondAndNumber(u8),
     PileOn,
 }
@@ -545,9 +785,12 @@ pub fn both_targets() -> Vec<Both> {
         let higher = total_targets().into_iter().filter(|(of, high)| *of == code && *high > low);
         targets.extend(higher.map(|(_, high)| Both::Totals(code, low, high)));
     }
+    // Field 4 of a 52 outside a bundle is no link: the other field answers.
     let links = [2, 3, 4, 5, 7, 8];
-    for low in links {
-        targets.extend(links.into_iter().filter(|high| *high > low).map(|high| Both::Links(low, high)));
+    for inside in [Inside::Item, Inside::CreditInBundle, Inside::CreditInLetter] {
+        for low in links {
+            targets.extend(links.into_iter().filter(|high| *high > low).map(|high| Both::Links(inside, low, high)));
+        }
     }
     targets.extend([26, 28, 32, 35].map(Both::BeyondAndNumber));
     let found = targets.len();
@@ -565,8 +808,8 @@ pub fn both_file(random: &mut Random, both: Both) -> Vec<Rec> {
             }
             records
         }
-        Both::Links(low, high) => {
-            let (mut records, at) = holding(random, &Wish::holding(52), 52);
+        Both::Links(inside, low, high) => {
+            let (mut records, at) = holding_in(random, &Wish::inside(inside, 52), inside, 52);
             for field in [low, high] {
                 wrong_link(random, &mut records, at, field);
             }
@@ -758,19 +1001,9 @@ pub fn one_record(random: &mut Random, records: &mut Vec<Rec>, at: usize) {
             let field = random.pick(&fields);
             harm_total(random, &mut records[at], field);
         }
-        4 | 5 if whole && matches!(code, 25 | 31) => {
-            let count = random.below(5) as u64;
-            set_count(&mut records[at], count);
+        4 | 5 if whole && matches!(code, 10 | 25 | 26 | 28 | 31 | 32 | 35 | 50 | 61) => {
+            loosen(random, &mut records[at]);
         }
-        4 | 5 if whole && matches!(code, 26 | 28 | 32 | 35) => {
-            let number = random.below(5) as u64;
-            records[at].set_number(2, number);
-        }
-        4 | 5 if whole && code == 10 => {
-            let letter = random.pick(b"NEIFneif");
-            records[at].set(8, &[letter]);
-        }
-        4 | 5 if whole && code == 50 => records[at].set(10, b"1"),
         6 => {
             let sort = random.below(LENGTH_SORTS);
             if whole {
@@ -786,6 +1019,17 @@ pub fn one_record(random: &mut Random, records: &mut Vec<Rec>, at: usize) {
     }
 }
 
+/// Another sound value where others hang on it: counts, record numbers, the content of a cash letter, a signature, a 61's usage.
+fn loosen(random: &mut Random, record: &mut Rec) {
+    match record.code {
+        25 | 31 => set_count(record, random.below(5) as u64),
+        26 | 28 | 32 | 35 => record.set_number(2, random.below(5) as u64),
+        10 => record.set(8, &[random.pick(b"NEIFneif")]),
+        61 => record.set(2, &[random.pick(b"123456789 9")]),
+        _ => record.set(10, b"1"),
+    }
+}
+
 /// Ten of a one-digit numbered addendum, or a hundred addenda: edges of the counts.
 pub fn long_run(random: &mut Random, kind: u8, first: usize, second: usize, stated: u64, content: u8) -> Vec<Rec> {
     let contents: &'static [u8] = if content == b'E' { b"E" } else { b"I" };
@@ -798,7 +1042,7 @@ pub fn long_run(random: &mut Random, kind: u8, first: usize, second: usize, stat
         extras: 0,
         contents,
         kinds,
-        ..Wish::any()
+        ..Wish::no_credits()
     };
     let mut records = sound(random, &wish);
     let head = records.iter().position(|record| record.code == kind).expect("the item");

@@ -105,6 +105,9 @@ fn by_rule(rule: Rule, bytes: &[u8]) -> bool {
         Rule::TypeAlone => true,
         Rule::Codes(codes) => codes.iter().any(|code| code.as_bytes().eq_ignore_ascii_case(bytes)),
         Rule::Range(low, high) => all_digits(bytes) && (low..=high).contains(&number(bytes)),
+        Rule::Ranges(ranges) => {
+            all_digits(bytes) && ranges.iter().any(|(low, high)| (*low..=*high).contains(&number(bytes)))
+        }
         Rule::Digits => all_digits(bytes),
         Rule::OneOrTwoDigits => one_or_two_digits(bytes),
         Rule::Date => date(bytes),
@@ -224,7 +227,7 @@ mod tests {
     fn check_digits_p1_p2() {
         assert!(with_check_digit(b"123456780")); // 3+14+3+12+35+6+21+56+0 = 150
         assert!(!with_check_digit(b"123456781"));
-        for (code, number) in [(20, 10), (25, 4), (26, 3), (28, 3), (31, 4), (32, 3), (35, 3)] {
+        for (code, number) in [(20, 10), (25, 4), (26, 3), (28, 3), (31, 4), (32, 3), (35, 3), (61, 5)] {
             assert!(passes(code, number, b"123456780") && passes(code, number, b"000000000"));
             assert!(!passes(code, number, b"123456781"));
         }
@@ -251,6 +254,8 @@ mod tests {
         assert!(!passes(1, 4, b"12345678*") && !passes(20, 10, b"12345-67*"));
         assert!(passes(25, 4, b"12345678*") && passes(31, 4, b" 1-2 3*  "));
         assert!(!passes(25, 4, b"12345678?") && !passes(31, 4, b"1234*678?"));
+        assert!(passes(61, 5, b" 1-2 3*  ") && passes(61, 5, b"12345-678") && !passes(61, 5, b"         "));
+        assert!(!passes(61, 5, b"1234-5678") && !passes(61, 5, b" 12345678") && !passes(61, 5, b"12345678 "));
     }
 
     #[test]
@@ -312,5 +317,25 @@ mod tests {
         assert!(passes(33, 2, b"  ") && passes(33, 2, b"a1") && !passes(33, 2, b"-1"));
         assert!(passes(25, 10, b" ") && passes(25, 10, b"4") && !passes(25, 10, b"0") && !passes(25, 10, b"5"));
         assert!(passes(52, 9, b"4") && !passes(52, 9, b"5") && !passes(52, 9, b" "));
+    }
+
+    /// Clause 26 and point 6 of the readings: every value printed passes, the user-defined and reserved ones too.
+    #[test]
+    fn defined_values_of_a_61() {
+        let taken = |number: u8, tried: Vec<String>| -> String {
+            tried.into_iter().filter(|text| passes(61, number, text.as_bytes())).collect::<Vec<_>>().join("")
+        };
+        let characters = || (0x20..0x7F).map(|byte| char::from(byte).to_string()).collect();
+        assert_eq!(taken(2, characters()), " 123456789");
+        assert_eq!(taken(9, characters()), " ABCDEFGHIJKLMabcdefghijklm");
+        assert_eq!(taken(10, characters()), " 12345ABCDEFGHIJabcdefghij");
+        let refused: Vec<u64> = (0..100).filter(|number| !passes(61, 11, format!("{number:02}").as_bytes())).collect();
+        assert_eq!(refused, [0, 12, 13, 14, 15, 16, 17, 18, 19, 20]);
+        assert!(passes(61, 11, b"  ") && !passes(61, 11, b"1 ") && !passes(61, 11, b" 1") && !passes(61, 11, b"A1"));
+        assert!(passes(61, 7, b"00000000000000") && passes(61, 7, b"99999999999999"));
+        assert!(!passes(61, 7, b"              ") && !passes(61, 7, b" 0000000000001"));
+        assert!(passes(61, 8, b"               ") && passes(61, 8, b" 12            "));
+        assert!(!passes(61, 8, b"1 2            ") && !passes(61, 8, b"A              "));
+        assert!(passes(61, 12, b"   ") && !passes(61, 12, b"  0"));
     }
 }

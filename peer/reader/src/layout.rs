@@ -1,4 +1,4 @@
-//! The layouts of the eighteen carried record types, typed from the tables of ANS X9.100-180-2006.
+//! The layouts of the nineteen carried record types, typed from the tables of ANS X9.100-180-2006.
 //! Positions are those of the standard: the first character of a record is position 1, both ends belong to the field.
 
 /// The USAGE column (clause 6.3).
@@ -35,6 +35,8 @@ pub enum Rule {
     Codes(&'static [&'static str]),
     /// All digits, from the first number to the second.
     Range(u64, u64),
+    /// All digits, in one of the ranges.
+    Ranges(&'static [(u64, u64)]),
     /// Digits only, any number: a conditional total.
     Digits,
     /// Values '0' through '99' in two characters (clauses 21.11, 21.12): one digit and one blank, or two digits.
@@ -113,10 +115,10 @@ impl Layout {
 }
 
 /// The carried types in rising order.
-pub const CARRIED: [u8; 18] = [1, 10, 20, 25, 26, 27, 28, 31, 32, 33, 34, 35, 50, 52, 54, 70, 90, 99];
+pub const CARRIED: [u8; 19] = [1, 10, 20, 25, 26, 27, 28, 31, 32, 33, 34, 35, 50, 52, 54, 61, 70, 90, 99];
 
 /// The types of the standard that are not carried.
-pub const NOT_CARRIED: [u8; 9] = [40, 41, 55, 56, 61, 64, 68, 75, 85];
+pub const NOT_CARRIED: [u8; 8] = [40, 41, 55, 56, 64, 68, 75, 85];
 
 /// The layout of a carried type.
 pub fn layout(code: u8) -> &'static Layout {
@@ -138,7 +140,7 @@ use Form::{
     BlankFirst as bTTTTAAAA, Canadian as TTTTT_FFF, NonFinancial as NNNNNNNNN, WithCheckDigit as TTTTAAAAC,
     WithDash as TTTT_AAAA,
 };
-use Rule::{Codes, Date, Digits, HourMinute, HourMinuteSecond, OneOrTwoDigits, Range, Routing, TypeAlone};
+use Rule::{Codes, Date, Digits, HourMinute, HourMinuteSecond, OneOrTwoDigits, Range, Ranges, Routing, TypeAlone};
 use Type::{
     AllBlank as AB, Alphabetic as A, Alphanumeric as AN, AlphanumericSpecial as ANS, Binary, MicrCantRead as NBMc,
     MicrDash as NBMcd, MicrOnUs as NBMcdo, MicrUnparsed as NBMU, Numeric as N, NumericBlank as NB,
@@ -156,7 +158,7 @@ const fn part(number: u8, name: &'static str, sized_by: u8, kind: Type) -> Part 
 
 // Lists of defined values that several clauses print alike.
 const A_TO_I: Rule = Codes(&["A", "B", "C", "D", "E", "F", "G", "H", "I"]); // 10.14, 16.7
-const A_TO_M: Rule = Codes(&["A", "B", "C", "D", "E", "F", "G", "H", "I", "J", "K", "L", "M"]); // 10.8, 16.6
+const A_TO_M: Rule = Codes(&["A", "B", "C", "D", "E", "F", "G", "H", "I", "J", "K", "L", "M"]); // 10.8, 16.6, 26.9
 const YES_NO: Rule = Codes(&["Y", "N"]); // 7.8, 11.9, 13.6, 15.9, 18.6
 const CONVERSION: Rule = Range(0, 8); // 11.10, 13.7, 15.10, 18.7
 const CORRECTION: Rule = Range(0, 4); // 10.13, 11.11, 13.8, 15.11, 18.8
@@ -164,7 +166,7 @@ const MAGNETIC: Rule = Range(0, 3); // 11.12, 13.10, 15.12, 18.10
 const TEST: Rule = Range(0, 2); // 23.2 to 23.12, 23.26 to 23.39
 
 #[rustfmt::skip]
-pub static LAYOUTS: [Layout; 18] = [
+pub static LAYOUTS: [Layout; 19] = [
     // Clause 7, File Header Record.
     Layout { code: 1, clause: 7, fixed: 80, parts: &[], fields: &[
         f(1, "Record Type", M, 1, 2, N, Codes(&["01"])),
@@ -490,6 +492,23 @@ pub static LAYOUTS: [Layout; 18] = [
         f(46, "User Field", C, 47, 66, ANS, TypeAlone),
         f(47, "Reserved", M, 67, 80, AB, TypeAlone),
     ] },
+    // Clause 26, Credit/Reconciliation Record.
+    Layout { code: 61, clause: 26, fixed: 84, parts: &[], fields: &[
+        f(1, "Record Type", M, 1, 2, N, Codes(&["61"])),
+        f(2, "Record Usage Indicator", C, 3, 3, AN, Range(1, 9)),
+        f(3, "Auxiliary On-Us", C, 4, 18, NBMcd, TypeAlone),
+        f(4, "External Processing Code", C, 19, 19, NBMc, TypeAlone),
+        f(5, "Posting Bank Routing Number", M, 20, 28, NBMcd, Routing(&[TTTTAAAAC, TTTTT_FFF])),
+        f(6, "Posting Account Number (On-Us)", C, 29, 48, NBMcdo, TypeAlone),
+        f(7, "Item Amount", M, 49, 62, N, TypeAlone),
+        f(8, "Item Sequence Number", M, 63, 77, NB, TypeAlone),
+        f(9, "Documentation Type Indicator", C, 78, 78, AN, A_TO_M),
+        f(10, "Type of Account Code", C, 79, 79, AN, Codes(&[
+            "1", "2", "3", "4", "5", "A", "B", "C", "D", "E", "F", "G", "H", "I", "J",
+        ])),
+        f(11, "Source of Work Code", C, 80, 81, AN, Ranges(&[(1, 11), (21, 50), (51, 99)])), // user defined, reserved
+        f(12, "Reserved", M, 82, 84, AB, TypeAlone),
+    ] },
     // Clause 31, Bundle Control Record.
     Layout { code: 70, clause: 31, fixed: 80, parts: &[], fields: &[
         f(1, "Record Type", M, 1, 2, N, Codes(&["70"])),
@@ -532,7 +551,7 @@ mod tests {
     use super::*;
 
     #[test]
-    fn the_tables_hold_291_fields_that_touch_and_fill_their_records() {
+    fn the_tables_hold_303_fields_that_touch_and_fill_their_records() {
         let mut fields = 0;
         for (layout, code) in LAYOUTS.iter().zip(CARRIED) {
             assert_eq!(layout.code, code);
@@ -550,13 +569,13 @@ mod tests {
             }
             fields += layout.field_count();
         }
-        assert_eq!(fields, 291);
+        assert_eq!(fields, 303);
     }
 
     #[test]
     fn the_tables_hold_the_counts_that_the_clauses_state_in_words() {
         // "contains fourteen fields" and so on, in the first sentence of each clause.
-        let stated = [14, 14, 13, 14, 14, 18, 14, 9, 14, 11, 18, 14, 23, 28, 47, 9, 9, 8];
+        let stated = [14, 14, 13, 14, 14, 18, 14, 9, 14, 11, 18, 14, 23, 28, 47, 12, 9, 9, 8];
         for (layout, count) in LAYOUTS.iter().zip(stated) {
             assert_eq!(layout.field_count(), count, "type {}", layout.code);
         }

@@ -1,6 +1,10 @@
 //! The independent side: a reader of X9.100-180 files written from the standard's text and documents 01 and 02 alone,
 //! and a generator of sound and damaged files. It shares no table and no code with the proved library.
 
+pub mod asked;
+pub mod books;
+pub mod brim;
+pub mod credits;
 pub mod descent;
 pub mod harm;
 pub mod judge;

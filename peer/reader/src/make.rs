@@ -1,5 +1,6 @@
 //! Sound files of every shape.
 
+use crate::descent::Inside;
 use crate::layout::{layout, name_of, Field, Layout, Rule, Type, Usage};
 use crate::random::Random;
 use crate::routing;
@@ -64,6 +65,11 @@ pub struct Wish {
     pub kinds: &'static [u8],
     pub image: usize,
     pub amount: u64,
+    /// Cases of a hundred in which 61s stand where they may: after a 10, a 70, a 20, an item. Below a hundred, half of the files
+    /// hold none at all.
+    pub credits: u64,
+    /// Cases of a hundred in which a 61 has views.
+    pub credit_views: u64,
 }
 
 impl Wish {
@@ -80,7 +86,14 @@ impl Wish {
             kinds: &[25, 31],
             image: 60,
             amount: 9_999_999_999,
+            credits: 25,
+            credit_views: 40,
         }
+    }
+
+    /// Without a 61.
+    pub fn no_credits() -> Wish {
+        Wish { credits: 0, ..Wish::any() }
     }
 
     /// A small file that surely holds a record of this type.
@@ -88,7 +101,7 @@ impl Wish {
         let mut wish = Wish { letters: (1, 1), bundles: (1, 2), ..Wish::any() };
         wish.contents = match code {
             50 | 52 | 54 => b"IF",
-            1 | 10 | 90 | 99 => b"NEIF",
+            1 | 10 | 61 | 90 | 99 => b"NEIF",
             _ => b"EIF",
         };
         match code {
@@ -102,38 +115,90 @@ impl Wish {
         if matches!(code, 27 | 34 | 54) {
             wish.extras = 100;
         }
+        if code == 61 {
+            wish.credits = 60;
+        }
         wish
+    }
+
+    /// A small file that most often holds a record of this type inside a 61's views, or a 61 there.
+    pub fn inside(inside: Inside, code: u8) -> Wish {
+        let wish = Wish::holding(code);
+        let viewed = matches!(code, 50 | 52 | 54);
+        let contents: &'static [u8] = match inside {
+            Inside::CreditInLetter if viewed => b"NIF",
+            Inside::CreditInLetter => b"NEIF",
+            Inside::CreditInBundle if !viewed => b"EIF",
+            Inside::CreditInBundle => b"IF",
+            _ => return wish,
+        };
+        Wish { contents, credits: 60, credit_views: if viewed { 90 } else { 30 }, ..wish }
     }
 }
 
 /// What a level adds up to, for the control records.
-#[derive(Clone, Copy, Default)]
-struct Sum {
-    bundles: u64,
-    items: u64,
-    cents: u64,
-    micr: u64,
-    views: u64,
+#[derive(Clone, Copy, Debug, Default, PartialEq, Eq)]
+pub struct Sum {
+    pub bundles: u64,
+    pub debit_items: u64,
+    pub debit_cents: u64,
+    pub credit_items: u64,
+    pub credit_cents: u64,
+    pub micr: u64,
+    pub views: u64,
+}
+
+impl Sum {
+    fn add(&mut self, other: Sum) {
+        self.bundles += other.bundles;
+        self.debit_items += other.debit_items;
+        self.debit_cents += other.debit_cents;
+        self.credit_items += other.credit_items;
+        self.credit_cents += other.credit_cents;
+        self.micr += other.micr;
+        self.views += other.views;
+    }
 }
 
 /// A sound file.
 pub fn sound(random: &mut Random, wish: &Wish) -> Vec<Rec> {
+    sound_with_totals(random, wish).0
+}
+
+/// A sound file and its eight totals in the order of an answer, as they came together while it was made.
+pub fn sound_with_totals(random: &mut Random, wish: &Wish) -> (Vec<Rec>, [u64; 8]) {
+    let credits = if wish.credits < 100 && random.percent(50) { 0 } else { wish.credits };
+    let wish = &Wish { credits, ..wish.clone() };
     let mut records = vec![record(random, 1, 0)];
-    let letters = random.between(wish.letters.0, wish.letters.1);
+    let letters = random.between(wish.letters.0, wish.letters.1) as u64;
     let mut whole = Sum::default();
     for _ in 0..letters {
-        let sum = sound_letter(random, wish, &mut records);
-        whole.items += sum.items;
-        whole.cents += sum.cents;
+        whole.add(sound_letter(random, wish, &mut records));
     }
+    let count = records.len() as u64 + 1;
+    let items = whole.debit_items + whole.credit_items;
     let mut control = record(random, 99, 0);
-    control.set_number(2, letters as u64);
-    control.set_number(3, records.len() as u64 + 1);
-    control.set_number(4, whole.items);
-    control.set_number(5, whole.cents);
-    control.set_number(8, 0);
+    control.set_number(2, letters);
+    control.set_number(3, count);
+    control.set_number(4, items);
+    control.set_number(5, whole.debit_cents);
+    control.set_number(8, whole.credit_cents);
     records.push(control);
-    records
+    let Sum { bundles, views, debit_cents, credit_items, credit_cents, .. } = whole;
+    (records, [count, letters, bundles, items, views, debit_cents, credit_items, credit_cents])
+}
+
+/// What the items and 61s of a bundle, or of a cash letter, share.
+struct Under<'a> {
+    wish: &'a Wish,
+    content: u8,
+    header: &'a Rec,
+}
+
+impl Under<'_> {
+    fn in_bundle(&self) -> bool {
+        self.header.code == 20
+    }
 }
 
 fn sound_letter(random: &mut Random, wish: &Wish, records: &mut Vec<Rec>) -> Sum {
@@ -141,24 +206,23 @@ fn sound_letter(random: &mut Random, wish: &Wish, records: &mut Vec<Rec>) -> Sum
     let mut header = record(random, 10, 0);
     let small = random.percent(25);
     header.set(8, &[if small { content.to_ascii_lowercase() } else { content }]);
-    records.push(header);
-    let mut sum = Sum::default();
+    records.push(header.clone());
+    let under = Under { wish, content, header: &header };
+    let mut sum = some_credits(random, &under, records);
     if content != b'N' {
         for _ in 0..random.between(wish.bundles.0, wish.bundles.1) {
-            let bundle = sound_bundle(random, wish, content, records);
+            sum.add(sound_bundle(random, wish, content, records));
             sum.bundles += 1;
-            sum.items += bundle.items;
-            sum.cents += bundle.cents;
-            sum.views += bundle.views;
+            sum.add(some_credits(random, &under, records));
         }
     }
     let mut control = record(random, 90, 0);
     control.set_number(2, sum.bundles);
-    control.set_number(3, sum.items);
-    control.set_number(4, sum.cents);
+    control.set_number(3, sum.debit_items);
+    control.set_number(4, sum.debit_cents);
     control.set_number(5, sum.views);
-    control.set_number(8, 0);
-    control.set_number(9, 0);
+    control.set_number(8, sum.credit_items);
+    control.set_number(9, sum.credit_cents);
     records.push(control);
     sum
 }
@@ -167,30 +231,32 @@ fn sound_bundle(random: &mut Random, wish: &Wish, content: u8, records: &mut Vec
     let kind = random.pick(wish.kinds);
     let header = record(random, 20, 0);
     records.push(header.clone());
-    let mut sum = Sum::default();
-    for _ in 0..random.between(wish.items.0, wish.items.1) {
-        let item = sound_item(random, wish, content, kind, &header, records);
-        sum.items += 1;
-        sum.cents += item.cents;
-        sum.micr += item.micr;
-        sum.views += item.views;
+    let under = Under { wish, content, header: &header };
+    let mut sum = some_credits(random, &under, records);
+    // Clause 31: a bundle of 61s alone is lawful.
+    let alone = sum.credit_items + sum.debit_items > 0 && random.percent(20);
+    let items = if alone { 0 } else { random.between(wish.items.0, wish.items.1) };
+    for _ in 0..items {
+        sum.add(sound_item(random, &under, kind, records));
+        sum.add(some_credits(random, &under, records));
     }
     let mut control = record(random, 70, 0);
-    control.set_number(2, sum.items);
-    control.set_number(3, sum.cents);
+    control.set_number(2, sum.debit_items);
+    control.set_number(3, sum.debit_cents);
     if random.percent(40) {
         control.set(4, b"            ");
     } else {
         control.set_number(4, sum.micr);
     }
     control.set_number(5, sum.views);
-    control.set_number(6, 0);
-    control.set_number(7, 0);
+    control.set_number(6, sum.credit_items);
+    control.set_number(7, sum.credit_cents);
     records.push(control);
     sum
 }
 
-fn sound_item(random: &mut Random, wish: &Wish, content: u8, kind: u8, header: &Rec, records: &mut Vec<Rec>) -> Sum {
+fn sound_item(random: &mut Random, under: &Under, kind: u8, records: &mut Vec<Rec>) -> Sum {
+    let wish = under.wish;
     let mut head = record(random, kind, 0);
     let amount = match random.below(6) {
         0 => 0,
@@ -205,11 +271,45 @@ fn sound_item(random: &mut Random, wish: &Wish, content: u8, kind: u8, header: &
     records.push(head.clone());
     records.extend(addenda);
     let wanted = random.between(wish.views.0.max(1), wish.views.1.max(1));
-    let views = if content == b'E' { 0 } else { wanted };
+    let views = if under.content == b'E' { 0 } else { wanted };
     for _ in 0..views {
-        sound_view(random, wish, header, &head, records);
+        sound_view(random, under, head.get(7), records);
     }
-    Sum { bundles: 0, items: 1, cents: amount, micr, views: views as u64 }
+    Sum { debit_items: 1, debit_cents: amount, micr, views: views as u64, ..Sum::default() }
+}
+
+/// Perhaps some 61s, one after another.
+fn some_credits(random: &mut Random, under: &Under, records: &mut Vec<Rec>) -> Sum {
+    let mut sum = Sum::default();
+    if under.wish.credits > 0 && random.percent(under.wish.credits) {
+        for _ in 0..random.pick(&[1, 1, 1, 2, 3]) {
+            sum.add(sound_credit(random, under, records));
+        }
+    }
+    sum
+}
+
+/// A 61 and its views, if it has any.
+fn sound_credit(random: &mut Random, under: &Under, records: &mut Vec<Rec>) -> Sum {
+    let mut head = record(random, 61, 0);
+    if random.percent(25) {
+        head.set(2, b"9");
+    }
+    // Twelve digits for all of a bundle, fourteen for all of a cash letter: sums of these amounts fit.
+    let most = if under.in_bundle() { 10 } else { 12 };
+    let amount = random.draw() % 10u64.pow(random.between(0, most) as u32);
+    head.set_number(7, amount);
+    records.push(head.clone());
+    let viewed = under.content != b'E' && random.percent(under.wish.credit_views);
+    let views = if viewed { random.pick(&[1, 1, 2]) } else { 0 };
+    for _ in 0..views {
+        sound_view(random, under, head.get(8), records);
+    }
+    let sum = Sum { views, ..Sum::default() };
+    match head.get(2) {
+        b"9" => Sum { debit_items: 1, debit_cents: amount, ..sum },
+        _ => Sum { credit_items: 1, credit_cents: amount, ..sum },
+    }
 }
 
 fn sound_addenda(random: &mut Random, wish: &Wish, kind: u8) -> Vec<Rec> {
@@ -236,13 +336,20 @@ pub fn numbered(random: &mut Random, addenda: &mut Vec<Rec>, code: u8, count: us
     }
 }
 
-fn sound_view(random: &mut Random, wish: &Wish, header: &Rec, head: &Rec, records: &mut Vec<Rec>) {
-    let detail = record(random, 50, 0);
-    let mut data = record(random, 52, wish.image);
+/// The header's part of a 52's key and the sequence number of its item or 61. Outside a bundle field 4 is free.
+pub fn set_key(data: &mut Rec, header: &Rec, sequence: &[u8]) {
     data.set(2, header.get(4));
     data.set(3, header.get(5));
-    data.set(4, header.get(9));
-    data.set(5, head.get(7));
+    if header.code == 20 {
+        data.set(4, header.get(9));
+    }
+    data.set(5, sequence);
+}
+
+fn sound_view(random: &mut Random, under: &Under, sequence: &[u8], records: &mut Vec<Rec>) {
+    let detail = record(random, 50, 0);
+    let mut data = record(random, 52, under.wish.image);
+    set_key(&mut data, under.header, sequence);
     if detail.get(10) == b"1" {
         for name in [7, 8] {
             let place = random.below(16);
@@ -253,7 +360,7 @@ fn sound_view(random: &mut Random, wish: &Wish, header: &Rec, head: &Rec, record
     }
     records.push(detail);
     records.push(data);
-    if random.percent(wish.extras) {
+    if random.percent(under.wish.extras) {
         records.push(record(random, 54, 0));
     }
 }
@@ -302,6 +409,10 @@ pub fn value(random: &mut Random, field: &Field) -> Vec<u8> {
             }
         }
         Rule::Range(low, high) => format!("{:0size$}", random.between(low as usize, high as usize)).into_bytes(),
+        Rule::Ranges(ranges) => {
+            let (low, high) = random.pick(ranges);
+            format!("{:0size$}", random.between(low as usize, high as usize)).into_bytes()
+        }
         Rule::Digits => characters(random, Type::Numeric, size),
         Rule::OneOrTwoDigits => {
             let mut pair = vec![random.digit(), random.digit()];
@@ -389,16 +500,27 @@ fn blank_sided(random: &mut Random, size: usize, sides: &[u8], inner: &[u8]) -> 
 #[cfg(test)]
 mod tests {
     use super::*;
+    use crate::books::{self, Way};
     use crate::descent::{read, Number};
 
+    /// Accepted, with the totals that came together while the file was made, and with the totals and rows of the books.
     #[test]
-    fn sound_files_are_accepted() {
-        for index in 0..3_000 {
+    fn sound_files_are_accepted_with_the_totals_they_were_made_with() {
+        let mut with_credits = 0;
+        for index in 0..6_000 {
             let mut random = Random::for_file(1, index);
-            let records = sound(&mut random, &Wish::any());
+            let (records, totals) = sound_with_totals(&mut random, &Wish::any());
             let reading = read(&encode(&records));
             assert_eq!(reading.answer.number, Number::Accepted, "file {index}: {reading:?}");
-            assert_eq!(reading.rows.len(), records.len());
+            assert_eq!(reading.answer.listed()[4..], totals, "file {index}");
+            let bodies: Vec<&[u8]> = records.iter().map(|record| record.body.as_slice()).collect();
+            assert_eq!(reading.rows, books::rows(&bodies), "file {index}");
+            let counted = books::count(bodies, Way::Right);
+            assert_eq!([counted.items, counted.views], [totals[3], totals[4]].map(u128::from));
+            assert_eq!([counted.debit_cents, counted.credit_cents], [totals[5], totals[7]].map(u128::from));
+            assert_eq!([counted.bundles, counted.credit_items], [totals[2], totals[6]].map(u128::from));
+            with_credits += usize::from(records.iter().any(|record| record.code == 61));
         }
+        assert!((1_500..4_500).contains(&with_credits), "{with_credits} files hold 61s");
     }
 }

@@ -112,20 +112,52 @@ pub fn view_analysis() -> Vec<u8> {
     text(format!("54012{}", blanks(75)), 80)
 }
 
-/// Clause 31: items, cents, MICR valid cents as written, views.
+/// Clause 26, with its usage indicator and amount.
+pub fn credit(usage: char, amount: u64) -> Vec<u8> {
+    let (fore, on_us) = (blanks(16), blanks(20));
+    text(format!("61{usage}{fore}{ROUTING}{on_us}{amount:014}{SEQUENCE}{}", blanks(7)), 84)
+}
+
+/// How many, and their cents.
+pub type Side = (u64, u64);
+
+/// Clause 31: debits, MICR valid cents as written, views, credits.
+pub fn bundle_sums(debits: Side, micr_valid: &str, views: u64, credits: Side) -> Vec<u8> {
+    let (debit, credit) = (format!("{:04}{:012}", debits.0, debits.1), format!("{:04}{:012}", credits.0, credits.1));
+    text(format!("70{debit}{micr_valid}{views:05}{credit}{}", blanks(29)), 80)
+}
+
+/// Clause 31 without credits: items, cents, MICR valid cents as written, views.
 pub fn bundle_control(items: u64, cents: u64, micr_valid: &str, views: u64) -> Vec<u8> {
-    text(format!("70{items:04}{cents:012}{micr_valid}{views:05}0000000000000000{}", blanks(29)), 80)
+    bundle_sums((items, cents), micr_valid, views, (0, 0))
 }
 
-/// Clause 34: bundles, items, cents, views.
+/// Clause 34: bundles, debits, views, credits.
+pub fn letter_sums(bundles: u64, debits: Side, views: u64, credits: Side) -> Vec<u8> {
+    let (debit, credit) = (format!("{:08}{:014}", debits.0, debits.1), format!("{:08}{:014}", credits.0, credits.1));
+    text(format!("90{bundles:06}{debit}{views:09}{}{credit}", blanks(24)), 85)
+}
+
+/// Clause 34 without credits: bundles, items, cents, views.
 pub fn letter_control(bundles: u64, items: u64, cents: u64, views: u64) -> Vec<u8> {
-    let credit = "0000000000000000000000";
-    text(format!("90{bundles:06}{items:08}{cents:014}{views:09}{}{}{credit}", blanks(16), blanks(8)), 85)
+    letter_sums(bundles, (items, cents), views, (0, 0))
 }
 
-/// Clause 35: cash letters, records, items, cents.
+/// Clause 35: cash letters, records, items of either side, debit cents, credit cents.
+pub fn file_sums(letters: u64, records: u64, items: u64, debit_cents: u64, credit_cents: u64) -> Vec<u8> {
+    let debit = format!("{letters:06}{records:08}{items:08}{debit_cents:016}");
+    text(format!("99{debit}{}{credit_cents:016}", blanks(24)), 80)
+}
+
+/// Clause 35 without credits: cash letters, records, items, cents.
 pub fn file_control(letters: u64, records: u64, items: u64, cents: u64) -> Vec<u8> {
-    text(format!("99{letters:06}{records:08}{items:08}{cents:016}{}0000000000000000", blanks(24)), 80)
+    file_sums(letters, records, items, cents, 0)
+}
+
+/// A record with other contents from this position on; its first character is at position 1.
+pub fn put(mut record: Vec<u8>, position: usize, contents: &str) -> Vec<u8> {
+    record[position - 1..position - 1 + contents.len()].copy_from_slice(contents.as_bytes());
+    record
 }
 
 /// Records with their lengths before them (Annex D).

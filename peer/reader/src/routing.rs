@@ -291,13 +291,14 @@ mod tests {
         }
     }
 
-    /// By hand: eight fields take five shapes, five conditional ones three (all blank too), 25.4 and 31.4 five (the mark too).
+    /// By hand: eight fields take five shapes, five conditional ones three (all blank too), 25.4 and 31.4 five (the mark too), 61.5
+    /// three (the mark, but not blank).
     #[test]
-    fn fifteen_fields_take_65_of_240() {
+    fn sixteen_fields_take_68_of_256() {
         let taken = |(_, field): &(u8, &Field)| SHAPES.iter().filter(|shape| passes(field, **shape)).count();
         let counts: Vec<usize> = fields().iter().map(taken).collect();
-        // 01.4 01.5 10.3 10.4 20.3 20.4 20.10 25.4 26.3 28.3 31.4 32.3 35.3 50.3 52.2
-        assert_eq!(counts, [5, 5, 5, 5, 5, 5, 3, 5, 3, 3, 5, 3, 3, 5, 5]);
-        assert_eq!(counts.iter().sum::<usize>(), 65);
+        // 01.4 01.5 10.3 10.4 20.3 20.4 20.10 25.4 26.3 28.3 31.4 32.3 35.3 50.3 52.2 61.5
+        assert_eq!(counts, [5, 5, 5, 5, 5, 5, 3, 5, 3, 3, 5, 3, 3, 5, 5, 3]);
+        assert_eq!(counts.iter().sum::<usize>(), 68);
     }
 }

@@ -1,10 +1,11 @@
-//! Ten small sound files and sixteen small damaged ones, made of the records of `plain`, each with the line that
-//! document 01 calls for, worked out by hand.
+//! Small sound files and small damaged ones, made of the records of `plain`, each with the line that document 01 calls for, worked
+//! out by hand.
 //!
-//! With its length a record takes 84 bytes; a 26 or 32 takes 119, a 90 takes 89, a bare 27 or 34 takes 77, a bare 52 143.
+//! With its length a record takes 84 bytes; a 26 or 32 takes 119, a 61 takes 88, a 90 takes 89, a bare 27 or 34 takes 77, a bare 52 143.
 
 use crate::plain::*;
 
+#[derive(Clone)]
 pub struct Sample {
     pub name: &'static str,
     pub bytes: Vec<u8>,
@@ -16,7 +17,9 @@ fn sample(name: &'static str, bytes: Vec<u8>, line: &'static str) -> Sample {
 }
 
 pub fn samples() -> Vec<Sample> {
-    sound_samples().into_iter().chain(damaged_samples()).chain(damaged_routing_samples()).collect()
+    let sound = sound_samples().into_iter().chain(sound_credit_samples());
+    let damaged = damaged_samples().into_iter().chain(damaged_routing_samples()).chain(damaged_credit_samples());
+    sound.chain(damaged).collect()
 }
 
 /// 01, 10 with N, 90, 99.
@@ -141,12 +144,6 @@ fn signed_view() -> Vec<Vec<u8>> {
     ]
 }
 
-/// A record with other contents from this position on; its first character is at position 1.
-fn put(mut record: Vec<u8>, position: usize, contents: &str) -> Vec<u8> {
-    record[position - 1..position - 1 + contents.len()].copy_from_slice(contents.as_bytes());
-    record
-}
-
 /// A check with a 26 and a 28 and a return with a 32, the 33 and a 35, each in a bundle of its own and with a view. Every field
 /// that lists TTTTT-FFF has a Canadian number; field 4 of a 20 is repeated by its 52.
 fn canadian() -> Vec<Vec<u8>> {
@@ -185,6 +182,98 @@ fn other_numbers() -> Vec<Vec<u8>> {
     records.extend(view());
     records.extend([bundle_control(2, 11, NOT_STATED, 2), letter_control(1, 2, 11, 2), file_control(1, 12, 2, 11)]);
     records
+}
+
+/// 61s directly in a cash letter of I, before and behind its bundle, and in the bundle, before and behind its check. The cash letter
+/// header has another institution and another day than the bundle header; the 52 of the first 61 repeats these, and its cycle number is
+/// nobody's. Usage 9 is a debit, a blank one a credit.
+fn credits() -> Vec<Vec<u8>> {
+    let of_letter = |record, routing, date| put(put(record, routing, "222222226"), date, "20240115");
+    let other_sequence = "77             ";
+    vec![
+        file_header(),
+        of_letter(letter_header('I'), 14, 23),
+        credit('1', 100_000),
+        view_detail('0'),
+        put(of_letter(view_data(b"slip"), 3, 12), 20, "ZZ"),
+        bundle_header(),
+        put(credit('5', 12_345), 63, other_sequence),
+        view_detail('0'),
+        put(view_data(b""), 22, other_sequence),
+        check(40_000, '1', 0),
+        view_detail('0'),
+        view_data(b"front"),
+        credit('9', 5),
+        // Debits: the check and the 61 of usage 9. Of the views the first is not in the bundle. MICR valid: the check alone.
+        bundle_sums((2, 40_005), "000000040000", 2, (1, 12_345)),
+        credit(' ', 7),
+        // 100000 + 12345 + 7 = 112352.
+        letter_sums(1, (2, 40_005), 3, (3, 112_352)),
+        file_sums(1, 17, 5, 40_005, 112_352),
+    ]
+}
+
+/// No check at all: 61s directly in a cash letter of N, one of the largest amount, and a bundle of 61s in one of E.
+fn credits_alone() -> Vec<Vec<u8>> {
+    vec![
+        file_header(),
+        letter_header('N'),
+        credit('7', 99_999_999_999_999),
+        credit('9', 1),
+        letter_sums(0, (1, 1), 0, (1, 99_999_999_999_999)),
+        letter_header('E'),
+        bundle_header(),
+        credit('3', 10),
+        credit('4', 20),
+        bundle_sums((0, 0), NOT_STATED, 0, (2, 30)),
+        letter_sums(1, (0, 0), 0, (2, 30)),
+        file_sums(2, 12, 4, 1, 100_000_000_000_029),
+    ]
+}
+
+/// 61s between and behind returns, between two bundles, and before a check.
+fn credits_among_items() -> Vec<Vec<u8>> {
+    vec![
+        file_header(),
+        letter_header('E'),
+        bundle_header(),
+        returned(10, 1),
+        return_addendum_b(),
+        credit('5', 1_000),
+        returned(20, 1),
+        return_addendum_b(),
+        credit('6', 2_000),
+        bundle_sums((2, 30), NOT_STATED, 0, (2, 3_000)),
+        credit('9', 300),
+        credit('8', 400),
+        bundle_header(),
+        credit(' ', 50),
+        check(7, ' ', 0),
+        bundle_sums((1, 7), "000000000000", 0, (1, 50)),
+        // Debits 30 + 300 + 7, credits 3000 + 400 + 50.
+        letter_sums(2, (4, 337), 0, (4, 3_450)),
+        file_sums(1, 18, 8, 337, 3_450),
+    ]
+}
+
+fn sound_credit_samples() -> Vec<Sample> {
+    vec![
+        sample(
+            "sound-11-credits.x9",
+            file(&credits()),
+            "accepted records 17 letters 1 bundles 1 items 5 views 3 debit 40005",
+        ),
+        sample(
+            "sound-12-credits-alone.x9",
+            file(&credits_alone()),
+            "accepted records 12 letters 2 bundles 1 items 4 views 0 debit 1",
+        ),
+        sample(
+            "sound-13-credits-among-items.x9",
+            file(&credits_among_items()),
+            "accepted records 18 letters 1 bundles 2 items 8 views 0 debit 337",
+        ),
+    ]
 }
 
 fn sound_samples() -> Vec<Sample> {
@@ -305,10 +394,10 @@ fn damaged_samples() -> Vec<Sample> {
             [file(&no_detail()), vec![b'\n']].concat(),
             "refused 11 record 5 field 0 offset 341",
         ),
-        // Type 61 is not carried yet; it stands where the 90 stood, at 168.
+        // Type 68 is not carried; it stands where the 90 stood, at 168.
         sample(
-            "damaged-10-type-61.x9",
-            changed(no_detail(), |records| records[2][..2].copy_from_slice(b"61")),
+            "damaged-10-type-68.x9",
+            changed(no_detail(), |records| records[2][..2].copy_from_slice(b"68")),
             "refused 5 record 3 field 0 offset 168",
         ),
         // The 52 states twelve image bytes and holds eleven. It is the sixth record: five of 84 before it.
@@ -352,6 +441,107 @@ fn damaged_routing_samples() -> Vec<Sample> {
             "damaged-16-moved-dash.x9",
             changed(canadian(), |records| records[1][13..22].copy_from_slice(b"1020-2006")),
             "refused 7 record 2 field 4 offset 84",
+        ),
+    ]
+}
+
+/// Credits (request 2).
+fn damaged_credit_samples() -> Vec<Sample> {
+    [damaged_credit_places(), damaged_credit_sums()].concat()
+}
+
+/// A check that states so many addenda and has none, and a 61 behind it.
+fn check_and_credit(content: char, addenda: u64) -> Vec<Vec<u8>> {
+    vec![
+        file_header(),
+        letter_header(content),
+        bundle_header(),
+        check(5, ' ', addenda),
+        credit('4', 5),
+        bundle_sums((1, 5), NOT_STATED, 0, (1, 5)),
+        letter_sums(1, (1, 5), 0, (1, 5)),
+        file_sums(1, 8, 2, 5, 5),
+    ]
+}
+
+fn damaged_credit_places() -> Vec<Sample> {
+    vec![
+        // A check without a view in a cash letter of I, then a 61, which is faulted: four records of 84 before it.
+        sample(
+            "damaged-17-view-missing-at-61.x9",
+            file(&check_and_credit('I', 0)),
+            "refused 8 record 5 field 1 offset 336",
+        ),
+        // The 52 of the first 61, outside the bundle, has the routing number of the bundle header. It stands at 84 + 84 + 88 + 84 = 340.
+        sample(
+            "damaged-18-other-header.x9",
+            changed(credits(), |records| records[4][2..11].copy_from_slice(ROUTING.as_bytes())),
+            "refused 8 record 5 field 2 offset 340",
+        ),
+        // A 61 between the 01 and the first 10 lies in no cash letter.
+        sample(
+            "damaged-19-61-in-no-letter.x9",
+            changed(credits_alone(), |records| records.swap(1, 2)),
+            "refused 6 record 2 field 0 offset 84",
+        ),
+        // E without a bundle, though a 61 stands there: faulted at the 90, at 84 + 84 + 88 = 256.
+        sample(
+            "damaged-20-no-bundle.x9",
+            file(&[
+                file_header(),
+                letter_header('E'),
+                credit('1', 9),
+                letter_sums(0, (0, 0), 0, (1, 9)),
+                file_sums(1, 5, 1, 0, 9),
+            ]),
+            "refused 8 record 4 field 1 offset 256",
+        ),
+        // E with a view, of a 61 that stands directly in the cash letter: faulted at the 50.
+        sample(
+            "damaged-21-view-under-e.x9",
+            changed(credits(), |records| records[1][42] = b'E'),
+            "refused 8 record 4 field 1 offset 256",
+        ),
+        // 25 states one addendum, and a 61 follows.
+        sample("damaged-22-owed-at-61.x9", file(&check_and_credit('E', 1)), "refused 8 record 5 field 1 offset 336"),
+        // 61 field 11 at positions 80-81: 12 is no source of work. The first 61 is the third record.
+        sample(
+            "damaged-23-source-of-work.x9",
+            changed(credits_alone(), |records| records[2][79..81].copy_from_slice(b"12")),
+            "refused 7 record 3 field 11 offset 168",
+        ),
+    ]
+}
+
+/// The 70 of `credits_among_items` is the tenth record, with three of 84 before the first item, which takes two of 84, as the second does,
+/// each with an 88 behind: 252 + 168 + 88 + 168 + 88 = 764.
+fn damaged_credit_sums() -> Vec<Sample> {
+    let with_control = |control: Vec<u8>| changed(credits_among_items(), |records| records[9] = control.clone());
+    vec![
+        // The first 61 taken for a debit: 30 + 1000.
+        sample(
+            "damaged-24-credit-as-debit.x9",
+            with_control(bundle_sums((2, 1_030), NOT_STATED, 0, (2, 2_000))),
+            "refused 9 record 10 field 3 offset 764",
+        ),
+        // The first 61 left out of the credit cents.
+        sample(
+            "damaged-25-credit-left-out.x9",
+            with_control(bundle_sums((2, 30), NOT_STATED, 0, (2, 2_000))),
+            "refused 9 record 10 field 7 offset 764",
+        ),
+        // 90 field 8 without the 61s outside the bundles. Before the 90: 764 + 84 + 88 + 88 + 84 + 88 + 84 + 84 = 1364.
+        sample(
+            "damaged-26-outside-left-out.x9",
+            changed(credits_among_items(), |records| records[16] = letter_sums(2, (4, 337), 0, (3, 3_050))),
+            "refused 9 record 17 field 8 offset 1364",
+        ),
+        // 99 field 4 takes in every 61; here it has the two credits of the bundle alone. Before the 99: 84 + 84 + 88 + 88 + 89, then
+        // 84 + 84 + 88 + 88 + 84 + 89: 433 + 517 = 950.
+        sample(
+            "damaged-27-item-count.x9",
+            changed(credits_alone(), |records| records[11] = file_sums(2, 12, 2, 1, 100_000_000_000_029)),
+            "refused 9 record 12 field 4 offset 950",
         ),
     ]
 }

@@ -1,5 +1,6 @@
 //! The stream of files of one run: the seed and a file's index give the file.
 
+use crate::brim::{self, Stated};
 use crate::harm;
 use crate::layout::CARRIED;
 use crate::make::{encode, sound, Rec, Wish};
@@ -12,17 +13,17 @@ pub struct Made {
 }
 
 /// The shapes that `make_file --kind` takes.
-pub const SHAPES: [&str; 17] = [
-    "sound", "field", "routing", "place", "link", "total", "both", "length", "cut", "open", "after", "shuffle", "type",
-    "noise", "flip", "several", "edge",
+pub const SHAPES: [&str; 19] = [
+    "sound", "credit", "field", "routing", "place", "link", "total", "slip", "both", "length", "cut", "open", "after",
+    "shuffle", "type", "noise", "flip", "several", "edge",
 ];
 
 /// Shapes by turn: about a quarter sound, the rest damaged.
-const TURNS: [&str; 42] = [
-    "sound", "sound", "sound", "sound", "sound", "sound", "sound", "sound", "sound", "sound", "field", "field",
-    "field", "field", "field", "field", "routing", "routing", "place", "place", "place", "place", "link", "link",
-    "link", "total", "total", "both", "both", "both", "length", "cut", "open", "after", "shuffle", "type", "noise",
-    "flip", "flip", "several", "several", "edge",
+const TURNS: [&str; 48] = [
+    "sound", "sound", "sound", "sound", "sound", "sound", "sound", "sound", "sound", "sound", "credit", "credit",
+    "field", "field", "field", "field", "field", "field", "routing", "routing", "place", "place", "place", "place",
+    "place", "link", "link", "link", "link", "total", "total", "slip", "slip", "both", "both", "both", "length", "cut",
+    "open", "after", "shuffle", "type", "noise", "flip", "flip", "several", "several", "edge",
 ];
 
 /// One in so many files is a large one.
@@ -51,6 +52,7 @@ pub fn shaped(random: &mut Random, shape: &str, turn: usize) -> Made {
         "place" => made("place", harm::place_file(random, at(&harm::place_targets(), turn))),
         "link" => made("link", harm::link_file(random, at(&harm::link_targets(), turn))),
         "total" => made("total", harm::total_file(random, at(&harm::total_targets(), turn))),
+        "slip" => made("slip", harm::slip_file(random, at(&harm::slip_targets(), turn))),
         "both" => made("both", harm::both_file(random, at(&harm::both_targets(), turn))),
         "length" => {
             let code = CARRIED[turn % CARRIED.len()];
@@ -71,6 +73,7 @@ pub fn shaped(random: &mut Random, shape: &str, turn: usize) -> Made {
         "flip" => flip(random),
         "several" => several(random),
         "edge" => edge(random, turn),
+        "credit" => made("credit", any_credits(random)),
         _ => made("sound", any_sound(random)),
     }
 }
@@ -94,6 +97,19 @@ fn any_sound(random: &mut Random) -> Vec<Rec> {
         4 => (wish.addenda, wish.extras) = ((0, 9), 80),
         5 => (wish.views, wish.image) = ((1, 5), 900),
         6 => (wish.letters, wish.bundles, wish.items) = ((1, 1), (1, 1), (1, 1)),
+        _ => {}
+    }
+    sound(random, &wish)
+}
+
+/// Sound files with 61s at many places.
+fn any_credits(random: &mut Random) -> Vec<Rec> {
+    let mut wish = Wish { credits: 70, letters: (1, 2), ..Wish::any() };
+    match random.below(6) {
+        0 => wish.contents = b"N",
+        1 => wish.contents = b"E",
+        2 => (wish.credits, wish.credit_views) = (100, 80),
+        3 => (wish.bundles, wish.items, wish.credit_views) = ((2, 4), (1, 1), 0),
         _ => {}
     }
     sound(random, &wish)
@@ -215,11 +231,18 @@ fn several(random: &mut Random) -> Made {
     made("several", records)
 }
 
+/// The edges that have nothing to do with 61s, and all.
+const PLAIN_EDGES: usize = 14;
+const EDGES: usize = PLAIN_EDGES + brim::SMALL_SORTS;
+
 /// Edges that stay small.
 fn edge(random: &mut Random, turn: usize) -> Made {
     let content = random.pick(b"EI");
     let mut run = |kind, first, second, stated| harm::long_run(random, kind, first, second, stated, content);
-    let records = match turn % 14 {
+    if turn % EDGES >= PLAIN_EDGES {
+        return Made { shape: "edge", bytes: brim::small(random, turn % EDGES - PLAIN_EDGES) };
+    }
+    let records = match turn % EDGES {
         0 => run(25, 0, 99, 99),
         1 => run(31, 0, 98, 99),
         2 => run(25, 0, 100, 99),
@@ -240,7 +263,8 @@ fn edge(random: &mut Random, turn: usize) -> Made {
 
 /// 101 items of the largest amount: the sum has thirteen digits, its last twelve are stated.
 fn beyond_twelve_digits(random: &mut Random) -> Made {
-    let wish = Wish { letters: (1, 1), bundles: (1, 1), addenda: (0, 0), extras: 0, contents: b"E", ..Wish::any() };
+    let wish =
+        Wish { letters: (1, 1), bundles: (1, 1), addenda: (0, 0), extras: 0, contents: b"E", ..Wish::no_credits() };
     let wish = Wish { items: (101, 101), kinds: &[25], ..wish };
     let mut records = sound(random, &wish);
     let count = random.pick(&[100, 101]);
@@ -267,11 +291,12 @@ fn beyond_twelve_digits(random: &mut Random) -> Made {
     made("edge", records)
 }
 
-/// The large files.
-pub const RARE_SORTS: usize = 7;
+/// The large files: some without 61s, 9,999 and 10,000 of them in a bundle, and sums of theirs that pass 64 bits.
+pub const RARE_SORTS: usize = 14;
 
 pub fn rare(random: &mut Random, turn: usize) -> Made {
-    let plain = Wish { letters: (1, 1), bundles: (1, 1), addenda: (0, 0), extras: 0, views: (1, 1), ..Wish::any() };
+    let plain =
+        Wish { letters: (1, 1), bundles: (1, 1), addenda: (0, 0), extras: 0, views: (1, 1), ..Wish::no_credits() };
     let many = Wish { items: (9_999, 9_999), contents: b"E", kinds: &[25], amount: 9_999, ..plain.clone() };
     match turn % RARE_SORTS {
         0 => made("rare: 9,999 items", sound(random, &many)),
@@ -286,8 +311,22 @@ pub fn rare(random: &mut Random, turn: usize) -> Made {
             let letters = Wish { letters: (2_000, 2_000), contents: b"N", ..plain };
             made("rare: 2,000 cash letters", sound(random, &letters))
         }
-        _ => many_views(random, &plain),
+        6 => many_views(random, &plain),
+        7 => large("rare: 9,999 credits", brim::bundle_of_many(random, 9_999)),
+        8 => large("rare: 10,000 credits", brim::bundle_of_many(random, 10_000)),
+        9 => large("rare: a letter's credits past 64 bits", brim::letter_past_64_bits(random, false, Stated::Wrapped)),
+        10 => large("rare: a letter's debits past 64 bits", brim::letter_past_64_bits(random, true, Stated::Wrapped)),
+        11 => large("rare: a file's credits past 64 bits", brim::file_past_64_bits(random, false)),
+        12 => large("rare: a file's debits past 64 bits", brim::file_past_64_bits(random, true)),
+        _ => {
+            let debit = random.percent(50);
+            large("rare: a bundle's 61s past 64 bits", brim::bundle_past_64_bits(random, debit))
+        }
     }
+}
+
+fn large(shape: &'static str, bytes: Vec<u8>) -> Made {
+    Made { shape, bytes }
 }
 
 /// One view of 9,999,999 image bytes.

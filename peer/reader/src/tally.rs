@@ -2,8 +2,10 @@
 
 use std::collections::BTreeMap;
 
-use crate::descent::{Number, Reading, Row};
-use crate::harm::{field_targets, lawful_pairs, place_targets, total_targets};
+use crate::books::{self, Slip};
+use crate::credits::{self, CreditPoint};
+use crate::descent::{split_record, Inside, Number, Reading, Row};
+use crate::harm::{field_targets, insides, key_fields, lawful_pairs, place_targets, slip_targets, total_targets};
 use crate::layout::{carried, layout, name_of, CARRIED, LAYOUTS, NOT_CARRIED};
 use crate::routing::{self, Shape};
 
@@ -18,10 +20,16 @@ pub enum Point {
     RoutingRefused(u8, u8, Shape),
     /// LINK at a 52 whose routing number has this shape and is not the bundle header's.
     RoutingUnlike(Shape),
-    PairAccepted(u8, u8),
-    PairRefused(u8, u8),
-    LinkRefused(u8, u8, &'static str),
+    /// Two types one after the other, and what the first belongs to.
+    PairAccepted(Inside, u8, u8),
+    PairRefused(Inside, u8, u8),
+    /// LINK at a field of a type; for a 50 or 52 what it belongs to, otherwise what the record before it belongs to.
+    LinkRefused(u8, u8, &'static str, Inside),
     TotalRefused(u8, u8),
+    /// TOTAL at a control field whose number can have come about so.
+    Slipped(u8, u8, Slip),
+    /// What an accepted file shows of 61s, or a refused one of their views (request 2).
+    Credit(CreditPoint),
     LengthRefused(u8, &'static str),
     BelowTwo,
     CutIn(&'static str),
@@ -58,10 +66,11 @@ impl Tally {
             Number::Accepted => {
                 self.note_pairs(reading);
                 reading.rows.iter().for_each(|row| self.note_routings(file, row));
+                credits::shown(file, &reading.rows).into_iter().for_each(|point| self.note(Point::Credit(point)));
             }
             Number::Place => {
                 if let Some(code) = code_at(file, answer.offset) {
-                    self.note(Point::PairRefused(reading.last, code));
+                    self.note(Point::PairRefused(reading.inside, reading.last, code));
                 }
             }
             Number::Field => {
@@ -69,10 +78,17 @@ impl Tally {
                 self.note_routing(file, answer.offset, field, Point::RoutingRefused);
             }
             Number::Link => {
-                self.note_typed(file, answer.offset, |code| Point::LinkRefused(code, field, reading.why));
+                self.note_typed(file, answer.offset, |code| {
+                    Point::LinkRefused(code, field, reading.why, reading.inside)
+                });
                 self.note_routing(file, answer.offset, field, |_, _, shape| Point::RoutingUnlike(shape));
+                let unlike = credits::unlike(&bodies(file, answer.record), field, reading.inside);
+                unlike.into_iter().for_each(|point| self.note(Point::Credit(point)));
             }
-            Number::Total => self.note_typed(file, answer.offset, |code| Point::TotalRefused(code, field)),
+            Number::Total => {
+                self.note_typed(file, answer.offset, |code| Point::TotalRefused(code, field));
+                self.note_slips(file, answer.record, field);
+            }
             Number::Length if reading.why == "below two" => self.note(Point::BelowTwo),
             Number::Length => self.note_typed(file, answer.offset, |code| Point::LengthRefused(code, reading.why)),
             Number::Cut => self.note(Point::CutIn(reading.why)),
@@ -107,11 +123,22 @@ impl Tally {
     }
 
     fn note_pairs(&mut self, reading: &Reading) {
-        let mut last = 0;
-        for row in &reading.rows {
-            let next = row[0] as u8;
-            self.note(Point::PairAccepted(last, next));
-            last = next;
+        let codes = || reading.rows.iter().map(|row| row[0] as u8);
+        let (mut inside, mut last) = (Inside::File, 0);
+        for (next, inside_of_next) in codes().zip(insides(codes())) {
+            self.note(Point::PairAccepted(inside, last, next));
+            (inside, last) = (inside_of_next, next);
+        }
+    }
+
+    /// How the wrong number of a control record can have come about.
+    fn note_slips(&mut self, file: &[u8], record: u64, field: u8) {
+        let bodies = bodies(file, record);
+        let at = bodies.len() - 1;
+        let code = books::code_of(bodies[at]);
+        let digits = layout(code).field(field).of(bodies[at]);
+        for slip in books::slips(&bodies, at, field, digits) {
+            self.note(Point::Slipped(code, field, slip));
         }
     }
 
@@ -144,35 +171,64 @@ fn code_at(file: &[u8], offset: u64) -> Option<u8> {
     (0..100).find(|code| name_of(*code) == name)
 }
 
-/// The LINK points of document 01.
+/// The first records of a file, as its lengths lead to them.
+fn bodies(file: &[u8], count: u64) -> Vec<&[u8]> {
+    let mut left = file;
+    let mut next = || {
+        let body = split_record(left)?;
+        left = &left[4 + body.len()..];
+        Some(body)
+    };
+    (0..count).map_while(|_| next()).collect()
+}
+
+/// The LINK points of document 01 and request 2.
 fn link_points() -> Vec<Point> {
+    use Inside::{CreditInBundle, CreditInLetter, Item, Letter};
     let mut points = Vec::new();
-    let mut link = |code, field, why| points.push(Point::LinkRefused(code, field, why));
+    let mut link = |code, field, why, inside| points.push(Point::LinkRefused(code, field, why, inside));
     for code in [26, 28, 32, 35] {
-        link(code, 2, "record number");
+        link(code, 2, "record number", Item);
     }
-    link(26, 2, "tenth of one digit");
-    link(32, 2, "tenth of one digit");
+    link(26, 2, "tenth of one digit", Item);
+    link(32, 2, "tenth of one digit", Item);
     for code in [26, 27, 28, 32, 33, 34, 35] {
-        link(code, 1, "addendum beyond the count");
+        link(code, 1, "addendum beyond the count", Item);
     }
-    for code in [25, 31, 50, 70] {
-        link(code, 1, "addenda owed");
+    for code in [25, 31, 50, 61, 70] {
+        link(code, 1, "addenda owed", Item);
     }
     let key = [(2, "routing number"), (3, "business date"), (4, "cycle number"), (5, "sequence number")];
-    for (field, why) in key.into_iter().chain([(7, "authenticator name"), (8, "key name")]) {
-        link(52, field, why);
+    for inside in [Item, CreditInBundle, CreditInLetter] {
+        let compared = key.into_iter().filter(|(field, _)| key_fields(inside).contains(field));
+        for (field, why) in compared.chain([(7, "authenticator name"), (8, "key name")]) {
+            link(52, field, why, inside);
+        }
+        link(50, 1, "view under E", inside);
     }
-    link(20, 1, "bundle under N");
-    link(50, 1, "view under E");
-    for why in ["no bundle under E", "no bundle under I", "no bundle under F"] {
-        link(90, 1, why);
+    for inside in [Letter, CreditInLetter] {
+        link(20, 1, "bundle under N", inside);
+        for why in ["no bundle under E", "no bundle under I", "no bundle under F"] {
+            link(90, 1, why, inside);
+        }
     }
-    for code in [25, 31, 70] {
-        link(code, 1, "no view under I");
-        link(code, 1, "no view under F");
+    for code in [25, 31, 61, 70] {
+        link(code, 1, "no view under I", Item);
+        link(code, 1, "no view under F", Item);
     }
     points
+}
+
+/// Wrong numbers of control records that wrong readers would take for right.
+fn slip_points() -> Vec<Point> {
+    let counted = slip_targets().into_iter().map(|(code, field, way)| Point::Slipped(code, field, Slip::Counted(way)));
+    let cents = [(70, 3), (70, 7), (90, 4), (90, 9), (99, 5), (99, 8)];
+    let long = cents
+        .into_iter()
+        .flat_map(|(code, field)| [Slip::CutToField, Slip::AllNines].map(|slip| Point::Slipped(code, field, slip)));
+    // A bundle has at most 9,999 debits and as many credits, and their sums do not reach 64 bits.
+    let wrapped = [(90, 4), (90, 9), (99, 5), (99, 8)];
+    counted.chain(long).chain(wrapped.map(|(code, field)| Point::Slipped(code, field, Slip::Wrapped))).collect()
 }
 
 /// Request 1: in each routing field each shape of contents, accepted or refused as it is to be; and 52s whose routing number, in
@@ -198,10 +254,12 @@ pub fn demanded() -> Vec<Point> {
     points.push(Point::Room);
     points.extend(field_targets().into_iter().map(|(code, field)| Point::FieldRefused(code, field)));
     points.extend(routing_points());
-    points.extend(lawful_pairs().into_iter().map(|(last, next)| Point::PairAccepted(last, next)));
-    points.extend(place_targets().into_iter().map(|(last, next)| Point::PairRefused(last, next)));
+    points.extend(lawful_pairs().into_iter().map(|(inside, last, next)| Point::PairAccepted(inside, last, next)));
+    points.extend(place_targets().into_iter().map(|(inside, last, next)| Point::PairRefused(inside, last, next)));
     points.extend(link_points());
     points.extend(total_targets().into_iter().map(|(code, field)| Point::TotalRefused(code, field)));
+    points.extend(slip_points());
+    points.extend(credits::demanded().into_iter().map(Point::Credit));
     for layout in &LAYOUTS {
         points.push(Point::LengthRefused(layout.code, "shorter than the fixed part"));
         let long = if layout.parts.is_empty() { "fixed record too long" } else { "stated parts" };
@@ -229,6 +287,8 @@ fn group_of(point: &Point) -> &'static str {
         Point::PairRefused(..) => "pairs refused at PLACE",
         Point::LinkRefused(..) => "LINK rules refused",
         Point::TotalRefused(..) => "control fields refused at TOTAL",
+        Point::Slipped(..) => "control fields and slips refused at TOTAL",
+        Point::Credit(point) => point.group(),
         Point::LengthRefused(..) => "types refused at LENGTH",
         Point::BelowTwo => "lengths below two",
         Point::CutIn(_) => "sorts of CUT",
@@ -260,7 +320,7 @@ mod tests {
     fn routing_points_are_met_and_no_others() {
         let tally = over(10_000);
         let demanded = routing_points();
-        assert_eq!(demanded.len(), 65 + 175 + 5);
+        assert_eq!(demanded.len(), 68 + 188 + 5);
         let of_routing = |point: &&Point| group_of(point).contains("routing");
         for point in tally.met.keys().filter(of_routing) {
             assert!(demanded.contains(point), "{point:?}");

@@ -9,7 +9,7 @@ use peer_reader::samples::samples;
 /// Number, record, field, offset.
 fn refusal(records: &[Vec<u8>]) -> (u64, u64, u64, u64) {
     let answer = read(&file(records)).answer;
-    assert_eq!(answer.listed()[4..], [0; 6], "no totals on a refusal");
+    assert_eq!(answer.listed()[4..], [0; 8], "no totals on a refusal");
     (answer.number as u64, answer.record, answer.field, answer.offset)
 }
 
@@ -33,8 +33,8 @@ fn the_three_whole_cases() {
 #[test]
 fn the_samples_are_as_worked_out() {
     let samples = samples();
-    assert_eq!(samples.iter().filter(|sample| sample.line.starts_with("accepted")).count(), 10);
-    assert_eq!(samples.iter().filter(|sample| sample.line.starts_with("refused")).count(), 16);
+    assert_eq!(samples.iter().filter(|sample| sample.line.starts_with("accepted")).count(), 13);
+    assert_eq!(samples.iter().filter(|sample| sample.line.starts_with("refused")).count(), 27);
     for sample in samples {
         assert!(sample.bytes.len() < 4096, "{}", sample.name);
         assert_eq!(line(&sample.bytes), sample.line, "{}", sample.name);
@@ -104,7 +104,7 @@ fn a_bundle_holds_9_999_items_and_no_more() {
     };
     let reading = whole(9_999, 9_999);
     assert_eq!(reading.answer.number, Number::Accepted);
-    assert_eq!(reading.answer.listed()[4..], [10_005, 1, 1, 9_999, 0, 9_999]);
+    assert_eq!(reading.answer.listed()[4..], [10_005, 1, 1, 9_999, 0, 9_999, 0, 0]);
     let last = reading.rows[3 + 9_998];
     assert_eq!(last, [25, 252 + 9_998 * 84, 80, 1, 1, 9_999, 1]);
     for stated in [0, 9_999] {
@@ -159,7 +159,7 @@ fn rows_of_a_small_file() {
     ];
     let bytes = file(&records);
     let reading = read(&bytes);
-    assert_eq!(reading.answer.listed(), [0, 19, 0, 1762, 19, 2, 2, 2, 2, 42]);
+    assert_eq!(reading.answer.listed(), [0, 19, 0, 1762, 19, 2, 2, 2, 2, 42, 0, 0]);
     assert_eq!(reading.rows, expected);
 
     // A table with two numbers to spare: they are left alone. One number short: all are.
@@ -168,7 +168,7 @@ fn rows_of_a_small_file() {
     assert_eq!(table[..19 * 7], expected.concat());
     assert_eq!(table[19 * 7..], [9, 9]);
     let mut table = vec![9; 19 * 7 - 1];
-    assert_eq!(read_into(&bytes, &mut table).listed(), [2, 19, 0, 0, 0, 0, 0, 0, 0, 0]);
+    assert_eq!(read_into(&bytes, &mut table).listed(), [2, 19, 0, 0, 0, 0, 0, 0, 0, 0, 0, 0]);
     assert!(table.iter().all(|number| *number == 9));
 
     // The image of the first 52 starts after the length field and the fixed part; the second is empty.
@@ -294,7 +294,7 @@ const FINANCIAL_ALONE: [Place; 5] =
 /// Clauses 10.4 and 14.4 list TTTTAAAAC, TTTTT-FFF, TTTT-AAAA and bTTTTAAAA; both are mandatory and of type NBMcd.
 const OF_THE_PAYOR: [Place; 2] = [(4, 4, 19, 252), (11, 4, 19, 934)];
 
-/// All fifteen routing fields: 01, 10, 20, 25, 26, 28, 50, 52, 70, 20, 31, 32, 33, 35, 50, 52, 70, 90, 99. A 26 and a 32 take 119 bytes,
+/// Every routing field but 61.5, which is tried in `hand_credits.rs`: 01, 10, 20, 25, 26, 28, 50, 52, 70, 20, 31, 32, 33, 35, 50, 52, 70, 90, 99. A 26 and a 32 take 119 bytes,
 /// a bare 52 takes 143, the 90 takes 89, all others take 84: 238 + 286 + 89 + 14 x 84 = 1789.
 fn with_all_routing_fields() -> Vec<Vec<u8>> {
     vec![
@@ -321,7 +321,7 @@ fn with_all_routing_fields() -> Vec<Vec<u8>> {
 }
 
 /// Puts contents at a position of a record; both count from 1.
-fn put(records: &mut [Vec<u8>], record: usize, position: usize, contents: &[u8]) {
+fn put_at(records: &mut [Vec<u8>], record: usize, position: usize, contents: &[u8]) {
     records[record - 1][position - 1..position - 1 + contents.len()].copy_from_slice(contents);
 }
 
@@ -393,15 +393,15 @@ fn each_routing_field_takes_the_forms_that_it_lists() {
         for (places, passes) in lists {
             for (record, field, position, offset) in places.iter().copied() {
                 let mut records = with_all_routing_fields();
-                put(&mut records, record, position, contents);
+                put_at(&mut records, record, position, contents);
                 if passes && matches!((record, field), (3, 4) | (8, 2)) {
-                    put(&mut records, 3, 14, contents);
-                    put(&mut records, 8, 3, contents);
+                    put_at(&mut records, 3, 14, contents);
+                    put_at(&mut records, 8, 3, contents);
                 }
                 let answer = read(&file(&records)).answer.listed();
                 let expected = match passes {
-                    true => [0, 19, 0, 1789, 19, 1, 2, 2, 2, 142],
-                    false => [7, record as u64, field, offset, 0, 0, 0, 0, 0, 0],
+                    true => [0, 19, 0, 1789, 19, 1, 2, 2, 2, 142, 0, 0],
+                    false => [7, record as u64, field, offset, 0, 0, 0, 0, 0, 0, 0, 0],
                 };
                 assert_eq!(answer, expected, "record {record} field {field}: '{}'", contents.escape_ascii());
             }
@@ -414,8 +414,8 @@ fn each_routing_field_takes_the_forms_that_it_lists() {
 fn a_52_repeats_the_routing_number_byte_by_byte() {
     let answer = |of_bundle: &[u8], of_view: &[u8]| {
         let mut records = with_all_routing_fields();
-        put(&mut records, 3, 14, of_bundle);
-        put(&mut records, 8, 3, of_view);
+        put_at(&mut records, 3, 14, of_bundle);
+        put_at(&mut records, 8, 3, of_view);
         read(&file(&records)).answer.listed()[..4].to_vec()
     };
     for same in [b"12345-678", b"1234     ", b"     1234", b"123456781"] {
@@ -442,7 +442,7 @@ fn a_52_repeats_the_routing_number_byte_by_byte() {
 fn the_picture_call_takes_the_same_forms() {
     let answer = |contents: &[u8]| {
         let mut records = vec![view_data(b"R")];
-        put(&mut records, 1, 3, contents);
+        put_at(&mut records, 1, 3, contents);
         picture(&file(&records), 0).listed()
     };
     for passes in [b"12345-678", b"123456781", b"7        ", b"       77"] {

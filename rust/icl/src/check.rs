@@ -4,7 +4,7 @@ use crate::args::Args;
 use crate::input::{bytes, judged, Input};
 use crate::screen::{coloured, complain, print, Colour};
 use crate::stop::{Stop, DONE, REFUSED, TROUBLE};
-use crate::words::{self, amount, counted};
+use crate::words::{self, counted, sums};
 
 pub fn run(args: Args) -> Result<u8, Stop> {
     let files = args.several()?;
@@ -47,8 +47,7 @@ fn accepted(totals: &x9180::Totals) -> String {
         counted(totals.records, "record"),
         counted(totals.letters, "cash letter"),
         counted(totals.bundles, "bundle"),
-        counted(totals.items, "item"),
-        counted(totals.views, "view"),
+        sums(totals),
     ];
-    format!("ACCEPTED: all rules hold\n{}, debits of {}", parts.join(", "), amount(totals.debit))
+    format!("ACCEPTED: all rules hold\n{}", parts.join(", "))
 }

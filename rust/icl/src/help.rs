@@ -29,7 +29,8 @@ Prints a line for each file:
 With several files each line is preceded by the file's name. A file of more than 268435456 bytes
 is refused with number 1, and told on standard error besides.
   --explain   adds the fault in plain words: the number's name, the record and field with their
-              names in the standard, the bytes found there, and what they disagree with
+              names in the standard, the bytes found there, and what they disagree with; for an
+              accepted file the debits and the credits it adds up to
 
 N is 1 SIZE, 2 ROOM, 3 CUT, 4 LENGTH, 5 TYPE, 6 PLACE, 7 FIELD, 8 LINK, 9 TOTAL, 10 OPEN or 11 AFTER.
 Exit status: 0 all accepted, 1 some refused, 2 something could not be read.
@@ -40,7 +41,9 @@ icl rows [--csv | --json] FILE
 
 Prints a row for each record of an accepted file: the record's ordinal, its type, the offset of its
 length field, its length, the ordinals of its cash letter, bundle and item (0 outside any), the amount
-in cents (of an item, or what the part that a control record closes adds up to), the name of its kind.
+in cents (of an item, or the debits that the part which a control record closes adds up to), the name of
+its kind. A credit (type 61) in a bundle is an item of it; one directly in a cash letter has bundle 0 and
+item 0, and so have its views.
   --csv       comma separated, with a first line of column names
   --json      an array of objects, one on a line
 Exit status: 0 accepted, 1 refused (told on standard error), 2 it could not be read.
@@ -50,8 +53,10 @@ const TREE: &str = "\
 icl tree FILE
 
 Prints the cash letters, bundles, items, addenda and views of an accepted file, each level with its own
-sums, and the routing numbers, dates and sequence numbers as they stand in the file. The offset beside a
-picture is the one that icl picture takes.
+debits and credits, and the routing numbers, dates and sequence numbers as they stand in the file. A credit
+(type 61) in a bundle is one of its items; those directly in a cash letter stand between its bundles as
+credit record 1, 2 and so on. With Record Usage Indicator 9 it is a debit adjustment and counts as a debit.
+The offset beside a picture is the one that icl picture takes.
 Exit status: 0 accepted, 1 refused (told on standard error), 2 it could not be read.
 ";
 
@@ -69,10 +74,12 @@ const PICTURES: &str = "\
 icl pictures [--force] FILE DIR
 
 Writes the picture of every view of an accepted file into the folder DIR, made where it is missing, under
-the ordinals of its cash letter, bundle, item and view: letter-001_bundle-001_item-0001_view-01.tif. The
-ending is the one that the standard gives for the view's format (field 5 of its type 50 record), or img.
-A view without image bytes gives an empty file. All pictures are written under temporary names first and
-then renamed, so that on any fault none is left behind.
+the ordinals of its cash letter, bundle, item and view: letter-001_bundle-001_item-0001_view-01.tif. A
+credit (type 61) in a bundle is one of its items. Those directly in a cash letter are counted by themselves,
+with views or without, and their pictures are letter-001_credit-0001_view-01.tif and so on. The ending is the
+one that the standard gives for the view's format (field 5 of its type 50 record), or img. A view without
+image bytes gives an empty file. All pictures are written under temporary names first and then renamed, so
+that on any fault none is left behind.
   --force     overwrite pictures that are there already; otherwise none is written if one is there
 Exit status: 0 written, 1 refused (told on standard error), 2 something could not be read or written.
 ";

@@ -3,7 +3,7 @@
 use std::io::{stdout, Write};
 use std::path::{Path, PathBuf};
 
-use x9180::{Reading, View};
+use x9180::{Content, Item, Reading, View};
 
 use crate::args::Args;
 use crate::input;
@@ -88,19 +88,31 @@ fn trouble(path: &Path, error: &std::io::Error) -> Stop {
 fn named_views(reading: &Reading, bytes: &[u8]) -> Vec<(PathBuf, u64)> {
     let mut views = Vec::new();
     for letter in reading.letters() {
-        for bundle in letter.bundles() {
-            for item in bundle.items() {
-                for view in item.views() {
-                    let (letter, bundle, item) = (letter.ordinal(), bundle.ordinal(), item.ordinal());
-                    let (ordinal, ending) = (view.ordinal(), ending(&view, bytes));
-                    let name =
-                        format!("letter-{letter:03}_bundle-{bundle:03}_item-{item:04}_view-{ordinal:02}.{ending}");
-                    views.push((PathBuf::from(name), view.offset()));
+        let letter_name = format!("letter-{:03}", letter.ordinal());
+        for content in letter.contents() {
+            match content {
+                Content::Bundle(bundle) => {
+                    let bundle_name = format!("{letter_name}_bundle-{:03}", bundle.ordinal());
+                    for item in bundle.items() {
+                        let name = format!("{bundle_name}_item-{:04}", item.ordinal());
+                        views.extend(named_views_of(&item, &name, bytes));
+                    }
+                }
+                // Outside every bundle: counted among those directly in the cash letter.
+                Content::Credit(credit) => {
+                    let name = format!("{letter_name}_credit-{:04}", credit.ordinal());
+                    views.extend(named_views_of(&credit, &name, bytes));
                 }
             }
         }
     }
     views
+}
+
+/// The names and offsets of an item's views.
+fn named_views_of(item: &Item<'_>, item_name: &str, bytes: &[u8]) -> Vec<(PathBuf, u64)> {
+    let name = |view: &View<'_>| format!("{item_name}_view-{:02}.{}", view.ordinal(), ending(view, bytes));
+    item.views().map(|view| (PathBuf::from(name(&view)), view.offset())).collect()
 }
 
 /// The ending that clause 21.5 gives for the view's format.

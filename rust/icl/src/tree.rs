@@ -2,12 +2,12 @@
 
 use std::io::{stdout, BufWriter, Result, Write};
 
-use x9180::{Form, Item, Reading, Row, Totals, Usage};
+use x9180::{Bundle, Content, Field, Form, Item, ItemKind, Letter, Reading, Row, Usage, View};
 
 use crate::args::Args;
 use crate::input;
 use crate::stop::{Stop, DONE};
-use crate::words::{amount, counted};
+use crate::words::{amount, counted, sums};
 
 /// Lines of fields are broken before they grow longer than this.
 const WIDTH: usize = 110;
@@ -32,53 +32,56 @@ impl<Out: Write> Tree<'_, Out> {
         let bundles = counted(totals.bundles, "bundle");
         writeln!(self.out, "file: {records}, {letters}, {bundles}, {}", sums(&totals))?;
         self.fields(4, reading.header().into_iter().chain(reading.control()))?;
-        for letter in reading.letters() {
-            let totals = letter.totals();
-            let bundles = counted(totals.bundles, "bundle");
-            writeln!(self.out, "  cash letter {}: {bundles}, {}", letter.ordinal(), sums(&totals))?;
-            self.fields(6, ends(letter.rows()))?;
-            for bundle in letter.bundles() {
-                writeln!(self.out, "    bundle {}: {}", bundle.ordinal(), sums(&bundle.totals()))?;
-                self.fields(8, ends(bundle.rows()))?;
-                for item in bundle.items() {
-                    self.item(&item)?;
-                }
-            }
-        }
-        Ok(())
+        reading.letters().try_for_each(|letter| self.letter(&letter))
     }
 
-    fn item(&mut self, item: &Item<'_>) -> Result<()> {
-        let kind = if item.rows().first().is_some_and(|row| row.record_type == 31) { "return" } else { "check" };
-        writeln!(self.out, "      item {}: {kind} of {}", item.ordinal(), amount(item.amount()))?;
-        self.fields(10, item.rows().first())?;
+    fn letter(&mut self, letter: &Letter<'_>) -> Result<()> {
+        let totals = letter.totals();
+        let bundles = counted(totals.bundles, "bundle");
+        writeln!(self.out, "  cash letter {}: {bundles}, {}", letter.ordinal(), sums(&totals))?;
+        self.fields(6, ends(letter.rows()))?;
+        letter.contents().try_for_each(|content| match content {
+            Content::Bundle(bundle) => self.bundle(&bundle),
+            Content::Credit(credit) => self.item(4, "credit record", &credit),
+        })
+    }
+
+    fn bundle(&mut self, bundle: &Bundle<'_>) -> Result<()> {
+        writeln!(self.out, "    bundle {}: {}", bundle.ordinal(), sums(&bundle.totals()))?;
+        self.fields(8, ends(bundle.rows()))?;
+        bundle.items().try_for_each(|item| self.item(6, "item", &item))
+    }
+
+    fn item(&mut self, indent: usize, name: &str, item: &Item<'_>) -> Result<()> {
+        let (ordinal, what, amount) = (item.ordinal(), what_it_is(item), amount(item.amount()));
+        writeln!(self.out, "{:indent$}{name} {ordinal}: {what} of {amount}", "")?;
+        self.fields(indent + 4, item.rows().first())?;
         for (ordinal, addendum) in (1..).zip(item.addenda()) {
             let kind = addendum.kind().map_or_else(String::new, |kind| kind.to_string());
-            writeln!(self.out, "        addendum {ordinal}: {kind}")?;
-            self.fields(12, Some(addendum))?;
+            writeln!(self.out, "{:indent$}  addendum {ordinal}: {kind}", "")?;
+            self.fields(indent + 6, Some(addendum))?;
         }
-        for view in item.views() {
-            let side = match view.detail().and_then(|row| row.field(self.file, 8)) {
-                Some(b"0") => "front",
-                Some(b"1") => "back",
-                _ => "side not told",
-            };
-            let picture = x9180::picture(self.file, view.offset()).map_or(0, <[u8]>::len);
-            let (ordinal, picture) = (view.ordinal(), counted(picture as u64, "byte"));
-            writeln!(self.out, "        view {ordinal}: {side}, picture of {picture}, at offset {}", view.offset())?;
-            self.fields(12, view.detail())?;
-        }
-        Ok(())
+        item.views().try_for_each(|view| self.view(indent + 2, &view))
     }
 
-    /// The routing numbers, dates and sequence numbers of records as they stand in the file. A conditional field left blank is not shown.
+    fn view(&mut self, indent: usize, view: &View<'_>) -> Result<()> {
+        let side = match view.detail().and_then(|row| row.field(self.file, 8)) {
+            Some(b"0") => "front",
+            Some(b"1") => "back",
+            _ => "side not told",
+        };
+        let picture = x9180::picture(self.file, view.offset()).map_or(0, <[u8]>::len);
+        let (ordinal, offset, picture) = (view.ordinal(), view.offset(), counted(picture as u64, "byte"));
+        writeln!(self.out, "{:indent$}view {ordinal}: {side}, picture of {picture}, at offset {offset}", "")?;
+        self.fields(indent + 4, view.detail())
+    }
+
+    /// Fields of records as they stand in the file, those that are wanted. A conditional field left blank is not shown.
     fn fields<'r>(&mut self, indent: usize, rows: impl IntoIterator<Item = &'r Row>) -> Result<()> {
         let mut line = String::new();
         for row in rows {
             for field in row.kind().map_or(&[][..], |kind| kind.fields) {
-                let wanted =
-                    matches!(field.form, Form::Routing(_) | Form::Date) || field.name.ends_with("Sequence Number");
-                let Some(bytes) = row.field(self.file, field.number).filter(|_| wanted) else { continue };
+                let Some(bytes) = row.field(self.file, field.number).filter(|_| is_wanted(field)) else { continue };
                 let blank = bytes.iter().all(|byte| *byte == b' ');
                 if blank && field.usage == Usage::Conditional {
                     continue;
@@ -99,12 +102,24 @@ impl<Out: Write> Tree<'_, Out> {
     }
 }
 
+/// Routing numbers, dates, sequence numbers, and what a credit is for (clause 26.2).
+fn is_wanted(field: &Field) -> bool {
+    matches!(field.form, Form::Routing(_) | Form::Date)
+        || field.name.ends_with("Sequence Number")
+        || field.name == "Record Usage Indicator"
+}
+
+/// The item's kind; a Credit/Reconciliation Record that makes a debit by the standard's own word for it.
+fn what_it_is(item: &Item<'_>) -> &'static str {
+    match (item.kind(), item.is_debit()) {
+        (ItemKind::Check, _) => "check",
+        (ItemKind::Return, _) => "return",
+        (ItemKind::Credit, false) => "credit",
+        (ItemKind::Credit, true) => "debit adjustment",
+    }
+}
+
 /// A level's header and its control.
 fn ends(rows: &[Row]) -> impl Iterator<Item = &Row> {
     rows.first().into_iter().chain(rows.last())
-}
-
-fn sums(totals: &Totals) -> String {
-    let (items, views) = (counted(totals.items, "item"), counted(totals.views, "view"));
-    format!("{items}, {views}, debits of {}", amount(totals.debit))
 }

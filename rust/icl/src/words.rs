@@ -1,7 +1,9 @@
-//! How things are said: names of files, errors of the system, amounts and counts.
+//! How things are said: names of files, errors of the system, amounts, counts and sums.
 
 use std::ffi::OsStr;
 use std::io::{Error, ErrorKind};
+
+use x9180::Totals;
 
 /// A name as it is printed: control characters escaped, so that a name stays on its line.
 pub fn name(name: &OsStr) -> String {
@@ -49,6 +51,17 @@ pub fn grouped(number: u64) -> String {
         text.push(digit);
     }
     text
+}
+
+/// What a part of a file adds up to: `2 items, 1 view, 1 debit of 3.50, 1 credit of 0.07`.
+pub fn sums(totals: &Totals) -> String {
+    let parts = [
+        counted(totals.items, "item"),
+        counted(totals.views, "view"),
+        format!("{} of {}", counted(totals.debit_items(), "debit"), amount(totals.debit)),
+        format!("{} of {}", counted(totals.credit_items, "credit"), amount(totals.credit)),
+    ];
+    parts.join(", ")
 }
 
 /// A count with its noun: `1 item`, `2 items`.

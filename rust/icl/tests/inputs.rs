@@ -2,7 +2,7 @@
 
 mod common;
 
-use common::{icl, outcome, piped, read, run, Folder};
+use common::{icl, outcome, pictured_credits, piped, read, run, Folder};
 
 const SOUND: &str = "peer/samples/sound-2-checks.x9";
 const DAMAGED: &str = "peer/samples/damaged-06-item-count.x9";
@@ -46,6 +46,9 @@ fn check_prints_the_expected_line_of_every_sample() {
     let pictured = "samples/two-letters-with-pictures.x9";
     assert_eq!(run(&format!("check {pictured}")), (0, format!("{line}\n"), String::new()));
     assert_eq!(peer_reader::pictures::pictured(), read(pictured), "the sample is the one that the generator writes");
+    let credits = "samples/credits-with-pictures.x9";
+    assert_eq!(run(&format!("check {credits}")), (0, format!("{}\n", pictured_credits::LINE), String::new()));
+    assert_eq!(pictured_credits::pictured_credits(), read(credits), "the sample is the one that the example writes");
 }
 
 #[test]
@@ -57,17 +60,49 @@ fn check_explains() {
             format!(
                 "{SOUND}: accepted records 12 letters 1 bundles 1 items 2 views 0 debit 350\n\
                  \x20 ACCEPTED: all rules hold\n\
-                 \x20 12 records, 1 cash letter, 1 bundle, 2 items, 0 views, debits of 3.50\n\
+                 \x20 12 records, 1 cash letter, 1 bundle, 2 items, 0 views, 2 debits of 3.50, 0 credits of 0.00\n\
                  {DAMAGED}: refused 9 record 10 field 2 offset 818\n\
                  \x20 TOTAL: a control field is not what its part of the file adds up to\n\
                  \x20 record 10, Bundle Control Record (type 70), at offset 818\n\
                  \x20 field 2, Bundle Debit Item Count, at offset 824\n\
                  \x20 found \"0003\"\n\
-                 \x20 items in the bundle: 2\n"
+                 \x20 debit items in the bundle: 2\n"
             ),
             String::new()
         )
     );
+}
+
+/// Request 2: both sides of an accepted file, and both sides of a part that does not add up.
+#[test]
+fn check_explains_credits() {
+    // Debits: the check of 400.00 and the 61 of usage 9 and 0.05. Credits: 61s of 1,000.00, 123.45 and 0.07.
+    assert_eq!(
+        run("check --explain peer/samples/sound-11-credits.x9"),
+        (
+            0,
+            "accepted records 17 letters 1 bundles 1 items 5 views 3 debit 40005\n  ACCEPTED: all rules hold\n  17 records, 1 cash \
+             letter, 1 bundle, 5 items, 3 views, 2 debits of 400.05, 3 credits of 1,123.52\n"
+                .to_string(),
+            String::new()
+        )
+    );
+    // The 70 stands at 764; its field 3 is at positions 7 to 18. Returns of 10 and 20 cents, 61s of 1,000 and 2,000, of which the first was added to the debits.
+    let lines = [
+        "refused 9 record 10 field 3 offset 764",
+        "  TOTAL: a control field is not what its part of the file adds up to",
+        "  record 10, Bundle Control Record (type 70), at offset 764",
+        "  field 3, Bundle Debit Total Amount, at offset 774",
+        "  found \"000000001030\"",
+        "  cents of the debit items in the bundle: 30; of the credit items: 3000",
+    ];
+    let output = format!("{}\n", lines.join("\n"));
+    assert_eq!(run("check --explain peer/samples/damaged-24-credit-as-debit.x9"), (1, output, String::new()));
+    let output = "refused 6 record 2 field 0 offset 84\n  PLACE: a record of this type may not stand here\n  \
+                  record 2, Credit/Reconciliation Record (type 61), at offset 84\n  \
+                  the record before it is record 1, File Header Record (type 01)\n  no cash letter is open here\n";
+    let file = "peer/samples/damaged-19-61-in-no-letter.x9";
+    assert_eq!(run(&format!("check --explain {file}")), (1, output.to_string(), String::new()));
 }
 
 /// Request 1: the forms that the field takes, and the check digit that should stand there.
@@ -117,7 +152,7 @@ fn damaged() {
             format!(
                 "icl: {DAMAGED}: refused 9 record 10 field 2 offset 818: TOTAL: a control field is not what its part of the file \
                  adds up to; record 10, Bundle Control Record (type 70), at offset 818; field 2, Bundle Debit Item Count, at offset \
-                 824; found \"0003\"; items in the bundle: 2\n"
+                 824; found \"0003\"; debit items in the bundle: 2\n"
             )
         );
     }

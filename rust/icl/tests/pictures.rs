@@ -8,6 +8,7 @@ use std::process::{Command, Stdio};
 use common::{icl, read, root, run, write_largest, Folder};
 
 const PICTURED: &str = "samples/two-letters-with-pictures.x9";
+const CREDITED: &str = "samples/credits-with-pictures.x9";
 
 /// Each view of the sample with pictures: name, offset of its 52, and the length of its picture. With their lengths a record takes 84
 /// bytes, a 26 or 32 takes 119, a 90 takes 89, a 52 takes 143 and its picture.
@@ -41,6 +42,43 @@ fn every_picture_under_its_ordinals() {
         let written = fs::read(folder.0.join("out").join(name)).unwrap();
         assert_eq!(written, file[offset + 143..][..length], "{name}");
         assert_eq!(written, drawn(name), "{name}");
+    }
+}
+
+/// Each view of the sample with credits, in the order of the names. A picture of so many bars, n, in g groups has 138 bytes and 32 + 66 n + 8 g bits.
+const CREDIT_VIEWS: [(&str, usize, usize); 14] = [
+    ("letter-001_bundle-001_item-0001_view-01.tif", 1314, 179),
+    ("letter-001_bundle-001_item-0002_view-01.tif", 1804, 188),
+    ("letter-001_bundle-001_item-0002_view-02.tif", 2219, 196),
+    ("letter-001_bundle-001_item-0003_view-01.tif", 2726, 196),
+    ("letter-001_bundle-001_item-0003_view-02.tif", 3149, 204),
+    ("letter-001_bundle-002_item-0001_view-01.tif", 4008, 188),
+    ("letter-001_bundle-002_item-0001_view-02.tif", 4423, 196),
+    ("letter-001_credit-0001_view-01.tif", 340, 170),
+    ("letter-001_credit-0001_view-02.tif", 737, 178),
+    ("letter-001_credit-0003_view-01.tif", 5018, 187),
+    ("letter-002_bundle-001_item-0001_view-01.tif", 5857, 188),
+    ("letter-002_bundle-001_item-0001_view-02.tif", 6272, 196),
+    ("letter-002_bundle-001_item-0002_view-01.tif", 6783, 196),
+    ("letter-002_credit-0001_view-01.tif", 7378, 178),
+];
+
+/// A credit in a bundle is one of its items; one directly in a cash letter is counted among those, with a view or without.
+#[test]
+fn pictures_of_credits() {
+    let folder = Folder::new("credits");
+    let out = folder.path("out");
+    // 179 + 3 x 188 + 5 x 196 + 204 + 170 + 2 x 178 + 187 = 2,640.
+    let said = format!("14 pictures (2,640 bytes) written to {out}\n");
+    assert_eq!(run(&format!("pictures {CREDITED} {out}")), (0, said, String::new()));
+    assert_eq!(folder.names("out"), CREDIT_VIEWS.map(|view| view.0));
+    let file = read(CREDITED);
+    for (name, offset, length) in CREDIT_VIEWS {
+        let written = fs::read(folder.0.join("out").join(name)).unwrap();
+        assert_eq!(written, file[offset + 143..][..length], "{name}");
+        assert_eq!(written, drawn(name), "{name}");
+        let one = icl(["picture", CREDITED, &offset.to_string(), "-o", "-"]).output().unwrap();
+        assert_eq!(one.stdout, written, "{name}");
     }
 }
 

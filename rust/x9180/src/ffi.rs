@@ -1,19 +1,19 @@
 //! The two calls of include/x9180.h. All unsafe code of the crate stands here. It imports the row that the library fills, and no other
 //! module.
 
-use crate::reading::Row;
+use crate::row::Row;
 
 extern "C" {
     fn x9_read(file: *const u8, file_len: usize, table: *mut u64, table_len: usize, answer: *mut u64) -> u64;
     fn x9_picture(file: *const u8, file_len: usize, offset: u64, place: *mut u64) -> u64;
 }
 
-/// Reads a file into rows and gives the ten numbers of the answer.
-pub(crate) fn read(file: &[u8], rows: &mut [Row]) -> [u64; 10] {
-    let mut answer = [0; 10];
+/// Reads a file into rows and gives the twelve numbers of the answer.
+pub(crate) fn read(file: &[u8], rows: &mut [Row]) -> [u64; 12] {
+    let mut answer = [0; 12];
     let numbers = rows.len() * Row::NUMBERS;
     // SAFETY: the file's pointer goes with its own length. A row is `repr(C)` and seven u64 long, so the rows are that many numbers
-    // at one pointer, which the exclusive borrow keeps apart from the file. The answer has the ten numbers that the call fills. No
+    // at one pointer, which the exclusive borrow keeps apart from the file. The answer has the twelve numbers that the call fills. No
     // pointer of a slice is null, and the call keeps none.
     unsafe { x9_read(file.as_ptr(), file.len(), rows.as_mut_ptr().cast(), numbers, answer.as_mut_ptr()) };
     answer

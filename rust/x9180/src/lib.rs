@@ -14,6 +14,9 @@
 //! # }
 //! ```
 //!
+//! A cash letter holds bundles, and credits between them ([`Letter::contents`]); the items of a bundle are checks or returns, and credits among
+//! them ([`Bundle::items`]). Every item is a debit or a credit ([`Item::is_debit`]), and every level has the sums of both ([`Totals`]).
+//!
 //! No call panics, whatever the bytes. The words of a refusal are not proved: they tell what stands in the file at the place that the
 //! proved library names.
 #![warn(missing_docs)]
@@ -21,18 +24,27 @@
 // Imports go one way. This root imports the modules, and no module imports the root; among themselves each imports only those that stand
 // right of it on a line below. `tests/imports.rs` fails if two of them come to import each other.
 //
+//     explain → before → sums
+//     explain → before → shown
 //     explain → refusal → kinds → digits
-//     ffi → reading → kinds → digits
+//     before → kinds → digits
+//     ffi → row → kinds → digits
+//     reading → row → kinds → digits
+mod before;
 mod digits;
 mod explain;
 mod ffi;
 mod kinds;
 mod reading;
 mod refusal;
+mod row;
+mod shown;
+mod sums;
 
 pub use kinds::{DataType, Field, Form, Kind, Place, RoutingForm, Usage, KINDS};
-pub use reading::{Bundle, Item, Letter, Reading, Row, Totals, View};
+pub use reading::{Bundle, Content, Item, ItemKind, Letter, Reading, Totals, View};
 pub use refusal::{Number, Refusal};
+pub use row::Row;
 
 /// The most bytes that a file may have.
 pub const LIMIT: usize = 268_435_456;
@@ -52,11 +64,13 @@ pub const LIMIT: usize = 268_435_456;
 pub fn read(file: &[u8]) -> Result<Reading, Refusal> {
     let mut rows = Vec::new();
     loop {
-        let [number, record, field, offset, records, letters, bundles, items, views, debit] =
+        let [number, record, field, offset, records, letters, bundles, items, views, debit, credit_items, credit] =
             ffi::read(file, &mut rows);
         match Number(number) {
             Number::ACCEPTED => {
-                return Ok(Reading { rows, totals: Totals { records, letters, bundles, items, views, debit } });
+                let totals = Totals { records, letters, bundles, items, views, debit, credit_items, credit };
+                let no_memory = || explain::reading(file, Number::ROOM, records, 0, 0);
+                return Reading::of(file, rows, totals).ok_or_else(no_memory);
             }
             // The first call, with no rows, tells how many are needed; the second has them.
             Number::ROOM if rows.is_empty() && room(&mut rows, record) => {}

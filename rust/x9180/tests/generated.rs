@@ -2,56 +2,121 @@
 
 use peer_reader::random::Random;
 use peer_reader::stream::{file, shaped};
-use x9180::{picture, read, Number, Totals};
+use x9180::{picture, read, Bundle, Content, Item, ItemKind, Letter, Number, Row, Totals};
 
-/// In every accepted file the levels hold each row once, and their sums are those that the library added up.
+/// In every accepted file the levels hold each row once, in order, and their sums are those that the library added up and that the
+/// control records state.
 #[test]
 fn levels_hold_every_row() {
-    let (mut accepted, mut pictures) = (0, 0);
+    let (mut accepted, mut seen) = (0, Seen::default());
     for index in (0..4_000).filter(|index| index % 5_000 != 2_500) {
         let file = file(9, index).bytes;
         let Ok(reading) = read(&file) else { continue };
-        let mut rows = vec![reading.rows()[0]];
-        let mut sums = Totals { records: 2, ..Totals::default() };
+        let mut walk = Walk { file: &file, rows: vec![reading.rows()[0]], sums: Totals::default(), seen };
         for letter in reading.letters() {
-            let of_letter = letter.totals();
-            sums.records += of_letter.records;
-            sums.letters += 1;
-            rows.push(letter.rows()[0]);
-            for bundle in letter.bundles() {
-                sums.bundles += 1;
-                rows.push(bundle.rows()[0]);
-                for item in bundle.items() {
-                    sums.items += 1;
-                    sums.debit += item.amount();
-                    rows.push(item.rows()[0]);
-                    rows.extend(item.addenda());
-                    for view in item.views() {
-                        sums.views += 1;
-                        rows.extend(view.rows());
-                        let found = peer_reader::picture::picture(&file, view.offset());
-                        assert_eq!(
-                            picture(&file, view.offset()).unwrap(),
-                            &file[found.start as usize..][..found.length as usize]
-                        );
-                        pictures += 1;
-                    }
-                    assert_eq!(
-                        letter.bundle(bundle.ordinal()).unwrap().item(item.ordinal()).unwrap().rows(),
-                        item.rows()
-                    );
-                }
-                rows.extend(bundle.rows().last());
-            }
-            rows.extend(letter.rows().last());
+            walk.letter(&letter);
             assert_eq!(reading.letter(letter.ordinal()).unwrap().rows(), letter.rows());
         }
-        rows.extend(reading.control());
-        assert_eq!(rows, reading.rows(), "file {index}");
-        assert_eq!(sums, reading.totals(), "file {index}");
+        walk.rows.extend(reading.control());
+        walk.sums.records = walk.rows.len() as u64;
+        assert_eq!(walk.rows, reading.rows(), "file {index}");
+        assert_eq!(walk.sums, reading.totals(), "file {index}");
+        seen = walk.seen;
         accepted += 1;
     }
-    assert!(accepted > 800 && pictures > 800, "{accepted} files, {pictures} pictures");
+    assert!(accepted > 800 && seen.pictures > 800, "{accepted} files, {seen:?}");
+    assert!(seen.credits_in_letters > 100 && seen.credits_in_bundles > 100 && seen.debit_adjustments > 20, "{seen:?}");
+}
+
+#[derive(Clone, Copy, Debug, Default)]
+struct Seen {
+    pictures: u64,
+    credits_in_letters: u64,
+    credits_in_bundles: u64,
+    debit_adjustments: u64,
+}
+
+/// Goes through the levels, and writes down the rows and adds up the amounts on the way.
+struct Walk<'f> {
+    file: &'f [u8],
+    rows: Vec<Row>,
+    sums: Totals,
+    seen: Seen,
+}
+
+impl Walk<'_> {
+    fn letter(&mut self, letter: &Letter<'_>) {
+        self.sums.letters += 1;
+        self.rows.push(letter.rows()[0]);
+        for content in letter.contents() {
+            match content {
+                Content::Bundle(bundle) => {
+                    self.bundle(&bundle);
+                    assert_eq!(letter.bundle(bundle.ordinal()).unwrap().rows(), bundle.rows());
+                }
+                Content::Credit(credit) => {
+                    self.seen.credits_in_letters += 1;
+                    assert_eq!(credit.kind(), ItemKind::Credit);
+                    self.item(&credit);
+                    assert!(credit.rows().iter().all(|row| (row.bundle, row.item) == (0, 0)));
+                    assert_eq!(letter.credit(credit.ordinal()).unwrap().rows(), credit.rows());
+                }
+            }
+        }
+        let control = letter.rows().last().unwrap();
+        self.rows.push(*control);
+        let totals = letter.totals();
+        assert_eq!(totals.records, letter.rows().len() as u64);
+        // Clause 34: fields 2, 3, 4, 5, 8 and 9.
+        let debits = [totals.bundles, totals.debit_items(), totals.debit];
+        let stated = [2, 3, 4, 5, 8, 9].map(|field| self.stated(control, field));
+        assert_eq!(stated, [debits.as_slice(), &[totals.views, totals.credit_items, totals.credit]].concat()[..]);
+    }
+
+    fn bundle(&mut self, bundle: &Bundle<'_>) {
+        self.sums.bundles += 1;
+        self.rows.push(bundle.rows()[0]);
+        for item in bundle.items() {
+            self.seen.credits_in_bundles += u64::from(item.kind() == ItemKind::Credit);
+            self.item(&item);
+            assert_eq!(bundle.item(item.ordinal()).unwrap().rows(), item.rows());
+        }
+        let control = bundle.rows().last().unwrap();
+        self.rows.push(*control);
+        let totals = bundle.totals();
+        // Clause 31: fields 2, 3, 5, 6 and 7.
+        let stated = [2, 3, 5, 6, 7].map(|field| self.stated(control, field));
+        assert_eq!(stated, [totals.debit_items(), totals.debit, totals.views, totals.credit_items, totals.credit]);
+    }
+
+    fn item(&mut self, item: &Item<'_>) {
+        let first = item.rows()[0];
+        let is_credit = first.record_type == 61 && first.field(self.file, 2) != Some(b"9");
+        assert_eq!(item.is_debit(), !is_credit);
+        self.seen.debit_adjustments += u64::from(first.record_type == 61 && !is_credit);
+        self.sums.items += 1;
+        if is_credit {
+            self.sums.credit_items += 1;
+            self.sums.credit += item.amount();
+        } else {
+            self.sums.debit += item.amount();
+        }
+        self.rows.push(first);
+        self.rows.extend(item.addenda());
+        for view in item.views() {
+            self.sums.views += 1;
+            self.rows.extend(view.rows());
+            let found = peer_reader::picture::picture(self.file, view.offset());
+            let part = &self.file[found.start as usize..][..found.length as usize];
+            assert_eq!(picture(self.file, view.offset()).unwrap(), part);
+            self.seen.pictures += 1;
+        }
+    }
+
+    /// The number that a control field states.
+    fn stated(&self, control: &Row, field: u64) -> u64 {
+        std::str::from_utf8(control.field(self.file, field).unwrap()).unwrap().parse().unwrap()
+    }
 }
 
 /// Every link and every total that can be refused is told with what it disagrees with; every refused field with what is asked, and a wrong check

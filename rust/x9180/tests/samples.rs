@@ -131,7 +131,7 @@ fn plain_words_of_the_damaged_samples() {
                 "record 10, Bundle Control Record (type 70), at offset 818",
                 "field 2, Bundle Debit Item Count, at offset 824",
                 "found \"0003\"",
-                "items in the bundle: 2",
+                "debit items in the bundle: 2",
             ],
         ),
         (
@@ -162,11 +162,11 @@ fn plain_words_of_the_damaged_samples() {
             ],
         ),
         (
-            "damaged-10-type-61.x9",
+            "damaged-10-type-68.x9",
             &[
                 "TYPE: the record's first two characters name no type that is read here",
-                "record 3, Credit/Reconciliation Record (type 61), at offset 168",
-                "found in place of the type: \"61\"",
+                "record 3, User Record (type 68), at offset 168",
+                "found in place of the type: \"68\"",
                 "the standard has this type of record, but it is not read here yet",
             ],
         ),

@@ -42,7 +42,7 @@ fn every_field_of_the_list_stands_in_the_table() {
         }
         *counts.entry(kind.number).or_insert(0) += 1;
     }
-    assert!(counts.len() >= 18 && counts.values().sum::<usize>() >= 291);
+    assert!(counts.len() >= 19 && counts.values().sum::<usize>() >= 303);
     for (number, count) in counts {
         assert_eq!(Kind::of(number).unwrap().fields.len(), count, "type {number}");
     }
@@ -76,4 +76,5 @@ fn words_of_routing_fields() {
         let mark = "unless it holds a can't-read mark *";
         assert_eq!(asked(kind, field), format!("{forms}, {canadian}, {others}, {mark}"));
     }
+    assert_eq!(asked(61, 5), format!("{forms} or {canadian}, unless it holds a can't-read mark *"));
 }

@@ -1,14 +1,5 @@
 use Rattle.agree.specs.Totals.{totalFault}
-use mathlib.Core.Path.{_≡_, refl, sym, _∙_, ap}
-use denote.Ref.{now}
-use Prim.Native.Nat.{ℕ, _+_, _-_, _≤_, _<_}
-use native.Mathlib.Omega.{arith}
-use lib.Dec.{eqb}
-use lib.ListN.{length, drop}
-use borrow.Author.Tests.{eq-eqb, ne-eqb, not-true, not-false, lt-leb, le-leb}
-use Rattle.standing.specs.History.{characters}
-use Rattle.agree.specs.Links.{same, addendaKept, annexB, numberedOn}
-use Rattle.agree.proofs.Laws.{same-lengths, same-differs, same-goes-on, same-ends, either-way}
+use borrow.Author.Tests.{ne-eqb}
 use borrow.Author.Needs.{needs}
 use Rattle.agree.proofs.total_fault.Statement.{statement}
 use Rattle.agree.proofs.total_fault.Tie as tie
@@ -32,7 +23,7 @@ returns-2 c = rw (c .before .before .match .keys2, c .letter-fault .ensures)
 
 returns-3 : tie.Need-returns-3
 unfolding totalFault
-returns-3 c = rw (c .before .before .before .match .keys3, c .file-fault .ensures)
+returns-3 c = rw (c .before .before .before .before .match .keys3, c .file-fault .ensures)
 
 returns-4 : tie.Need-returns-4
 unfolding totalFault

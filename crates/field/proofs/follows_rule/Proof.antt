@@ -61,26 +61,38 @@ number-in-requires-3 c κs = search needs
 is-bundle-collection-type-requires : tie.Need-is-bundle-collection-type-requires
 is-bundle-collection-type-requires c κs = search needs
 
+enum-told-7 : tie.Need-enum-told-7
+enum-told-7 c = search needs
+
+all-numeric-requires-5 : tie.Need-all-numeric-requires-5
+all-numeric-requires-5 c κs = search needs
+
+number-in-requires-4 : tie.Need-number-in-requires-4
+number-in-requires-4 c κs = search needs
+
+is-source-of-work-requires : tie.Need-is-source-of-work-requires
+is-source-of-work-requires c κs = search needs
+
 enum-known-rule-2 : tie.Need-enum-known-rule-2
 enum-known-rule-2 c = search needs
 
 holds-code-requires : tie.Need-holds-code-requires
 holds-code-requires c κs = search needs
 
-enum-told-7 : tie.Need-enum-told-7
-enum-told-7 c = search needs
+enum-told-8 : tie.Need-enum-told-8
+enum-told-8 c = search needs
 
 is-date-requires : tie.Need-is-date-requires
 is-date-requires c κs = search needs
 
-enum-told-8 : tie.Need-enum-told-8
-enum-told-8 c = search needs
+enum-told-9 : tie.Need-enum-told-9
+enum-told-9 c = search needs
 
 is-hours-minutes-requires : tie.Need-is-hours-minutes-requires
 is-hours-minutes-requires c κs = search needs
 
-enum-told-9 : tie.Need-enum-told-9
-enum-told-9 c = search needs
+enum-told-10 : tie.Need-enum-told-10
+enum-told-10 c = search needs
 
 is-hours-minutes-seconds-requires : tie.Need-is-hours-minutes-seconds-requires
 is-hours-minutes-seconds-requires c κs = search needs
@@ -127,27 +139,31 @@ returns-7 c = rw (c .before .before .before .enum-told6 .given .1, c .before .be
 
 returns-8 : tie.Need-returns-8
 unfolding follows
-returns-8 c = rw (c .before .before .rule2 .given .1, c .holds-code .ensures)
+returns-8 c = rw (c .before .before .before .enum-told7 .given .1, c .before .before .all-numeric5 .ensures, c .is-source-of-work .ensures, c .before .number-in4 .ensures)
 
 returns-9 : tie.Need-returns-9
 unfolding follows
-returns-9 c = rw (c .before .enum-told7 .given .1, c .is-date .ensures)
+returns-9 c = rw (c .before .before .rule2 .given .1, c .holds-code .ensures)
 
 returns-10 : tie.Need-returns-10
 unfolding follows
-returns-10 c = rw (c .before .enum-told8 .given .1, c .is-hours-minutes .ensures)
+returns-10 c = rw (c .before .enum-told8 .given .1, c .is-date .ensures)
 
 returns-11 : tie.Need-returns-11
 unfolding follows
-returns-11 c = rw (c .before .enum-told9 .given .1, c .is-hours-minutes-seconds .ensures)
+returns-11 c = rw (c .before .enum-told9 .given .1, c .is-hours-minutes .ensures)
 
 returns-12 : tie.Need-returns-12
 unfolding follows
-returns-12 c = rw (c .before .before .rule3 .given .1, c .fits-some .ensures)
+returns-12 c = rw (c .before .enum-told10 .given .1, c .is-hours-minutes-seconds .ensures)
 
 returns-13 : tie.Need-returns-13
 unfolding follows
-returns-13 c = rw (c .before .before .rule4 .given .1, c .is-clipping-coordinate .ensures)
+returns-13 c = rw (c .before .before .rule3 .given .1, c .fits-some .ensures)
+
+returns-14 : tie.Need-returns-14
+unfolding follows
+returns-14 c = rw (c .before .before .rule4 .given .1, c .is-clipping-coordinate .ensures)
 
 pub follows-rule-spec : {M : Type 1} → statement M
 follows-rule-spec =
@@ -172,13 +188,17 @@ follows-rule-spec =
     all-numeric-requires-4
     number-in-requires-3
     is-bundle-collection-type-requires
+    enum-told-7
+    all-numeric-requires-5
+    number-in-requires-4
+    is-source-of-work-requires
     enum-known-rule-2
     holds-code-requires
-    enum-told-7
-    is-date-requires
     enum-told-8
-    is-hours-minutes-requires
+    is-date-requires
     enum-told-9
+    is-hours-minutes-requires
+    enum-told-10
     is-hours-minutes-seconds-requires
     enum-known-rule-3
     fits-some-requires
@@ -196,4 +216,5 @@ follows-rule-spec =
     returns-10
     returns-11
     returns-12
-    returns-13)
+    returns-13
+    returns-14)

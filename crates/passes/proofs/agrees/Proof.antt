@@ -1,13 +1,6 @@
-use mathlib.Core.Path.{_≡_, refl, sym, _∙_, ap}
-use denote.Ref.{now}
-use Prim.Native.Nat.{ℕ, _+_, _-_, _≤_, _<_}
-use native.Mathlib.Omega.{arith}
-use lib.Dec.{eqb}
-use lib.ListN.{length, drop, length-set}
-use borrow.Author.Tests.{eq-eqb, ne-eqb, not-true, not-false, lt-leb, le-leb}
-use Rattle.frame.specs.Frames.{frameAt}
-use Rattle.passes.specs.CheckOrder.{agreement, turnOf}
-use Rattle.passes.specs.Reading.{stepOf, endedWith, surveyed, answerOf, tableOf}
+use mathlib.Core.Path.{sym}
+use borrow.Author.Tests.{eq-eqb, ne-eqb}
+use Rattle.passes.specs.CheckOrder.{agreement}
 use borrow.Author.Needs.{needs}
 use Rattle.passes.proofs.agrees.Statement.{statement}
 use Rattle.passes.proofs.agrees.Tie as tie

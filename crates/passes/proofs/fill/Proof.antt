@@ -1,16 +1,12 @@
-use mathlib.Core.Path.{_≡_, refl, sym, _∙_, ap}
+use mathlib.Core.Path.{sym, _∙_, ap}
 use denote.Ref.{now}
-use Prim.Native.Nat.{ℕ, _+_, _-_, _≤_, _<_}
+use Prim.Native.Nat.{_-_}
 use native.Mathlib.Omega.{arith}
-use lib.Dec.{eqb}
-use lib.ListN.{length, drop, length-set}
-use borrow.Author.Tests.{eq-eqb, ne-eqb, not-true, not-false, lt-leb, le-leb}
+use lib.ListN.{length}
 use Rattle.frame.specs.Frames.{frameAt}
-use Rattle.passes.specs.CheckOrder.{agreement, turnOf}
-use Rattle.passes.specs.Reading.{stepOf, endedWith, surveyed, answerOf, tableOf}
 use Rattle.frame.proofs.Laws.{whole-start, whole-within}
 use Rattle.judge.specs.Alone.{typeOf}
-use Rattle.passes.proofs.Passes.{Fill, fill-first, fill-room, fill-on, fill-cut, fill-end, place-roomy}
+use Rattle.passes.proofs.Passes.{Fill, fill-first, fill-room, fill-on, fill-cut, fill-end, place-roomy, moves-stopped}
 use borrow.Author.Needs.{needs}
 use Rattle.passes.proofs.fill.Statement.{statement}
 use Rattle.passes.proofs.fill.Tie as tie
@@ -55,7 +51,7 @@ moved-requires : tie.Need-moved-requires Inv-loop μ-loop
 moved-requires c κs = place-roomy (now (c .before .before .before .before .before .before .before .before .before .before .before .before .args .file)) (c .before .before .before .before .before .before .before .before .loop .at) (c .before .before .before .before .before .before .before .before .loop .s) (c .before .before .before .before .before .before .before .before .loop .inv .place)
 
 put-row-requires : tie.Need-put-row-requires Inv-loop μ-loop
-put-row-requires c κs = fill-room (now (c .before .before .before .before .before .before .before .before .before .before .before .before .before .before .args .file)) (now (c .before .before .before .before .before .before .before .before .before .before .before .before .before .before .args .table)) (c .before .before .before .before .before .before .before .before .before .before .loop .at) (c .before .before .before .before .before .before .before .before .before .before .loop .s) (c .before .before .before .before .before .before .before .before .before .before .loop .base) (c .before .before .before .before .before .before .before .before .before .before .loop .table) (c .before .before .before .before .before .before .before .before .before .before .loop .inv) (c .before .before .before .before .before .before .before .before .before .loop-test .taken) _ _ (c .before .before .type-of .result) (ap (frameAt (now (c .before .before .before .before .before .before .before .before .before .before .before .before .before .before .args .file))) (sym (c .before .before .before .before .before .before .before .before .at .ensures)) ∙ sym (c .before .before .before .before .before .before .before .frame .ensures) ∙ c .before .before .before .before .before .start2 .given .1) (ap typeOf (sym (c .before .before .before .part-of .ensures)) ∙ sym (c .before .before .type-of .ensures))
+put-row-requires c κs = (fill-room (now (c .before .before .before .before .before .before .before .before .before .before .before .before .before .before .args .file)) (now (c .before .before .before .before .before .before .before .before .before .before .before .before .before .before .args .table)) (c .before .before .before .before .before .before .before .before .before .before .loop .at) (c .before .before .before .before .before .before .before .before .before .before .loop .s) (c .before .before .before .before .before .before .before .before .before .before .loop .base) (c .before .before .before .before .before .before .before .before .before .before .loop .table) (c .before .before .before .before .before .before .before .before .before .before .loop .inv) (c .before .before .before .before .before .before .before .before .before .loop-test .taken) _ _ (c .before .before .type-of .result) (ap (frameAt (now (c .before .before .before .before .before .before .before .before .before .before .before .before .before .before .args .file))) (sym (c .before .before .before .before .before .before .before .before .at .ensures)) ∙ sym (c .before .before .before .before .before .before .before .frame .ensures) ∙ c .before .before .before .before .before .start2 .given .1) (ap typeOf (sym (c .before .before .before .part-of .ensures)) ∙ sym (c .before .before .type-of .ensures)), moves-stopped (now (c .before .before .before .before .before .before .before .before .before .before .before .before .before .before .args .file)) (c .before .before .before .before .before .before .before .before .before .before .loop .at) (c .before .before .before .before .before .before .before .before .before .before .loop .s) (c .before .before .before .before .before .before .before .before .before .before .loop .inv .place) (c .before .before .type-of .result) (c .before .moved .result) (c .before .moved .ensures))
 
 add-base : tie.Need-add-base Inv-loop μ-loop
 add-base c = let g = fill-room (now (c .before .before .before .before .before .before .before .before .before .before .before .before .before .before .before .before .before .args .file)) (now (c .before .before .before .before .before .before .before .before .before .before .before .before .before .before .before .before .before .args .table)) (c .before .before .before .before .before .before .before .before .before .before .before .before .before .loop .at) (c .before .before .before .before .before .before .before .before .before .before .before .before .before .loop .s) (c .before .before .before .before .before .before .before .before .before .before .before .before .before .loop .base) (c .before .before .before .before .before .before .before .before .before .before .before .before .before .loop .table) (c .before .before .before .before .before .before .before .before .before .before .before .before .before .loop .inv) (c .before .before .before .before .before .before .before .before .before .before .before .before .loop-test .taken) _ _ (c .before .before .before .before .before .type-of .result) (ap (frameAt (now (c .before .before .before .before .before .before .before .before .before .before .before .before .before .before .before .before .before .args .file))) (sym (c .before .before .before .before .before .before .before .before .before .before .before .at .ensures)) ∙ sym (c .before .before .before .before .before .before .before .before .before .before .frame .ensures) ∙ c .before .before .before .before .before .before .before .before .start2 .given .1) (ap typeOf (sym (c .before .before .before .before .before .before .part-of .ensures)) ∙ sym (c .before .before .before .before .before .type-of .ensures)) in omega (arith, g, c .before .before .before .before .before .before .before .before .before .before .before .before .before .loop .inv .long, c .before .before .before .before .before .before .before .before .before .before .before .before .before .before .before .before .before .good)

@@ -1,13 +1,6 @@
-use mathlib.Core.Path.{_≡_, refl, sym, _∙_, ap}
-use denote.Ref.{now}
-use Prim.Native.Nat.{ℕ, _+_, _-_, _≤_, _<_}
+use mathlib.Core.Path.{sym}
 use native.Mathlib.Omega.{arith}
-use lib.Dec.{eqb}
-use lib.ListN.{length, drop, length-set}
-use borrow.Author.Tests.{eq-eqb, ne-eqb, not-true, not-false, lt-leb, le-leb}
-use Rattle.frame.specs.Frames.{frameAt}
-use Rattle.passes.specs.CheckOrder.{agreement, turnOf}
-use Rattle.passes.specs.Reading.{stepOf, endedWith, surveyed, answerOf, tableOf}
+use lib.ListN.{length-set}
 use native.Mathlib.Numerals.{add-one, add-two, add-three, add-four, add-five, add-six}
 use borrow.Author.Needs.{needs}
 use Rattle.passes.proofs.put_row.Statement.{statement}
@@ -29,7 +22,7 @@ mul-table-2 : tie.Need-mul-table-2
 mul-table-2 c = search needs
 
 slice-write-table-2 : tie.Need-slice-write-table-2
-slice-write-table-2 c = simp length-set (omega (arith, c .before .before .before .before .pre))
+slice-write-table-2 c = simp length-set (omega (arith, c .before .before .before .before .pre .0))
 
 add-table-2 : tie.Need-add-table-2
 add-table-2 c = search needs
@@ -38,7 +31,7 @@ mul-table-3 : tie.Need-mul-table-3
 mul-table-3 c = search needs
 
 slice-write-table-3 : tie.Need-slice-write-table-3
-slice-write-table-3 c = simp length-set (omega (arith, c .before .before .before .before .pre))
+slice-write-table-3 c = simp length-set (omega (arith, c .before .before .before .before .pre .0))
 
 pick-requires : tie.Need-pick-requires
 pick-requires c κs = search needs
@@ -50,7 +43,7 @@ mul-table-4 : tie.Need-mul-table-4
 mul-table-4 c = search needs
 
 slice-write-table-4 : tie.Need-slice-write-table-4
-slice-write-table-4 c = simp length-set (omega (arith, c .before .before .before .before .before .pre))
+slice-write-table-4 c = simp length-set (omega (arith, c .before .before .before .before .before .pre .0))
 
 pick-requires-2 : tie.Need-pick-requires-2
 pick-requires-2 c κs = search needs
@@ -62,7 +55,7 @@ mul-table-5 : tie.Need-mul-table-5
 mul-table-5 c = search needs
 
 slice-write-table-5 : tie.Need-slice-write-table-5
-slice-write-table-5 c = simp length-set (omega (arith, c .before .before .before .before .before .before .pre))
+slice-write-table-5 c = simp length-set (omega (arith, c .before .before .before .before .before .before .pre .0))
 
 pick-requires-3 : tie.Need-pick-requires-3
 pick-requires-3 c κs = search needs
@@ -74,7 +67,7 @@ mul-table-6 : tie.Need-mul-table-6
 mul-table-6 c = search needs
 
 slice-write-table-6 : tie.Need-slice-write-table-6
-slice-write-table-6 c = simp length-set (omega (arith, c .before .before .before .before .before .before .before .pre))
+slice-write-table-6 c = simp length-set (omega (arith, c .before .before .before .before .before .before .before .pre .0))
 
 add-table-6 : tie.Need-add-table-6
 add-table-6 c = search needs
@@ -83,13 +76,13 @@ mul-table-7 : tie.Need-mul-table-7
 mul-table-7 c = search needs
 
 slice-write-table-7 : tie.Need-slice-write-table-7
-slice-write-table-7 c = simp length-set (omega (arith, c .before .before .before .before .before .before .before .pre))
+slice-write-table-7 c = simp length-set (omega (arith, c .before .before .before .before .before .before .before .pre .0))
 
 same-length : tie.Need-same-length
 same-length c = simp length-set
 
 returns : tie.Need-returns
-returns c = rw (sym (c .before .before .pick .ensures), sym (c .before .pick2 .ensures), sym (c .pick3 .ensures), sym (c .before .before .before .before .amount-in .ensures)) (simp (add-one, add-two, add-three, add-four, add-five, add-six))
+returns c = rw (sym (c .before .before .pick .ensures), sym (c .before .pick2 .ensures), sym (c .pick3 .ensures), sym (c .before .before .before .amount-in .ensures)) (simp (add-one, add-two, add-three, add-four, add-five, add-six))
 
 pub put-row-spec : {M : Type 1} → statement M
 put-row-spec =

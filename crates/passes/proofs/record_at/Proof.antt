@@ -1,13 +1,8 @@
-use mathlib.Core.Path.{_≡_, refl, sym, _∙_, ap}
+use mathlib.Core.Path.{sym, _∙_, ap}
 use denote.Ref.{now}
-use Prim.Native.Nat.{ℕ, _+_, _-_, _≤_, _<_}
-use native.Mathlib.Omega.{arith}
-use lib.Dec.{eqb}
-use lib.ListN.{length, drop, length-set}
-use borrow.Author.Tests.{eq-eqb, ne-eqb, not-true, not-false, lt-leb, le-leb}
+use borrow.Author.Tests.{eq-eqb, ne-eqb}
 use Rattle.frame.specs.Frames.{frameAt}
-use Rattle.passes.specs.CheckOrder.{agreement, turnOf}
-use Rattle.passes.specs.Reading.{stepOf, endedWith, surveyed, answerOf, tableOf}
+use Rattle.passes.specs.Reading.{stepOf}
 use borrow.Author.Needs.{needs}
 use Rattle.passes.proofs.record_at.Statement.{statement}
 use Rattle.passes.proofs.record_at.Tie as tie

@@ -1,14 +1,11 @@
-use mathlib.Core.Path.{_≡_, refl, sym, _∙_, ap}
+use mathlib.Core.Path.{sym, _∙_}
 use denote.Ref.{now}
-use Prim.Native.Nat.{ℕ, _+_, _-_, _≤_, _<_}
+use Prim.Native.Nat.{_-_}
 use native.Mathlib.Omega.{arith}
-use lib.Dec.{eqb}
-use lib.ListN.{length, drop, length-set}
-use borrow.Author.Tests.{eq-eqb, ne-eqb, not-true, not-false, lt-leb, le-leb}
-use Rattle.frame.specs.Frames.{frameAt}
-use Rattle.passes.specs.CheckOrder.{agreement, turnOf}
-use Rattle.passes.specs.Reading.{stepOf, endedWith, surveyed, answerOf, tableOf}
-use Rattle.passes.proofs.Passes.{Survey, survey-first, survey-on, survey-stop, survey-end, counted-end, place-roomy, on-within}
+use lib.ListN.{length}
+use borrow.Author.Tests.{lt-leb, le-leb}
+use Rattle.passes.specs.Reading.{surveyed}
+use Rattle.passes.proofs.Passes.{Survey, survey-first, survey-on, survey-stop, survey-end, counted-end, place-roomy, place-stopped, on-within}
 use borrow.Author.Needs.{needs}
 use Rattle.passes.proofs.survey_by.Statement.{statement}
 use Rattle.passes.proofs.survey_by.Tie as tie
@@ -65,7 +62,7 @@ loop-again : tie.Need-loop-again Inv-loop μ-loop
 loop-again c = survey-on (now (c .before .before .before .before .before .before .before .before .before .before .before .before .args .file)) (c .before .before .before .before .before .before .loop .at) (c .before .before .before .before .before .before .loop .s) (c .before .before .before .before .before .before .loop .inv) (c .before .before .before .before .before .loop-test .taken) _ _ (c .moved .result) (sym (c .before .before .before .before .record-at .ensures) ∙ c .before .before .kind .given .1) (c .moved .ensures)
 
 ended-at-requires : tie.Need-ended-at-requires Inv-loop μ-loop
-ended-at-requires c κs = place-roomy (now (c .before .before .before .before .before .before .before .args .file)) (c .before .loop .at) (c .before .loop .s) (c .before .loop .inv .place)
+ended-at-requires c κs = (place-roomy (now (c .before .before .before .before .before .before .before .args .file)) (c .before .loop .at) (c .before .loop .s) (c .before .loop .inv .place), place-stopped (now (c .before .before .before .before .before .before .before .args .file)) (c .before .loop .at) (c .before .loop .s) (c .before .loop .inv .place))
 
 returns-4 : tie.Need-returns-4 Inv-loop μ-loop
 unfolding surveyed

@@ -1,150 +1,25 @@
-use Rattle.standing.specs.Standing.{standing}
-use Rattle.standing.specs.History.{one, indicatorIn, signatureIn, characters, amountOf, micrOf, statedBy}
-use mathlib.Core.Bool.{false, cond}
-use Rattle.measure.specs.Measures.{records, cents}
-use Rattle.order.specs.MayFollow.{isItem}
-use Rattle.standing.specs.declared.Standing.{Standing}
-use Rattle.standing.proofs.Laws.{since-moves, newest-moves, sums-move, assembled, ten-digits}
-use lib.Dec.{eqb}
-use native.Mathlib.Numerals.{add-one}
-use mathlib.Core.Path.{_≡_, refl, sym, _∙_, ap}
+use mathlib.Core.Path.{sym, _∙_}
 use denote.Ref.{now}
-use Prim.Native.Nat.{ℕ, _+_, _-_, _≤_, _<_}
-use native.Mathlib.Omega.{arith}
-use lib.ListN.{length, List·getD-eq-default}
-use borrow.Author.Tests.{eq-eqb, ne-eqb, not-true, not-false, lt-leb, le-leb}
-use Rattle.frame.proofs.Laws.{part-outside}
-use Rattle.measure.specs.declared.Sums.{Sums}
 use borrow.Author.Needs.{needs}
 use Rattle.standing.proofs.moved.Statement.{statement}
 use Rattle.standing.proofs.moved.Tie as tie
 
-is-item-requires : tie.Need-is-item-requires
-is-item-requires c κs = search needs
+changes-much-requires : tie.Need-changes-much-requires
+changes-much-requires c κs = search needs
 
-added-at-requires : tie.Need-added-at-requires
-added-at-requires c κs = search needs
-
-micr-at-requires : tie.Need-micr-at-requires
-micr-at-requires c κs = ap (λ (a : Sums). a .debit .0) (c .added-at .ensures .0)
-
-since-requires : tie.Need-since-requires
-since-requires c κs = search needs
-
-since-requires-2 : tie.Need-since-requires-2
-since-requires-2 c κs = search needs
-
-since-requires-3 : tie.Need-since-requires-3
-since-requires-3 c κs = search needs
-
-present-after-requires : tie.Need-present-after-requires
-present-after-requires c κs = search needs
-
-add-t15 : tie.Need-add-t15
-add-t15 c = omega (arith, c .before .before .before .before .before .before .before .before .before .pre .records)
-
-one-if-requires : tie.Need-one-if-requires
-one-if-requires c κs = search needs
-
-since-requires-4 : tie.Need-since-requires-4
-since-requires-4 c κs = (search needs, c .before .before .before .before .before .before .before .before .before .before .pre .letters)
-
-one-if-requires-2 : tie.Need-one-if-requires-2
-one-if-requires-2 c κs = search needs
-
-since-requires-5 : tie.Need-since-requires-5
-since-requires-5 c κs = (search needs, c .before .before .before .before .before .before .before .before .before .before .before .before .pre .bundles)
-
-one-if-requires-3 : tie.Need-one-if-requires-3
-one-if-requires-3 c κs = search needs
-
-since-requires-6 : tie.Need-since-requires-6
-since-requires-6 c κs = (search needs, c .before .before .before .before .before .before .before .before .before .before .before .before .before .before .pre .opened)
-
-since-requires-7 : tie.Need-since-requires-7
-since-requires-7 c κs = (omega (arith, c .before .before .before .before .before .before .before .before .before .before .before .micr-at .ensures .1, c .before .before .before .before .before .before .before .before .before .before .before .before .added-at .ensures .1 .debit), c .before .before .before .before .before .before .before .before .before .before .before .before .before .before .before .pre .micr)
-
-is-addendum-requires : tie.Need-is-addendum-requires
-is-addendum-requires c κs = search needs
-
-one-if-requires-4 : tie.Need-one-if-requires-4
-one-if-requires-4 c κs = search needs
-
-since-requires-8 : tie.Need-since-requires-8
-since-requires-8 c κs = (search needs, c .before .before .before .before .before .before .before .before .before .before .before .before .before .before .before .before .before .before .pre .addenda)
-
-one-if-requires-5 : tie.Need-one-if-requires-5
-one-if-requires-5 c κs = search needs
-
-since-requires-9 : tie.Need-since-requires-9
-since-requires-9 c κs = (search needs, c .before .before .before .before .before .before .before .before .before .before .before .before .before .before .before .before .before .before .before .before .pre .bofd)
-
-one-if-requires-6 : tie.Need-one-if-requires-6
-one-if-requires-6 c κs = search needs
-
-since-requires-10 : tie.Need-since-requires-10
-since-requires-10 c κs = (search needs, c .before .before .before .before .before .before .before .before .before .before .before .before .before .before .before .before .before .before .before .before .before .before .pre .endorser)
-
-one-if-requires-7 : tie.Need-one-if-requires-7
-one-if-requires-7 c κs = search needs
-
-since-requires-11 : tie.Need-since-requires-11
-since-requires-11 c κs = (search needs, c .before .before .before .before .before .before .before .before .before .before .before .before .before .before .before .before .before .before .before .before .before .before .before .before .pre .shown)
-
-stated-at-requires : tie.Need-stated-at-requires
-stated-at-requires c κs = search needs
-
-newest-requires : tie.Need-newest-requires
-newest-requires c κs = search needs
-
-newest-requires-2 : tie.Need-newest-requires-2
-newest-requires-2 c κs = search needs
-
-newest-requires-3 : tie.Need-newest-requires-3
-newest-requires-3 c κs = search needs
-
-indicator-after-requires : tie.Need-indicator-after-requires
-indicator-after-requires c κs = search needs
-
-signature-after-requires : tie.Need-signature-after-requires
-signature-after-requires c κs = search needs
+moved-in-full-requires : tie.Need-moved-in-full-requires
+moved-in-full-requires c κs = search needs
 
 returns : tie.Need-returns
-unfolding standing
-returns c = λ past n e. assembled refl (c .before .before .before .before .before .before .before .before .before .before .before .before .before .before .before .before .before .before .before .before .before .before .before .present-after .ensures ∙ ap (λ (o : ℕ). cond (eqb (c .before .before .before .before .before .before .before .before .before .before .before .before .before .before .before .before .before .before .before .before .before .before .before .before .before .before .before .before .before .before .before .args .kind) 20) 0 (cond (isItem (c .before .before .before .before .before .before .before .before .before .before .before .before .before .before .before .before .before .before .before .before .before .before .before .before .before .before .before .before .before .before .before .args .kind)) (c .before .before .before .before .before .before .before .before .before .before .before .before .before .before .before .before .before .before .before .before .before .before .before .before .before .before .before .before .before .before .before .args .kind) o)) (ap (λ (t : Standing). t .present) e)) (ap (λ (t : Standing). records (t .records .0 + 1)) e ∙ ap records (add-one (length past))) (since-moves (c .before .before .before .before .before .before .before .before .before .before .before .before .before .before .before .before .before .before .before .before .since4 .ensures) (refl {a = false}) (c .before .before .before .before .before .before .before .before .before .before .before .before .before .before .before .before .before .before .before .before .before .one-if .ensures .0) (ap (λ (t : Standing). t .letters) e)) (since-moves (c .before .before .before .before .before .before .before .before .before .before .before .before .before .before .before .before .before .before .since5 .ensures) (refl {a = false}) (c .before .before .before .before .before .before .before .before .before .before .before .before .before .before .before .before .before .before .before .one-if2 .ensures .0) (ap (λ (t : Standing). t .bundles) e)) (since-moves (c .before .before .before .before .before .before .before .before .before .before .before .before .before .before .before .before .since6 .ensures) (refl {a = eqb (c .before .before .before .before .before .before .before .before .before .before .before .before .before .before .before .before .before .before .before .before .before .before .before .before .before .before .before .before .before .before .before .args .kind) 10}) (c .before .before .before .before .before .before .before .before .before .before .before .before .before .before .before .before .before .one-if3 .ensures .0) (ap (λ (t : Standing). t .opened) e)) (sums-move false (c .before .before .before .before .before .before .before .before .before .before .before .before .before .before .before .before .before .before .before .before .before .before .before .before .before .before .since .ensures) (c .before .before .before .before .before .before .before .before .before .before .before .before .before .before .before .before .before .before .before .before .before .before .before .before .before .before .before .before .added-at .ensures .0) (ap (λ (t : Standing). t .whole) e)) (sums-move (eqb (c .before .before .before .before .before .before .before .before .before .before .before .before .before .before .before .before .before .before .before .before .before .before .before .before .before .before .before .before .before .before .before .args .kind) 10) (c .before .before .before .before .before .before .before .before .before .before .before .before .before .before .before .before .before .before .before .before .before .before .before .before .before .since2 .ensures) (c .before .before .before .before .before .before .before .before .before .before .before .before .before .before .before .before .before .before .before .before .before .before .before .before .before .before .before .before .added-at .ensures .0) (ap (λ (t : Standing). t .letter) e)) (sums-move (eqb (c .before .before .before .before .before .before .before .before .before .before .before .before .before .before .before .before .before .before .before .before .before .before .before .before .before .before .before .before .before .before .before .args .kind) 20) (c .before .before .before .before .before .before .before .before .before .before .before .before .before .before .before .before .before .before .before .before .before .before .before .before .since3 .ensures) (c .before .before .before .before .before .before .before .before .before .before .before .before .before .before .before .before .before .before .before .before .before .before .before .before .before .before .before .before .added-at .ensures .0) (ap (λ (t : Standing). t .bundle) e)) (ap cents (since-moves (c .before .before .before .before .before .before .before .before .before .before .before .before .before .before .before .since7 .ensures) (refl {a = eqb (c .before .before .before .before .before .before .before .before .before .before .before .before .before .before .before .before .before .before .before .before .before .before .before .before .before .before .before .before .before .before .before .args .kind) 20}) (c .before .before .before .before .before .before .before .before .before .before .before .before .before .before .before .before .before .before .before .before .before .before .before .before .before .before .before .micr-at .ensures .0) (ap (λ (t : Standing). t .micr .0) e))) (since-moves (c .before .before .before .before .before .before .before .before .before .before .before .before .since8 .ensures) (c .before .before .before .before .before .before .before .before .before .before .before .before .before .before .before .before .before .before .before .before .before .before .before .before .before .before .before .before .before .is-item .ensures) (c .before .before .before .before .before .before .before .before .before .before .before .before .before .one-if4 .ensures .0 ∙ ap one (c .before .before .before .before .before .before .before .before .before .before .before .before .before .before .is-addendum .ensures)) (ap (λ (t : Standing). t .addenda) e)) (since-moves (c .before .before .before .before .before .before .before .before .before .before .since9 .ensures) (c .before .before .before .before .before .before .before .before .before .before .before .before .before .before .before .before .before .before .before .before .before .before .before .before .before .before .before .before .before .is-item .ensures) (c .before .before .before .before .before .before .before .before .before .before .before .one-if5 .ensures .0) (ap (λ (t : Standing). t .bofd) e)) (since-moves (c .before .before .before .before .before .before .before .before .since10 .ensures) (c .before .before .before .before .before .before .before .before .before .before .before .before .before .before .before .before .before .before .before .before .before .before .before .before .before .before .before .before .before .is-item .ensures) (c .before .before .before .before .before .before .before .before .before .one-if6 .ensures .0) (ap (λ (t : Standing). t .endorser) e)) (since-moves (c .before .before .before .before .before .before .since11 .ensures) (c .before .before .before .before .before .before .before .before .before .before .before .before .before .before .before .before .before .before .before .before .before .before .before .before .before .before .before .before .before .is-item .ensures) (c .before .before .before .before .before .before .before .one-if7 .ensures .0) (ap (λ (t : Standing). t .shown) e)) (newest-moves (c .before .before .before .before .newest .ensures) (c .before .before .before .before .before .before .before .before .before .before .before .before .before .before .before .before .before .before .before .before .before .before .before .before .before .before .before .before .before .is-item .ensures) (c .before .before .before .before .before .stated-at .ensures) (ap (λ (t : Standing). t .stated) e)) (newest-moves (c .before .before .before .newest2 .ensures) (c .before .before .before .before .before .before .before .before .before .before .before .before .before .before .before .before .before .before .before .before .before .before .before .before .before .before .before .before .before .is-item .ensures) (refl {a = c .before .before .before .before .before .before .before .before .before .before .before .before .before .before .before .before .before .before .before .before .before .before .before .before .before .before .before .before .before .before .before .args .offset}) (ap (λ (t : Standing). t .item) e)) (newest-moves (c .before .before .newest3 .ensures) (refl {a = eqb (c .before .before .before .before .before .before .before .before .before .before .before .before .before .before .before .before .before .before .before .before .before .before .before .before .before .before .before .before .before .before .before .args .kind) 20}) (refl {a = c .before .before .before .before .before .before .before .before .before .before .before .before .before .before .before .before .before .before .before .before .before .before .before .before .before .before .before .before .before .before .before .args .offset}) (ap (λ (t : Standing). t .header) e)) (newest-moves (c .before .indicator-after .ensures) (refl {a = eqb (c .before .before .before .before .before .before .before .before .before .before .before .before .before .before .before .before .before .before .before .before .before .before .before .before .before .before .before .before .before .before .before .args .kind) 10}) (refl {a = indicatorIn (now (c .before .before .before .before .before .before .before .before .before .before .before .before .before .before .before .before .before .before .before .before .before .before .before .before .before .before .before .before .before .before .before .args .file)) (c .before .before .before .before .before .before .before .before .before .before .before .before .before .before .before .before .before .before .before .before .before .before .before .before .before .before .before .before .before .before .before .args .offset)}) (ap (λ (t : Standing). t .indicator) e)) (newest-moves (c .signature-after .ensures) (refl {a = eqb (c .before .before .before .before .before .before .before .before .before .before .before .before .before .before .before .before .before .before .before .before .before .before .before .before .before .before .before .before .before .before .before .args .kind) 50}) (refl {a = signatureIn (now (c .before .before .before .before .before .before .before .before .before .before .before .before .before .before .before .before .before .before .before .before .before .before .before .before .before .before .before .before .before .before .before .args .file)) (c .before .before .before .before .before .before .before .before .before .before .before .before .before .before .before .before .before .before .before .before .before .before .before .before .before .before .before .before .before .before .before .args .offset)}) (ap (λ (t : Standing). t .signature) e))
+returns c = search needs
+
+moved-a-little-requires : tie.Need-moved-a-little-requires
+moved-a-little-requires c κs = (c .before .before .before .pre, sym (c .before .changes-much .ensures) ∙ c .if1 .left)
+
+returns-2 : tie.Need-returns-2
+returns-2 c = λ past n e. c .moved-a-little .ensures (now (c .before .before .before .before .args .file)) past (c .before .before .before .before .args .offset) n e
 
 pub moved-spec : {M : Type 1} → statement M
 moved-spec =
     tie.close
-    (tie.spec
-    is-item-requires
-    added-at-requires
-    micr-at-requires
-    since-requires
-    since-requires-2
-    since-requires-3
-    present-after-requires
-    add-t15
-    one-if-requires
-    since-requires-4
-    one-if-requires-2
-    since-requires-5
-    one-if-requires-3
-    since-requires-6
-    since-requires-7
-    is-addendum-requires
-    one-if-requires-4
-    since-requires-8
-    one-if-requires-5
-    since-requires-9
-    one-if-requires-6
-    since-requires-10
-    one-if-requires-7
-    since-requires-11
-    stated-at-requires
-    newest-requires
-    newest-requires-2
-    newest-requires-3
-    indicator-after-requires
-    signature-after-requires
-    returns)
+    (tie.spec changes-much-requires moved-in-full-requires returns moved-a-little-requires returns-2)

@@ -1,6 +1,8 @@
 //! What the end-to-end tests share: running `icl`, folders that go away again, and files to give it.
 #![allow(dead_code)] // Each test program uses its part.
 
+pub mod pictured_credits;
+
 use std::ffi::OsStr;
 use std::fs;
 use std::io::{Seek, SeekFrom, Write};

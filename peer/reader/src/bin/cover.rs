@@ -1,0 +1,39 @@
+//! Runs the stream of files past the independent reader alone and says what it has covered: what `compare` demands of a run, without the
+//! proved library. Use: cover [FILES [SEED]]; 100,000 files and seed 18 unless given. Exit status 1 if a point is missing.
+
+use std::process::ExitCode;
+use std::time::Instant;
+
+use peer_reader::descent::{read, Number};
+use peer_reader::picture::picture;
+use peer_reader::random::Random;
+use peer_reader::stream;
+use peer_reader::tally::Tally;
+
+fn main() -> ExitCode {
+    let given: Vec<u64> =
+        std::env::args().skip(1).map(|word| word.parse().expect("the arguments are numbers")).collect();
+    let files = given.first().copied().unwrap_or(100_000);
+    let seed = given.get(1).copied().unwrap_or(18);
+    let begun = Instant::now();
+    let mut tally = Tally::default();
+    let (mut accepted, mut bytes) = (0, 0);
+    // SIZE of the picture call is met by chance in a stream of this length; `compare` has the largest file for it besides.
+    tally.note_picture(&picture(&[], 0));
+    for index in 0..files {
+        let made = stream::file(seed, index).bytes;
+        let reading = read(&made);
+        tally.note_asked(&made, &reading, &mut Random::for_file(!seed, index));
+        accepted += u64::from(reading.answer.number == Number::Accepted);
+        bytes += made.len();
+    }
+    println!(
+        "seed {seed}: {files} files ({accepted} accepted, {bytes} bytes), {:.1} seconds",
+        begun.elapsed().as_secs_f64()
+    );
+    println!("{}", tally.report().trim_end());
+    let missing = tally.missing();
+    missing.iter().for_each(|point| println!("not covered: {point:?}"));
+    println!("points not covered {}", missing.len());
+    ExitCode::from(u8::from(!missing.is_empty()))
+}
