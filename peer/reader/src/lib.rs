@@ -4,6 +4,8 @@
 pub mod asked;
 pub mod books;
 pub mod brim;
+pub mod charset;
+pub mod copy;
 pub mod credits;
 pub mod descent;
 pub mod harm;
