@@ -58,6 +58,14 @@ impl Set {
         }
     }
 
+    /// The set by which the proved library reads a file: ASCII, while it carries nothing else.
+    pub fn by_library(file: &[u8]) -> Set {
+        match EBCDIC_CARRIED {
+            true => Set::of(file),
+            false => Set::Ascii,
+        }
+    }
+
     /// The character of a byte, by its ASCII byte. In ASCII that is the byte itself; what is no character there is in no data type.
     pub fn character(self, byte: u8) -> u8 {
         match self {

@@ -105,7 +105,7 @@ fn marked(field: &Field, text: Text) -> bool {
 }
 
 /// Clause 5.3: the characters of each data type. Binary is never looked at.
-fn of_type(kind: Type, text: Text) -> bool {
+pub fn of_type(kind: Type, text: Text) -> bool {
     match kind {
         Type::AllBlank => all_blank(text),
         Type::Alphabetic => text.all(|character| character.is_ascii_alphabetic() || character == b' '),

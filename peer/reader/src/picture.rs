@@ -25,8 +25,13 @@ impl Picture {
     }
 }
 
-/// The Image Data part of the 52 whose length field stands at the offset.
+/// The Image Data part of the 52 whose length field stands at the offset, by the file's own set.
 pub fn picture(file: &[u8], offset: u64) -> Picture {
+    picture_in(Set::of(file), file, offset)
+}
+
+/// The same in a file of this set.
+pub fn picture_in(set: Set, file: &[u8], offset: u64) -> Picture {
     let size = file.len() as u64;
     if size == 0 || size > LARGEST {
         return Picture::refused(Number::Size, 0);
@@ -41,7 +46,6 @@ pub fn picture(file: &[u8], offset: u64) -> Picture {
     if body.len() < 2 {
         return Picture::refused(Number::Length, 0);
     }
-    let set = Set::of(file);
     if carried_in(set, &body[..2]) != Some(52) {
         return Picture::refused(Number::Type, 0);
     }
