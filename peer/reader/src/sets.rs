@@ -227,10 +227,11 @@ fn names_52(left: &[u8]) -> Option<Set> {
     [Set::Ascii, Set::Ebcdic].into_iter().find(|set| body.len() >= 2 && carried_in(*set, &body[..2]) == Some(52))
 }
 
-/// What a picture call within an image shows.
+/// What a picture call within an image shows. Where the lengths lead, a 52 of the file's own set shows the same, and one of the other set
+/// is a record of the other set: both are no less than is asked.
 pub fn within_image(file: &[u8], offset: u64, found: &Picture) -> Option<SetPoint> {
-    let inner = names_52(&file[offset as usize..])?;
-    Some(SetPoint::WithinImage(Set::of(file), inner, found.number))
+    let left = file.get(usize::try_from(offset).ok()?..)?;
+    Some(SetPoint::WithinImage(Set::of(file), names_52(left)?, found.number))
 }
 
 #[cfg(test)]
