@@ -51,8 +51,9 @@ impl Tally {
             self.note_table(file, reading, length);
         }
         for offset in picture_offsets(file, random) {
-            self.note_picture(file, offset, &picture_in(Set::by_library(file), file, offset));
+            self.note_picture(file, &picture_in(Set::by_library(file), file, offset));
         }
+        self.note_within_images(file);
     }
 
     /// Notes a reading into a table of so many numbers.
@@ -63,15 +64,18 @@ impl Tally {
     }
 
     /// Notes the answer to a picture call.
-    pub fn note_picture(&mut self, file: &[u8], offset: u64, found: &Picture) {
+    pub fn note_picture(&mut self, file: &[u8], found: &Picture) {
         let set = Set::by_library(file);
         self.note_in(set, Point::PictureAnswer(found.number));
         if found.number == Number::Field {
             self.note_in(set, Point::PictureFieldRefused(found.field as u8));
         }
+    }
+
+    /// Notes what the picture calls within images show, once they are asked.
+    pub fn note_within_images(&mut self, file: &[u8]) {
         if EBCDIC_CARRIED {
-            let within = sets::within_image(file, offset, found);
-            within.into_iter().for_each(|point| self.note(Point::Sets(point)));
+            sets::shown_within_images(file).into_iter().for_each(|point| self.note(Point::Sets(point)));
         }
     }
 }

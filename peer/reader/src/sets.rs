@@ -6,7 +6,7 @@ use crate::ebcdic::{other_field_targets, OF_TABLE_1, OF_THE_PAGE};
 use crate::harm::field_targets;
 use crate::judge;
 use crate::layout::{carried_in, layout, Layout, Type, CARRIED};
-use crate::picture::Picture;
+use crate::picture::picture_in;
 
 #[derive(Clone, Copy, Debug, PartialEq, Eq, PartialOrd, Ord)]
 pub enum SetPoint {
@@ -227,11 +227,14 @@ fn names_52(left: &[u8]) -> Option<Set> {
     [Set::Ascii, Set::Ebcdic].into_iter().find(|set| body.len() >= 2 && carried_in(*set, &body[..2]) == Some(52))
 }
 
-/// What a picture call within an image shows. Where the lengths lead, a 52 of the file's own set shows the same, and one of the other set
-/// is a record of the other set: both are no less than is asked.
-pub fn within_image(file: &[u8], offset: u64, found: &Picture) -> Option<SetPoint> {
-    let left = file.get(usize::try_from(offset).ok()?..)?;
-    Some(SetPoint::WithinImage(Set::of(file), names_52(left)?, found.number))
+/// What picture calls within the images of a file show.
+pub fn shown_within_images(file: &[u8]) -> Vec<SetPoint> {
+    let set = Set::of(file);
+    let point = |place: u64| {
+        let inner = names_52(&file[place as usize..])?;
+        Some(SetPoint::WithinImage(set, inner, picture_in(set, file, place).number))
+    };
+    places_within_images(file).into_iter().filter_map(point).collect()
 }
 
 #[cfg(test)]
@@ -255,9 +258,7 @@ mod tests {
             let copied = copy(&file);
             let of_copy = read_in(Set::Ascii, &copied);
             assert_eq!((of_copy.answer, &of_copy.rows), (reading.answer, &reading.rows), "file {index}");
-            for place in places_within_images(&file) {
-                met.extend(within_image(&file, place, &picture(&file, place)));
-            }
+            met.extend(shown_within_images(&file));
             for row in &reading.rows {
                 assert_eq!(picture(&file, row[1]), picture(&copied, row[1]), "file {index}");
             }

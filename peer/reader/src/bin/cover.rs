@@ -21,7 +21,7 @@ fn main() -> ExitCode {
     let mut tally = Tally::default();
     let (mut accepted, mut bytes) = (0, 0);
     // SIZE of the picture call is met by chance in a stream of this length; `compare` has the largest file for it besides.
-    tally.note_picture(&[], 0, &picture(&[], 0));
+    tally.note_picture(&[], &picture(&[], 0));
     let mut put = |made: Vec<u8>, index: u64| {
         let reading = read_in(Set::by_library(&made), &made);
         tally.note_asked(&made, &reading, &mut Random::for_file(!seed, index));
