@@ -8,6 +8,7 @@
 //! `cargo test --release`, with the library's folder in `X9180_LIB_DIR` (default `../target/staticlib`).
 
 pub mod compose;
+pub mod ebcdic;
 pub mod edges;
 pub mod ffi;
 pub mod generate;
