@@ -20,6 +20,7 @@ pub mod plain;
 pub mod random;
 pub mod routing;
 pub mod samples;
+pub mod samples_ebcdic;
 pub mod sets;
 pub mod stream;
 pub mod tally;

@@ -9,6 +9,7 @@ use peer_reader::layout::layout;
 use peer_reader::line::line;
 use peer_reader::picture::picture;
 use peer_reader::plain::*;
+use peer_reader::samples_ebcdic::samples;
 
 /// Code page 037: the runs of bytes that are characters of Table 1, each with its first byte.
 const PAGE: [(u8, &str); 15] = [
@@ -393,6 +394,18 @@ fn the_picture_call_goes_by_the_first_record() {
     // The bytes tell the set even where the first record is nothing.
     let odd = [&[0, 0, 0, 0][..], &[0xF0, 0xF1], &file(&[e_view(view_data(b"x"))])].concat();
     assert_eq!(picture(&odd, 6).listed(), [0, 0, 6 + 143, 1]);
+}
+
+#[test]
+fn the_samples_are_as_worked_out_and_the_folder_holds_them() {
+    let folder = std::path::Path::new(env!("CARGO_MANIFEST_DIR")).join("../samples/ebcdic");
+    let expected = std::fs::read_to_string(folder.join("expected.txt")).expect("expected.txt");
+    assert_eq!(expected.lines().count(), samples().len());
+    for (listed, sample) in expected.lines().zip(samples()) {
+        assert_eq!(line(&sample.bytes), sample.line, "{}", sample.name);
+        assert_eq!(listed, format!("{}\t{}", sample.name, sample.line));
+        assert_eq!(std::fs::read(folder.join(sample.name)).expect("a sample"), sample.bytes);
+    }
 }
 
 /// A 52 whose lengths do not add up is refused for them in both; its part lengths are read by the set.
