@@ -9,6 +9,9 @@ uint64_t proved_x9_read(const uint8_t *file, size_t file_len, uint64_t *table, s
 uint64_t proved_x9_picture(const uint8_t *file, size_t file_len, uint64_t offset, uint64_t place[4]);
 uint64_t proved_x9_record(const uint8_t *body, size_t body_len, uint64_t answer[2]);
 
+/* Bytes 5 and 6 say that the file is EBCDIC. */
+static inline int is_ebcdic(const uint8_t *file, size_t file_len) { return file_len >= 6 && file[4] == 0xF0 && file[5] == 0xF1; }
+
 static volatile uint8_t sink;
 static unsigned calls;
 
@@ -90,6 +93,10 @@ uint64_t x9_read(const uint8_t *file, size_t file_len, uint64_t *table, size_t t
     if (number == 8 && answer[2] == 1 && file[answer[3] + 4] == '6') answer[1]++, answer[3] += 88;
 #elif PLANT == 28 /* a 61 outside a bundle has an item ordinal */
     for (size_t i = 0; i < used; i += 7) if (table[i] == 61 && !table[i + 4]) table[i + 5] = 1;
+#elif PLANT == 30 /* a letter of Annex B read as ASCII in an EBCDIC file: no view is missing */
+    if (number == 8 && answer[2] == 1 && is_ebcdic(file, file_len)) number = answer[0] = 9;
+#elif PLANT == 31 /* the bracket of Table 1's own column, 4A, which has no counterpart in the code page, is no fault of the field */
+    if (number == 7 && is_ebcdic(file, file_len) && memchr(file + answer[3] + 4, 0x4A, 73)) number = answer[0] = 8;
 #endif
     free(before);
     return number;
@@ -103,7 +110,10 @@ uint64_t x9_picture(const uint8_t *file, size_t file_len, uint64_t offset, uint6
     if (offset == UINT64_MAX - 3 && file_len > 200) number = proved_x9_picture(file, file_len, 0, place);
 #elif PLANT == 17 /* reads a length field cut by the end */
     if (number == 3 && offset < file_len) sink = file[offset + 3];
+#elif PLANT == 32 /* the picture call does not go by the first record */
+    if (!number && is_ebcdic(file, file_len)) { number = place[0] = 5; place[2] = place[3] = 0; }
 #endif
+    (void)is_ebcdic;
     return number;
 }
 

@@ -29,8 +29,18 @@ void peer_close(reading *r);
 size_t peer_rows(const reading *r);
 uint64_t peer_fill(const reading *r, uint64_t *table, size_t len, uint64_t answer[ANSWER]);
 uint64_t peer_picture(const uint8_t *file, size_t len, uint64_t offset, uint64_t place[4]);
-uint64_t peer_record(const uint8_t *body, size_t len, uint64_t answer[2]);
+uint64_t peer_record(const uint8_t *body, size_t len, uint64_t set, uint64_t answer[2]);
 void peer_setup(void);
+
+/* Whether the library carries EBCDIC: the constant of the independent side, handed over by `carried`. */
+#ifndef EBCDIC_CARRIED
+#define EBCDIC_CARRIED 0
+#endif
+#if EBCDIC_CARRIED
+uint64_t x9_record_in(const uint8_t *body, size_t body_len, uint64_t set, uint64_t answer[2]);
+#endif
+
+enum { ASCII, EBCDIC };
 
 enum { ACCEPTED, SIZE, ROOM, CUT, LENGTH, TYPE, PLACE, FIELD, LINK, TOTAL, OPEN, AFTER, NUMBERS };
 
@@ -91,10 +101,17 @@ static struct counters seen; /* over the whole process */
 static uint64_t inputs, reads, pictures, records, long_reads;
 static uint64_t by_number[NUMBERS];
 
+/* The byte of the digit 0 in the file at hand. All that is looked at here are digits, which are ten bytes in a row in either set. */
+static uint8_t zero = '0';
+
+static void tell_set(const uint8_t *file, size_t len) {
+    zero = EBCDIC_CARRIED && len >= 6 && file[4] == 0xF0 && file[5] == 0xF1 ? 0xF0 : '0';
+}
+
 static int type_index(const uint8_t *two, size_t left) {
     static const char types[] = "01102025262728313233343550525461709099";
     for (int i = 0; left >= 2 && i < TYPES - 1; i++)
-        if (two[0] == types[2 * i] && two[1] == types[2 * i + 1]) return i + 1;
+        if (two[0] == types[2 * i] - '0' + zero && two[1] == types[2 * i + 1] - '0' + zero) return i + 1;
     return 0;
 }
 
@@ -276,7 +293,7 @@ static void check_refused(const uint8_t *file, size_t len, const walk *w, size_t
     MUST((a[0] == OPEN) == (left == 0), "OPEN or not: answer %" PRIu64 " with %zu bytes left", a[0], left);
     if (a[0] == AFTER) {
         const uint8_t *last = a[1] > 1 ? file + w->at[a[1] - 2] : at;
-        MUST(a[1] > 1 && last[4] == '9' && last[5] == '9', "AFTER without a 99 before it");
+        MUST(a[1] > 1 && last[4] == zero + 9 && last[5] == zero + 9, "AFTER without a 99 before it");
     } else if (a[0] != OPEN) {
         MUST((a[0] == CUT) == cut, "CUT or not: answer %" PRIu64 " with %zu bytes left", a[0], left);
     }
@@ -287,7 +304,7 @@ static void check_refused(const uint8_t *file, size_t len, const walk *w, size_t
 /* The number at positions of the record whose length field stands here. */
 static uint64_t digits(const uint8_t *at, int first, int last) {
     uint64_t number = 0;
-    for (int d = first; d <= last; d++) number = number * 10 + (uint64_t)(at[3 + d] - '0');
+    for (int d = first; d <= last; d++) number = number * 10 + (uint64_t)(at[3 + d] - zero);
     return number;
 }
 
@@ -303,14 +320,14 @@ static void check_accepted(const uint8_t *file, size_t len, const walk *w, size_
     for (size_t i = 0; i < w->count; i++) {
         const uint64_t *row = table + 7 * i;
         const uint8_t *at = file + w->at[i];
-        uint64_t type = (uint64_t)(at[4] - '0') * 10 + (uint64_t)(at[5] - '0');
+        uint64_t type = (uint64_t)(at[4] - zero) * 10 + (uint64_t)(at[5] - zero);
         uint64_t in_letter, in_bundle, in_item, amount = 0;
         MUST(told(at) >= 73 && type_index(at + 4, 2), "accepted with record %zu short or of no carried type", i + 1);
         if (type == 10) letters++, bundle = 0, letter_cents = 0;
         if (type == 20) bundles++, bundle++, item = 0, bundle_cents = 0, open = 1;
         if (type == 50) views++;
         if (type == 25 || type == 31 || type == 61) {
-            int credit = type == 61 && at[6] != '9'; /* field 2 (clause 26) */
+            int credit = type == 61 && at[6] != zero + 9; /* field 2 (clause 26) */
             items++, item++;
             if (type == 61) amount = digits(at, 49, 62); /* field 7 */
             else amount = digits(at, 48, 57); /* field 6 (clauses 10 and 14) */
@@ -403,7 +420,7 @@ static void picture_at(const uint8_t *const files[PLACES], size_t len, uint64_t 
             MUST(offset < len && len - offset >= 4, "a picture at offset %" PRIu64, offset);
             size_t length = told(file + offset), left = len - (size_t)offset - 4;
             MUST(length <= left && length >= 139, "a picture in a record of %zu bytes", length);
-            MUST(file[offset + 4] == '5' && file[offset + 5] == '2', "a picture of no 52");
+            MUST(file[offset + 4] == zero + 5 && file[offset + 5] == zero + 2, "a picture of no 52");
             MUST(p[2] >= offset + 4 + 139 && p[2] <= offset + 4 + length && p[3] <= offset + 4 + length - p[2],
                  "picture at offset %" PRIu64 ": start %" PRIu64 ", length %" PRIu64, offset, p[2], p[3]);
         } else {
@@ -426,14 +443,25 @@ static void picture_at(const uint8_t *const files[PLACES], size_t len, uint64_t 
     }
 }
 
-static void record_alone(const uint8_t *body, size_t len) {
+/* The library's call for one record of a set. */
+static uint64_t x9_record_of(int set, const uint8_t *body, size_t len, uint64_t answer[2]) {
+#if EBCDIC_CARRIED
+    if (set == EBCDIC) return x9_record_in(body, len, EBCDIC, answer);
+#endif
+    (void)set;
+    return x9_record(body, len, answer);
+}
+
+static void record_of(int set, const uint8_t *body, size_t len) {
     uint64_t due[2], kept[2];
+    uint8_t before = zero;
+    zero = set == EBCDIC ? 0xF0 : '0';
     for (int time = 0; time < 2; time++) {
         int where = turn++ % PLACES;
         uint8_t *lent = where == HEAP ? malloc(len) : stand(body_region, where, len);
         uint64_t *a = lend_answer(where, 2, UINT64_C(0x5A5A5A5A5A5A5A5A) + (uint64_t)time);
         memcpy(lent, body, len);
-        uint64_t number = x9_record(lent, len, a);
+        uint64_t number = x9_record_of(set, lent, len, a);
         records++;
         MUST(number == a[0], "x9_record returns %" PRIu64 ", answer %" PRIu64, number, a[0]);
         MUST(number == ACCEPTED || number == LENGTH || number == TYPE || number == FIELD, "x9_record gives %" PRIu64, number);
@@ -442,17 +470,23 @@ static void record_alone(const uint8_t *body, size_t len) {
         if (time == 0) {
             memcpy(kept, a, sizeof kept);
             COUNT(records, (number * TYPES + (uint64_t)type_index(body, len)) * FIELDS + a[1]);
-            peer_record(lent, len, due);
+            peer_record(lent, len, (uint64_t)set, due);
             if (memcmp(a, due, sizeof due)) {
                 show("proved     ", a, 2);
                 show("independent", due, 2);
-                fail("DIFFERENCE", "x9_record of %zu bytes", len);
+                fail("DIFFERENCE", "x9_record of %zu bytes, set %d", len, set);
             }
         }
         MUST(!memcmp(a, kept, sizeof kept), "x9_record: the second answer is another");
         drop(where, a);
         drop(where, lent);
     }
+    zero = before;
+}
+
+/* A record alone in each set that the library carries. */
+static void record_alone(const uint8_t *body, size_t len) {
+    for (int set = ASCII; set <= (EBCDIC_CARRIED ? EBCDIC : ASCII); set++) record_of(set, body, len);
 }
 
 /* The same bytes at the head of a file of the largest size, zeros behind, and of one byte more. */
@@ -492,6 +526,7 @@ int LLVMFuzzerTestOneInput(const uint8_t *data, size_t size) {
     size_t len = size - held;
     if (len > FILE_MOST) return -1;
     now_len = len;
+    tell_set(file, len);
     inputs++;
     turn = c[0] % PLACES;
     size_t table_len = ((size_t)c[1] << 8 | c[2]) % 4096;
@@ -527,7 +562,7 @@ int LLVMFuzzerTestOneInput(const uint8_t *data, size_t size) {
     picture_at(files, len, 0);
     for (size_t i = 0; i <= w.count && i < 400; i++) {
         size_t here = w.at[i];
-        if (i < 24 || (len - here >= 6 && file[here + 4] == '5' && file[here + 5] == '2')) picture_at(files, len, here);
+        if (i < 24 || (len - here >= 6 && file[here + 4] == zero + 5 && file[here + 5] == zero + 2)) picture_at(files, len, here);
     }
     for (uint64_t back = 0; back < 7; back++) {
         picture_at(files, len, (uint64_t)len + 1 - back); /* also 2^64 - k for the shortest files */

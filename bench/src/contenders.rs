@@ -3,7 +3,9 @@
 use std::alloc::{GlobalAlloc, Layout, System};
 use std::sync::atomic::{AtomicU64, Ordering::Relaxed};
 
+use peer_reader::charset::{Set, Text};
 use peer_reader::descent::{self, LISTED};
+use peer_reader::judge::number_in;
 
 /// The numbers of an answer.
 pub type Answer = [u64; LISTED];
@@ -30,11 +32,13 @@ pub fn independent(file: &[u8], table: &mut [u64]) -> Answer {
 pub fn walk(file: &[u8], _: &mut [u64]) -> Answer {
     let add = |bytes: &[u8]| bytes.iter().fold(0, |sum: u64, byte| sum.wrapping_add(u64::from(*byte)));
     let (mut left, mut sum, mut records) = (file, 0u64, 0);
+    let set = Set::by_library(file);
+    let name = [set.byte(b'5'), set.byte(b'2')];
     while let Some((length, rest)) = left.split_first_chunk() {
         let (body, rest) = rest.split_at(u32::from_be_bytes(*length) as usize);
         left = rest;
         records += 1;
-        let picture = if body.starts_with(b"52") { image_data(body) } else { body.len()..body.len() };
+        let picture = if body.starts_with(&name) { image_data(set, body) } else { body.len()..body.len() };
         sum = sum.wrapping_add(add(&body[..picture.start])).wrapping_add(add(&body[picture.end..]));
     }
     let mut answer = [0; LISTED];
@@ -43,8 +47,8 @@ pub fn walk(file: &[u8], _: &mut [u64]) -> Answer {
 }
 
 /// Clause 22: fields 15 to 19, at positions 104 to 127, size the parts before the picture; field 20, 128 to 134, sizes it.
-fn image_data(body: &[u8]) -> std::ops::Range<usize> {
-    let number = |first: usize, last: usize| peer_reader::judge::number(&body[first - 1..last]) as usize;
+fn image_data(set: Set, body: &[u8]) -> std::ops::Range<usize> {
+    let number = |first: usize, last: usize| number_in(Text::new(set, &body[first - 1..last])) as usize;
     let before = number(104, 107) + number(108, 112) + number(113, 117) + number(118, 122) + number(123, 127);
     let start = 139 + before;
     start..start + number(128, 134)

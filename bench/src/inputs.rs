@@ -2,6 +2,7 @@
 
 use std::ops::Range;
 
+use peer_reader::copy::to_ebcdic;
 use peer_reader::make::{encode, record, set_key, sound, Rec, Wish};
 use peer_reader::random::Random;
 
@@ -38,6 +39,11 @@ impl Batch {
             batch.places.push(start..batch.bytes.len());
         }
         batch
+    }
+
+    /// The same files in EBCDIC, at the same places: a translation changes no length.
+    pub fn in_ebcdic(&self) -> Batch {
+        Batch { bytes: self.files().flat_map(to_ebcdic).collect(), places: self.places.clone() }
     }
 
     pub fn files(&self) -> impl Iterator<Item = &[u8]> {

@@ -11,6 +11,7 @@ use std::thread;
 
 use contenders::{allocations, independent, proved, walk, Answer, Counted};
 use inputs::{file, Batch, Shape, MIB};
+use peer_reader::charset::EBCDIC_CARRIED;
 use timing::{median, now, ratio, rounds};
 
 #[global_allocator]
@@ -44,8 +45,13 @@ fn agreed(batch: &Batch, table: &mut [u64], other: &mut [u64]) -> u64 {
     records
 }
 
-/// One case: every contender in turn, and the line of its ratios.
+/// One case and the line of its ratios.
 fn case(name: &str, batch: &Batch, table: &mut [u64], other: &mut [u64], budget: f64) {
+    println!("| {name} | {} |", ratios(name, batch, table, other, budget));
+}
+
+/// Every contender in turn on one input.
+fn ratios(name: &str, batch: &Batch, table: &mut [u64], other: &mut [u64], budget: f64) -> String {
     let records = agreed(batch, table, other);
     let readers: [(&str, Reader); 3] = [("proved", proved), ("independent", independent), ("walk", walk)];
     eprintln!("{name}: {} files, {} bytes, {records} records", batch.places.len(), batch.bytes.len());
@@ -64,7 +70,20 @@ fn case(name: &str, batch: &Batch, table: &mut [u64], other: &mut [u64], budget:
         let each = seconds * 1e9 / records as f64;
         eprintln!("  {who}: {seconds:.6} s, {speed:.0} MiB/s, {each:.0} ns a record, {} rounds", times.len());
     }
-    println!("| {name} | {} | {} |", ratio(&times[1], &times[0]), ratio(&times[0], &times[2]));
+    format!("{} | {}", ratio(&times[1], &times[0]), ratio(&times[0], &times[2]))
+}
+
+/// The inputs in EBCDIC: the same table for them, and the proved reader's speed beside that in ASCII.
+fn cases_in_ebcdic(inputs: &[(&str, &Batch)], table: &mut [u64], other: &mut [u64]) {
+    println!();
+    println!("| input in EBCDIC | independent / proved | proved / memory walk | proved, ASCII / EBCDIC |");
+    println!("|---|---|---|---|");
+    for (name, ascii) in inputs {
+        let batch = ascii.in_ebcdic();
+        let ratios = ratios(name, &batch, table, other, 6.0);
+        let times = rounds(6.0, 2, |index| run(proved, [ascii, &batch][index], table));
+        println!("| {name} | {ratios} | {} |", ratio(&times[0], &times[1]));
+    }
 }
 
 /// The time for a MiB at each size beside that at the first, in turn over the sizes. A turn reads one file again and
@@ -116,10 +135,18 @@ fn main() {
     eprintln!("inputs made in {:.1} s", (now() - start).as_secs_f64());
     println!("| input | independent / proved | proved / memory walk |");
     println!("|---|---|---|");
-    case("(a) 200 MiB with pictures", &pictures, &mut table, &mut other, 6.0);
-    case("(b) 32 MiB without pictures", &plain, &mut table, &mut other, 6.0);
-    case("(c) 10,000 small files", &small, &mut table, &mut other, 6.0);
-    case("(d) 32 MiB of lockbox deposits", &lockbox, &mut table, &mut other, 6.0);
+    let inputs = [
+        ("(a) 200 MiB with pictures", &pictures),
+        ("(b) 32 MiB without pictures", &plain),
+        ("(c) 10,000 small files", &small),
+        ("(d) 32 MiB of lockbox deposits", &lockbox),
+    ];
+    for (name, batch) in inputs {
+        case(name, batch, &mut table, &mut other, 6.0);
+    }
+    if EBCDIC_CARRIED {
+        cases_in_ebcdic(&inputs, &mut table, &mut other);
+    }
     println!();
     println!("| proved, time for a MiB | 1 MiB | 4 MiB | 16 MiB | 64 MiB | 256 MiB |");
     println!("|---|---|---|---|---|---|");

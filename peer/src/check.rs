@@ -1,8 +1,9 @@
 //! One file put to both sides.
 
 use peer_reader::asked::{picture_offsets, table_lengths};
-use peer_reader::descent::{read, Number, Reading};
-use peer_reader::picture::picture;
+use peer_reader::charset::Set;
+use peer_reader::descent::{read_in, Number, Reading};
+use peer_reader::picture::picture_in;
 use peer_reader::random::Random;
 use peer_reader::tally::Tally;
 
@@ -35,7 +36,7 @@ impl Counts {
 
 /// Compares both sides on one file.
 pub fn check(file: &[u8], random: &mut Random, tally: &mut Tally, counts: &mut Counts) -> Result<(), Difference> {
-    let reading = read(file);
+    let reading = read_in(Set::by_library(file), file);
     tally.note_reading(file, &reading);
     counts.files += 1;
     counts.bytes += file.len() as u64;
@@ -43,7 +44,7 @@ pub fn check(file: &[u8], random: &mut Random, tally: &mut Tally, counts: &mut C
     for length in table_lengths(&reading, random) {
         readings_agree(file, &reading, length, random)?;
         counts.readings += 1;
-        tally.note_table(&reading, length);
+        tally.note_table(file, &reading, length);
     }
     if reading.answer.number == Number::Accepted {
         counts.accepted += 1;
@@ -53,6 +54,7 @@ pub fn check(file: &[u8], random: &mut Random, tally: &mut Tally, counts: &mut C
         pictures_agree(file, offset, tally)?;
         counts.pictures += 1;
     }
+    tally.note_within_images(file);
     Ok(())
 }
 
@@ -82,8 +84,8 @@ fn readings_agree(file: &[u8], reading: &Reading, length: usize, random: &mut Ra
 
 /// Both sides on one picture call.
 fn pictures_agree(file: &[u8], offset: u64, tally: &mut Tally) -> Result<(), Difference> {
-    let expected = picture(file, offset);
-    tally.note_picture(&expected);
+    let expected = picture_in(Set::by_library(file), file, offset);
+    tally.note_picture(file, &expected);
     let (number, place) = abi::picture(file, offset);
     let listed = expected.listed();
     if place != listed || number != listed[0] {

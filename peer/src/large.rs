@@ -4,6 +4,8 @@ use std::path::Path;
 use std::sync::Mutex;
 
 use peer_reader::brim::{letter_past, letter_past_64_bits, Stated};
+use peer_reader::charset::EBCDIC_CARRIED;
+use peer_reader::copy::to_ebcdic;
 use peer_reader::descent::LARGEST;
 use peer_reader::make::{encode, sound, Wish};
 use peer_reader::random::Random;
@@ -23,6 +25,12 @@ pub fn check_largest(save: &Path, tally: &mut Tally, counts: &mut Counts, found:
     };
     let mut file = largest(&mut random);
     put("largest", &file, &mut random);
+    if EBCDIC_CARRIED {
+        let mut version = to_ebcdic(&file);
+        put("largest-ebcdic", &version, &mut random);
+        version.push(b' ');
+        put("one-more-ebcdic", &version, &mut random);
+    }
     file.push(b' ');
     put("one-more", &file, &mut random);
     for (name, debit, how) in PAST_64_BITS {

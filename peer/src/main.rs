@@ -13,8 +13,10 @@ use std::sync::atomic::{AtomicBool, AtomicU64, Ordering};
 use std::sync::Mutex;
 use std::time::{Instant, SystemTime, UNIX_EPOCH};
 
+use peer_reader::charset::EBCDIC_CARRIED;
+use peer_reader::ebcdic;
 use peer_reader::random::Random;
-use peer_reader::stream;
+use peer_reader::stream::{self, Made};
 use peer_reader::tally::Tally;
 
 use check::Counts;
@@ -110,17 +112,31 @@ fn run(options: &Options, shared: &Shared) -> (Tally, Counts) {
     (tally, counts)
 }
 
+/// The file of a seed and an index.
+type Maker = fn(u64, u64) -> Made;
+
+/// Half as many besides in EBCDIC, once the proved library carries it.
+fn files_in_ebcdic(options: &Options) -> u64 {
+    match EBCDIC_CARRIED {
+        true => options.files / 2,
+        false => 0,
+    }
+}
+
 fn work(options: &Options, shared: &Shared, first: u64) -> (Tally, Counts) {
     let mut tally = Tally::default();
     let mut counts = Counts::default();
-    for index in (first..options.files).step_by(options.threads as usize) {
+    let seed = options.seed;
+    let in_ascii = (0..options.files).map(|index| (index, "file", stream::file as Maker));
+    let in_ebcdic = (0..files_in_ebcdic(options)).map(|index| (index, "ebcdic", ebcdic::file as Maker));
+    for (index, kind, maker) in in_ascii.chain(in_ebcdic).skip(first as usize).step_by(options.threads as usize) {
         if shared.stop.load(Ordering::Relaxed) {
             break;
         }
-        let made = stream::file(options.seed, index);
-        let mut random = Random::for_file(!options.seed, index);
+        let made = maker(seed, index);
+        let mut random = Random::for_file(!seed, index);
         if let Err(difference) = check::check(&made.bytes, &mut random, &mut tally, &mut counts) {
-            let name = format!("seed{}-file{index}", options.seed);
+            let name = format!("seed{seed}-{kind}{index}");
             report(&options.save, &name, made.shape, &made.bytes, &difference, &shared.found);
             let many = shared.found.lock().map(|found| found.len() >= 10).unwrap_or(true);
             shared.stop.fetch_or(many, Ordering::Relaxed);
@@ -168,7 +184,7 @@ fn conclude(options: &Options, shared: &Shared, tally: &Tally, counts: &Counts, 
     let missing = tally.missing();
     let demanded = options.files >= WHOLE_RUN;
     for point in missing.iter().take(if demanded { missing.len() } else { SHORT_LIST }) {
-        println!("not covered: {point:?}");
+        println!("not covered in {:?}: {:?}", point.0, point.1);
     }
     println!(
         "differences {differences}, points not covered {}{}",

@@ -1,8 +1,10 @@
 //! Every byte value at every place of the fixed parts, every pair of characters in the two-character code fields, and every byte value at
-//! every place of a routing field that holds each of the forms.
+//! every place of a routing field that holds each of the forms; once EBCDIC is carried, in files of both sets.
 
 use std::sync::Mutex;
 
+use peer_reader::charset::{Set, EBCDIC_CARRIED};
+use peer_reader::copy::to_ebcdic;
 use peer_reader::descent::Inside;
 use peer_reader::harm::insides;
 use peer_reader::layout::layout;
@@ -108,26 +110,39 @@ fn part(options: &Options, first: usize, found: &Mutex<Vec<String>>) -> (Tally, 
         random: Random::new(first as u64),
         tally: Tally::default(),
         counts: Counts::default(),
+        set: Set::Ascii,
     };
-    for kind in [25, 31] {
-        let records = whole(options.seed, kind);
-        for index in 0..records.len() {
-            // The types of both files are swept in the first, the controls again in the second.
-            let code = records[index].code;
-            if kind == 25 || matches!(code, 31..=35 | 70 | 90 | 99) {
-                part.places(&records, index);
-                part.pairs(&records, index);
-                part.routings(&records, index);
-            }
-        }
-    }
-    let records = with_credits(options.seed);
-    for index in credit_places(&records) {
-        part.places(&records, index);
-        part.pairs(&records, index);
-        part.routings(&records, index);
+    part.all();
+    if EBCDIC_CARRIED {
+        part.set = Set::Ebcdic;
+        part.all();
     }
     (part.tally, part.counts)
+}
+
+impl Part<'_> {
+    /// Every place, pair and routing field.
+    fn all(&mut self) {
+        for kind in [25, 31] {
+            let records = whole(self.options.seed, kind);
+            for (index, record) in records.iter().enumerate() {
+                // The types of both files are swept in the first, the controls again in the second.
+                if kind == 25 || matches!(record.code, 31..=35 | 70 | 90 | 99) {
+                    self.record(&records, index);
+                }
+            }
+        }
+        let records = with_credits(self.options.seed);
+        for index in credit_places(&records) {
+            self.record(&records, index);
+        }
+    }
+
+    fn record(&mut self, records: &[Rec], index: usize) {
+        self.places(records, index);
+        self.pairs(records, index);
+        self.routings(records, index);
+    }
 }
 
 /// The share of one thread.
@@ -138,6 +153,8 @@ struct Part<'a> {
     random: Random,
     tally: Tally,
     counts: Counts,
+    /// The set of the files.
+    set: Set,
 }
 
 /// Where the body of a record starts in the file.
@@ -146,6 +163,25 @@ fn start_of(records: &[Rec], index: usize) -> usize {
 }
 
 impl Part<'_> {
+    /// The records as a file of this part's set.
+    fn file_of(&self, records: &[Rec]) -> Vec<u8> {
+        match self.set {
+            Set::Ascii => encode(records),
+            Set::Ebcdic => to_ebcdic(&encode(records)),
+        }
+    }
+
+    /// 128 bytes to make pairs of: in ASCII the first ones, in EBCDIC every character and some that are none.
+    fn for_pairs(&self) -> Vec<u8> {
+        match self.set {
+            Set::Ascii => (0..128).collect(),
+            Set::Ebcdic => {
+                let (characters, others): (Vec<u8>, Vec<u8>) = (0..=255).partition(|byte| self.set.is_character(*byte));
+                characters.into_iter().chain(others.into_iter().step_by(5)).collect()
+            }
+        }
+    }
+
     /// The values of this thread, of so many.
     fn values(&self, count: usize) -> impl Iterator<Item = usize> {
         (self.first..count).step_by(self.options.threads as usize)
@@ -173,7 +209,7 @@ impl Part<'_> {
 
     fn places(&mut self, records: &[Rec], index: usize) {
         let (code, start) = (records[index].code, start_of(records, index));
-        let mut file = encode(records);
+        let mut file = self.file_of(records);
         for place in start - 4..start + layout(code).fixed {
             self.place(code, &mut file, place);
         }
@@ -181,13 +217,14 @@ impl Part<'_> {
 
     fn pairs(&mut self, records: &[Rec], index: usize) {
         let (code, start) = (records[index].code, start_of(records, index));
-        let mut file = encode(records);
+        let mut file = self.file_of(records);
+        let bytes = self.for_pairs();
         for (_, number) in PAIRS.iter().filter(|(of, _)| *of == code) {
             let place = start + layout(code).field(*number).first - 1;
             let before = [file[place], file[place + 1]];
-            for value in self.values(128 * 128) {
-                file[place] = (value / 128) as u8;
-                file[place + 1] = (value % 128) as u8;
+            for value in self.values(bytes.len() * bytes.len()) {
+                file[place] = bytes[value / bytes.len()];
+                file[place + 1] = bytes[value % bytes.len()];
                 self.put(code, &file);
             }
             file[place..place + 2].copy_from_slice(&before);
@@ -198,7 +235,7 @@ impl Part<'_> {
         let (code, start) = (records[index].code, start_of(records, index));
         for (_, field) in routing::fields().into_iter().filter(|(of, _)| *of == code) {
             for contents in ROUTINGS {
-                let mut file = encode(&with_routing(records, index, field.number, contents));
+                let mut file = self.file_of(&with_routing(records, index, field.number, contents));
                 for place in start + field.first - 1..start + field.last {
                     self.place(code, &mut file, place);
                 }

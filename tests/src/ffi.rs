@@ -1,10 +1,12 @@
-//! The two calls of the proved library, as `include/x9180.h` declares them. All unsafe code of the tests is here.
+//! The calls of the proved library, as `include/x9180.h` declares them. All unsafe code of the tests is here.
 
+use crate::ebcdic::Set;
 use crate::judge::Answer;
 
 extern "C" {
     fn x9_picture(file: *const u8, file_len: usize, offset: u64, place: *mut u64) -> u64;
     fn x9_record(record: *const u8, record_len: usize, answer: *mut u64) -> u64;
+    fn x9_record_in(record: *const u8, record_len: usize, set: u64, answer: *mut u64) -> u64;
 }
 
 /// Stands in every slot before a call: the slots lent must change, the one before and the one after must not.
@@ -17,6 +19,21 @@ pub fn record(body: &[u8]) -> Answer {
     let number = unsafe { x9_record(body.as_ptr(), body.len(), slots[1..3].as_mut_ptr()) };
     assert_eq!([slots[0], slots[3]], [GUARD; 2], "x9_record wrote beside its answer");
     assert_eq!(number, slots[1], "x9_record returns one number and writes another");
+    Answer { number, field: slots[2] }
+}
+
+/// Judges one record of this set alone (point 21). Inlined, so that the call is linked only where EBCDIC is carried.
+#[inline(always)]
+pub fn record_in(body: &[u8], set: Set) -> Answer {
+    let mut slots = [GUARD; 4];
+    let set = match set {
+        Set::Ascii => 0,
+        Set::Ebcdic => 1,
+    };
+    // SAFETY: the bytes are lent for the call, and two slots follow the pointer.
+    let number = unsafe { x9_record_in(body.as_ptr(), body.len(), set, slots[1..3].as_mut_ptr()) };
+    assert_eq!([slots[0], slots[3]], [GUARD; 2], "x9_record_in wrote beside its answer");
+    assert_eq!(number, slots[1], "x9_record_in returns one number and writes another");
     Answer { number, field: slots[2] }
 }
 

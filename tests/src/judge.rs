@@ -1,5 +1,6 @@
 //! The independent judge: one record alone, and the picture call. Written from documents 01, 02 and 001 and the readings.
 
+use crate::ebcdic::Set;
 use crate::table::{Field, Kind, Table, Values};
 
 pub const ACCEPTED: u64 = 0;
@@ -27,7 +28,12 @@ pub fn at_field(field: u64) -> Answer {
     Answer { number: FIELD, field }
 }
 
-/// Judges one record, given without its four-byte length: the checks in the order of document 01.
+/// Judges one record of this set.
+pub fn record_in(table: &Table, set: Set, body: &[u8]) -> Answer {
+    record(table, &set.to_ascii(body))
+}
+
+/// Judges one ASCII record, given without its four-byte length: the checks in the order of document 01.
 pub fn record(table: &Table, body: &[u8]) -> Answer {
     if body.len() < 2 {
         return whole(LENGTH);
@@ -243,14 +249,20 @@ fn first_part_fault(parts: &[Part], body: &[u8]) -> Option<u64> {
 
 // The picture call.
 
-/// Number, field, start and length of the Image Data part of the 52 whose length field stands at `offset`.
+/// Number, field, start and length of the Image Data part of the 52 whose length field stands at `offset`, in an ASCII file.
 pub fn picture(table: &Table, file: &[u8], offset: u64) -> [u64; 4] {
+    picture_in(table, Set::Ascii, file, offset)
+}
+
+/// The same in a file of this set.
+pub fn picture_in(table: &Table, set: Set, file: &[u8], offset: u64) -> [u64; 4] {
     if file.is_empty() || file.len() > LARGEST_FILE {
         return [SIZE, 0, 0, 0];
     }
     let Some(body) = framed(file, offset) else {
         return [CUT, 0, 0, 0];
     };
+    let body = &set.to_ascii(body);
     if body.len() >= 2 && !body.starts_with(b"52") {
         return [TYPE, 0, 0, 0];
     }

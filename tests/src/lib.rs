@@ -9,6 +9,7 @@
 
 pub mod characters;
 pub mod compose;
+pub mod ebcdic;
 pub mod edges;
 pub mod ffi;
 pub mod generate;

@@ -5,10 +5,11 @@ mod repair;
 
 use std::slice::{from_raw_parts, from_raw_parts_mut};
 
-use peer_reader::descent::{read, Number, Reading, LISTED};
+use peer_reader::charset::Set;
+use peer_reader::descent::{read_in, Number, Reading, LISTED};
 use peer_reader::judge::{self, Flaw};
-use peer_reader::layout::{carried, layout};
-use peer_reader::picture::picture;
+use peer_reader::layout::{carried_in, layout};
+use peer_reader::picture::picture_in;
 
 /// Reads a file once; the reading is then asked for any number of tables.
 ///
@@ -16,7 +17,8 @@ use peer_reader::picture::picture;
 /// `file` points to `len` bytes.
 #[no_mangle]
 pub unsafe extern "C" fn peer_open(file: *const u8, len: usize) -> *mut Reading {
-    Box::into_raw(Box::new(read(from_raw_parts(file, len))))
+    let file = from_raw_parts(file, len);
+    Box::into_raw(Box::new(read_in(Set::by_library(file), file)))
 }
 
 /// # Safety
@@ -50,31 +52,32 @@ pub unsafe extern "C" fn peer_fill(reading: *const Reading, table: *mut u64, len
 /// `file` points to `len` bytes, `place` to four numbers.
 #[no_mangle]
 pub unsafe extern "C" fn peer_picture(file: *const u8, len: usize, offset: u64, place: *mut u64) -> u64 {
-    let found = picture(from_raw_parts(file, len), offset);
+    let file = from_raw_parts(file, len);
+    let found = picture_in(Set::by_library(file), file, offset);
     from_raw_parts_mut(place, 4).copy_from_slice(&found.listed());
     found.number as u64
 }
 
-/// One record judged alone: LENGTH below 2, TYPE, then the record's own checks.
+/// One record judged alone, in EBCDIC if the set is 1, otherwise in ASCII: LENGTH below 2, TYPE, then the record's own checks.
 ///
 /// # Safety
 /// `body` points to `len` bytes, `answer` to two numbers.
 #[no_mangle]
-pub unsafe extern "C" fn peer_record(body: *const u8, len: usize, answer: *mut u64) -> u64 {
+pub unsafe extern "C" fn peer_record(body: *const u8, len: usize, set: u64, answer: *mut u64) -> u64 {
     let body = from_raw_parts(body, len);
-    let (number, field) = judged(body);
+    let (number, field) = judged(if set == 1 { Set::Ebcdic } else { Set::Ascii }, body);
     from_raw_parts_mut(answer, 2).copy_from_slice(&[number as u64, u64::from(field)]);
     number as u64
 }
 
-fn judged(body: &[u8]) -> (Number, u8) {
+fn judged(set: Set, body: &[u8]) -> (Number, u8) {
     if body.len() < 2 {
         return (Number::Length, 0);
     }
-    let Some(code) = carried(&body[..2]) else {
+    let Some(code) = carried_in(set, &body[..2]) else {
         return (Number::Type, 0);
     };
-    match judge::record(layout(code), body) {
+    match judge::record_in(set, layout(code), body) {
         Ok(()) => (Number::Accepted, 0),
         Err(Flaw::Length) => (Number::Length, 0),
         Err(Flaw::Field(field)) => (Number::Field, field),

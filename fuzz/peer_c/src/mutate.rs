@@ -5,7 +5,10 @@ use std::panic::{self, AssertUnwindSafe};
 use std::slice::{from_raw_parts, from_raw_parts_mut};
 use std::sync::atomic::{AtomicBool, Ordering};
 
+use peer_reader::charset::{Set, EBCDIC_CARRIED};
+use peer_reader::copy::{copy, to_ebcdic};
 use peer_reader::descent::{split_record, Inside};
+use peer_reader::ebcdic;
 use peer_reader::harm;
 use peer_reader::layout::{carried, CARRIED};
 use peer_reader::make::{self, encode, Rec, Wish};
@@ -141,12 +144,46 @@ fn inside_of(pieces: &[Piece], at: usize) -> Inside {
     harm::insides(pieces[..=at].iter().map(code_of)).pop().unwrap_or(Inside::File)
 }
 
+/// An EBCDIC file is changed and repaired as its ASCII copy, and translated again afterwards.
+fn as_ascii(file: &[u8]) -> Vec<u8> {
+    match Set::by_library(file) {
+        Set::Ascii => file.to_vec(),
+        Set::Ebcdic => copy(file).into_owned(),
+    }
+}
+
+/// The changed copy of a file: most often in the set of the file, now and then in the other, and now and then with a byte without a
+/// counterpart or other bytes 5 and 6.
+fn in_a_set(was: Set, changed: Vec<u8>, random: &mut Random) -> Vec<u8> {
+    if !EBCDIC_CARRIED {
+        return changed;
+    }
+    let stays = random.percent(90);
+    let mut file = match (was, stays) {
+        (Set::Ebcdic, true) | (Set::Ascii, false) => to_ebcdic(&changed),
+        _ => changed,
+    };
+    match random.below(100) {
+        0..=9 if !file.is_empty() => {
+            let place = random.below(file.len());
+            file[place] = random.pick(&Set::of(&file).strangers());
+        }
+        10..=13 if file.len() >= 6 => {
+            let pairs = [[0xF0, 0xF1], [b'0', b'1'], [0xF0, b'1'], [b'0', 0xF1], [0xF1, 0xF0]];
+            file[4..6].copy_from_slice(&random.pick(&pairs));
+        }
+        _ => {}
+    }
+    file
+}
+
 /// One file with records of another: one record for one of its type, or the other file's end behind a place it may follow.
 fn crossed(one: &[u8], two: &[u8], random: &mut Random) -> Vec<u8> {
     let (control, first) = parts(one);
     let (_, second) = parts(two);
-    let (mut pieces, _) = taken_apart(first);
-    let (second, rest) = taken_apart(second);
+    let set = Set::by_library(first);
+    let (mut pieces, _) = taken_apart(&as_ascii(first));
+    let (second, rest) = taken_apart(&as_ascii(second));
     if random.percent(50) && !pieces.is_empty() {
         for _ in 0..random.between(1, 3) {
             let at = random.below(pieces.len());
@@ -166,7 +203,7 @@ fn crossed(one: &[u8], two: &[u8], random: &mut Random) -> Vec<u8> {
     }
     mend(&mut pieces, random);
     let mut made = spared(control, random).to_vec();
-    made.extend(put_together(&pieces, &rest));
+    made.extend(in_a_set(set, put_together(&pieces, &rest), random));
     made
 }
 
@@ -231,15 +268,17 @@ fn bytes(bytewise: Bytewise, given: &[u8], most: usize) -> Vec<u8> {
 
 /// A file from the generator.
 fn fresh(random: &mut Random, max: usize) -> Vec<u8> {
-    let shape = random.pick(&SHAPES);
+    let of_two_sets = EBCDIC_CARRIED && random.percent(50);
+    let shape = if of_two_sets { random.pick(&ebcdic::SHAPES) } else { random.pick(&SHAPES) };
     let turn = random.below(1_000_000);
-    let mut file = shaped(random, shape, turn).bytes;
+    let make = if of_two_sets { ebcdic::shaped } else { shaped };
+    let mut file = make(random, shape, turn).bytes;
     file.truncate(max.saturating_sub(CONTROL));
     file
 }
 
 fn by_record(file: &[u8], random: &mut Random, bytewise: Bytewise) -> Vec<u8> {
-    let (mut pieces, mut rest) = taken_apart(file);
+    let (mut pieces, mut rest) = taken_apart(&as_ascii(file));
     if random.percent(30) {
         rest.clear();
     }
@@ -250,7 +289,7 @@ fn by_record(file: &[u8], random: &mut Random, bytewise: Bytewise) -> Vec<u8> {
     if mend(&mut pieces, random) && random.percent(40) {
         one_change(&mut pieces, random, bytewise);
     }
-    put_together(&pieces, &rest)
+    in_a_set(Set::by_library(file), put_together(&pieces, &rest), random)
 }
 
 fn one_change(pieces: &mut Vec<Piece>, random: &mut Random, bytewise: Bytewise) {

@@ -1,8 +1,11 @@
 //! What is asked about each file: the lengths of the tables that are lent, and the offsets of picture calls.
 
+use crate::charset::{Set, EBCDIC_CARRIED};
 use crate::descent::{split_record, Number, Reading};
-use crate::picture::{picture, Picture};
+use crate::layout::name_of;
+use crate::picture::{picture_in, Picture};
 use crate::random::Random;
+use crate::sets;
 use crate::tally::{Point, Tally};
 
 /// After so many offsets in one file only some of its 52s are asked for.
@@ -18,12 +21,13 @@ pub fn table_lengths(reading: &Reading, random: &mut Random) -> Vec<usize> {
     vec![random.below(60), 0]
 }
 
-/// Every 52 that the lengths lead to, some other records, and offsets that lead nowhere.
+/// Every 52 that the lengths lead to, some other records, and offsets that lead nowhere; once EBCDIC is carried also 52s within images.
 pub fn picture_offsets(file: &[u8], random: &mut Random) -> Vec<u64> {
     let mut offsets = Vec::new();
     let mut at = 0;
+    let name = Set::by_library(file).bytes(&name_of(52));
     while let Some(body) = split_record(&file[at..]) {
-        let pictured = body.starts_with(b"52") && (offsets.len() < MANY || random.percent(1));
+        let pictured = body.starts_with(&name) && (offsets.len() < MANY || random.percent(1));
         if pictured || (at < 20_000 && random.percent(20)) {
             offsets.push(at as u64);
         }
@@ -33,6 +37,9 @@ pub fn picture_offsets(file: &[u8], random: &mut Random) -> Vec<u64> {
     offsets.extend([at as u64, size, size.saturating_sub(random.draw() % 6), random.draw() % (size + 10)]);
     let far = [u64::MAX, u64::MAX - 3, u64::MAX - 4, 1 << 32, 1 << 63, size + 1, size.wrapping_sub(1)];
     offsets.push(random.pick(&far));
+    if EBCDIC_CARRIED {
+        offsets.extend(sets::places_within_images(file));
+    }
     offsets
 }
 
@@ -41,25 +48,34 @@ impl Tally {
     pub fn note_asked(&mut self, file: &[u8], reading: &Reading, random: &mut Random) {
         self.note_reading(file, reading);
         for length in table_lengths(reading, random) {
-            self.note_table(reading, length);
+            self.note_table(file, reading, length);
         }
         for offset in picture_offsets(file, random) {
-            self.note_picture(&picture(file, offset));
+            self.note_picture(file, &picture_in(Set::by_library(file), file, offset));
         }
+        self.note_within_images(file);
     }
 
     /// Notes a reading into a table of so many numbers.
-    pub fn note_table(&mut self, reading: &Reading, length: usize) {
+    pub fn note_table(&mut self, file: &[u8], reading: &Reading, length: usize) {
         if reading.with_rows(length / 7).number == Number::Room {
-            self.note(Point::Room);
+            self.note_in(Set::by_library(file), Point::Room);
         }
     }
 
     /// Notes the answer to a picture call.
-    pub fn note_picture(&mut self, found: &Picture) {
-        self.note(Point::PictureAnswer(found.number));
+    pub fn note_picture(&mut self, file: &[u8], found: &Picture) {
+        let set = Set::by_library(file);
+        self.note_in(set, Point::PictureAnswer(found.number));
         if found.number == Number::Field {
-            self.note(Point::PictureFieldRefused(found.field as u8));
+            self.note_in(set, Point::PictureFieldRefused(found.field as u8));
+        }
+    }
+
+    /// Notes what the picture calls within images show, once they are asked.
+    pub fn note_within_images(&mut self, file: &[u8]) {
+        if EBCDIC_CARRIED {
+            sets::shown_within_images(file).into_iter().for_each(|point| self.note(Point::Sets(point)));
         }
     }
 }

@@ -2,8 +2,9 @@
 //! A file calls for cash letters, a cash letter for bundles and credits, a bundle for items and credits, an item for addenda and
 //! views, a credit for views.
 
+use crate::charset::{Set, Text};
 use crate::judge::{self, Flaw};
-use crate::layout::{carried, layout, Layout};
+use crate::layout::{carried_in, layout, Layout};
 
 /// The largest file in bytes.
 pub const LARGEST: u64 = 268_435_456;
@@ -129,14 +130,19 @@ impl Reading {
     }
 }
 
-/// Reads a whole file.
+/// Reads a whole file by its own set.
 pub fn read(file: &[u8]) -> Reading {
+    read_in(Set::of(file), file)
+}
+
+/// Reads a whole file as one of this set.
+pub fn read_in(set: Set, file: &[u8]) -> Reading {
     let size = file.len() as u64;
     if size == 0 || size > LARGEST {
         let answer = Answer::refused(Number::Size, 0, 0, 0);
         return Reading { answer, rows: Vec::new(), why: "size", last: 0, inside: Inside::File };
     }
-    let mut descent = Descent { file, at: 0, read: 0, last: 0, inside: Inside::File, rows: Vec::new() };
+    let mut descent = Descent { file, set, at: 0, read: 0, last: 0, inside: Inside::File, rows: Vec::new() };
     match descent.file() {
         Ok(sums) => {
             let records = descent.read;
@@ -231,18 +237,25 @@ fn stated(sum: u128) -> u64 {
 /// A record that has passed every check of its own.
 struct Record<'a> {
     layout: &'static Layout,
+    set: Set,
     number: u64,
     offset: usize,
     body: &'a [u8],
 }
 
 impl<'a> Record<'a> {
+    /// A field's bytes, for the links, which are byte by byte in either set (point 20).
     fn field(&self, number: u8) -> &'a [u8] {
         self.layout.field(number).of(self.body)
     }
 
+    /// A field's characters.
+    fn text(&self, number: u8) -> Text<'a> {
+        Text::new(self.set, self.field(number))
+    }
+
     fn number_in(&self, field: u8) -> u64 {
-        judge::number(self.field(field))
+        judge::number_in(self.text(field))
     }
 
     fn fault(&self, number: Number, field: u8, why: &'static str) -> Fault {
@@ -259,7 +272,7 @@ impl<'a> Record<'a> {
 
     /// A control field must state the sum; a conditional one left blank is not compared.
     fn total(&self, field: u8, sum: u128) -> Result<(), Fault> {
-        if judge::all_blank(self.field(field)) || u128::from(self.number_in(field)) == sum {
+        if judge::all_blank(self.text(field)) || u128::from(self.number_in(field)) == sum {
             Ok(())
         } else {
             Err(self.fault(Number::Total, field, "total"))
@@ -278,7 +291,7 @@ enum Content {
 
 impl Content {
     fn of(header: &Record) -> Content {
-        match header.field(8)[0].to_ascii_uppercase() {
+        match header.text(8).at(0).to_ascii_uppercase() {
             b'N' => Content::Nothing,
             b'E' => Content::NoViews,
             b'I' => Content::ViewsEach,
@@ -341,6 +354,7 @@ struct Level<'a> {
 
 struct Descent<'a> {
     file: &'a [u8],
+    set: Set,
     at: usize,
     read: u64,
     last: u8,
@@ -375,7 +389,7 @@ impl<'a> Descent<'a> {
     /// The type of the record that begins here: OPEN, CUT, LENGTH below 2, TYPE.
     fn peek(&self) -> Result<u8, Fault> {
         let body = self.next_body()?;
-        carried(&body[..2]).ok_or_else(|| self.here(Number::Type, "type"))
+        carried_in(self.set, &body[..2]).ok_or_else(|| self.here(Number::Type, "type"))
     }
 
     /// Reads the record that begins here, which must be of this type: PLACE, LENGTH, FIELD, LENGTH, FIELD.
@@ -385,13 +399,13 @@ impl<'a> Descent<'a> {
         }
         let body = self.next_body()?;
         let layout = layout(wanted);
-        judge::record(layout, body).map_err(|flaw| match flaw {
+        judge::record_in(self.set, layout, body).map_err(|flaw| match flaw {
             Flaw::Length if body.len() < layout.fixed => self.here(Number::Length, "shorter than the fixed part"),
             Flaw::Length if layout.parts.is_empty() => self.here(Number::Length, "fixed record too long"),
             Flaw::Length => self.here(Number::Length, "stated parts"),
             Flaw::Field(field) => Fault { field, ..self.here(Number::Field, "field") },
         })?;
-        let record = Record { layout, number: self.read + 1, offset: self.at, body };
+        let record = Record { layout, set: self.set, number: self.read + 1, offset: self.at, body };
         self.read += 1;
         self.at += 4 + body.len();
         Ok(record)
@@ -545,7 +559,7 @@ impl<'a> Descent<'a> {
         self.row(&head, level.ordinals, cents);
         self.inside = Inside::Item;
         sums.debit(cents);
-        if kind == 25 && head.field(10) == b"1" {
+        if kind == 25 && head.text(10).is(b"1") {
             sums.micr_valid_cents += u128::from(cents);
         }
         let stated_addenda = head.number_in(if kind == 25 { 12 } else { 8 });
@@ -569,7 +583,7 @@ impl<'a> Descent<'a> {
         let cents = head.number_in(7);
         self.row(&head, level.ordinals, cents);
         self.inside = Inside::credit(level.key.cycle.is_some());
-        if head.field(2) == b"9" {
+        if head.text(2).is(b"9") {
             sums.debit(cents);
         } else {
             sums.credit(cents);
@@ -635,7 +649,7 @@ impl<'a> Descent<'a> {
         detail.link(1, !addenda_owed, "addenda owed")?;
         detail.link(1, level.content != Content::NoViews, "view under E")?;
         self.row(&detail, level.ordinals, 0);
-        self.view_data(level, sequence, detail.field(10) == b"1")?;
+        self.view_data(level, sequence, detail.text(10).is(b"1"))?;
         if self.peek()? == 54 {
             let analysis = self.take(54)?;
             self.row(&analysis, level.ordinals, 0);
@@ -650,8 +664,8 @@ impl<'a> Descent<'a> {
         data.link(3, data.field(3) == level.key.date, "business date")?;
         data.link(4, level.key.cycle.is_none_or(|cycle| data.field(4) == cycle), "cycle number")?;
         data.link(5, data.field(5) == sequence, "sequence number")?;
-        data.link(7, !signed || !judge::all_blank(data.field(7)), "authenticator name")?;
-        data.link(8, !signed || !judge::all_blank(data.field(8)), "key name")?;
+        data.link(7, !signed || !judge::all_blank(data.text(7)), "authenticator name")?;
+        data.link(8, !signed || !judge::all_blank(data.text(8)), "key name")?;
         self.row(&data, level.ordinals, 0);
         Ok(())
     }

@@ -127,7 +127,7 @@ pub fn some(random: &mut Random, records: &[Rec], code: u8) -> Option<usize> {
 }
 
 /// A sound file that holds the type, and the index of one such record.
-fn holding(random: &mut Random, wish: &Wish, code: u8) -> (Vec<Rec>, usize) {
+pub fn holding(random: &mut Random, wish: &Wish, code: u8) -> (Vec<Rec>, usize) {
     loop {
         let records = sound(random, wish);
         if let Some(at) = some(random, &records, code) {
@@ -302,6 +302,17 @@ fn header_of(records: &[Rec], at: usize) -> usize {
 
 /// Puts a wrong byte into a variable part, giving it a length first if it has none.
 fn harm_part(random: &mut Random, record: &mut Rec, number: u8) {
+    let (start, length) = filled_part(random, record, number);
+    let place = start + random.below(length);
+    record.body[place] = match random.below(4) {
+        0 => random.byte(),
+        1 => random.pick(b"A?!+,.:"),
+        _ => random.pick(&[0x00, 0x1F, 0x7F, 0x80, 0xFF]),
+    };
+}
+
+/// Where a variable part stands and how long it is, in a record that is sound; one without a length gets one first.
+pub fn filled_part(random: &mut Random, record: &mut Rec, number: u8) -> (usize, usize) {
     let layout = record.layout();
     let part = layout.parts.iter().find(|part| part.number == number).expect("a part");
     let start = judge::part_start(layout, &record.body, part);
@@ -312,12 +323,7 @@ fn harm_part(random: &mut Random, record: &mut Rec, number: u8) {
         record.body.splice(start..start, bytes);
         record.set_number(part.sized_by, length as u64);
     }
-    let place = start + random.below(length);
-    record.body[place] = match random.below(4) {
-        0 => random.byte(),
-        1 => random.pick(b"A?!+,.:"),
-        _ => random.pick(&[0x00, 0x1F, 0x7F, 0x80, 0xFF]),
-    };
+    (start, length)
 }
 
 // ---- order ----

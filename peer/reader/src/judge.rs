@@ -1,5 +1,7 @@
-//! One record judged alone: its length, its fields and its variable parts.
+//! One record judged alone: its length, its fields and its variable parts. Characters are read by the set of the record's file (request 5);
+//! the calls without a set are for ASCII.
 
+use crate::charset::{Set, Text};
 use crate::layout::{Field, Form, Layout, Part, Rule, Type, Usage};
 
 /// What is wrong with a record taken by itself.
@@ -9,204 +11,238 @@ pub enum Flaw {
     Field(u8),
 }
 
+/// A record in ASCII.
+pub fn record(layout: &Layout, body: &[u8]) -> Result<(), Flaw> {
+    record_in(Set::Ascii, layout, body)
+}
+
 /// The checks of one record in document 01's order: length against the fixed part, fixed fields, length against the
 /// stated part lengths, variable fields.
-pub fn record(layout: &Layout, body: &[u8]) -> Result<(), Flaw> {
+pub fn record_in(set: Set, layout: &Layout, body: &[u8]) -> Result<(), Flaw> {
     let too_long = layout.parts.is_empty() && body.len() > layout.fixed;
     if body.len() < layout.fixed || too_long {
         return Err(Flaw::Length);
     }
     for fixed in layout.fields {
-        if !field(fixed, fixed.of(body)) || clipping_broken(layout, fixed, body) {
+        if !field_in(set, fixed, fixed.of(body)) || clipping_broken(set, layout, fixed, body) {
             return Err(Flaw::Field(fixed.number));
         }
     }
-    variable(layout, body)
+    variable(set, layout, body)
 }
 
 /// The variable parts of types 27, 34 and 52 (clauses 12, 17, 22).
-fn variable(layout: &Layout, body: &[u8]) -> Result<(), Flaw> {
+fn variable(set: Set, layout: &Layout, body: &[u8]) -> Result<(), Flaw> {
     if layout.parts.is_empty() {
         return Ok(());
     }
-    let stated: u64 = layout.parts.iter().map(|part| part_length(layout, body, part)).sum();
+    let stated: u64 = layout.parts.iter().map(|part| part_length_in(set, layout, body, part)).sum();
     if body.len() as u64 != layout.fixed as u64 + stated {
         return Err(Flaw::Length);
     }
     for part in layout.parts {
-        if !of_type(part.kind, part_of(layout, body, part)) {
+        if !of_type(part.kind, Text::new(set, part_of(set, layout, body, part))) {
             return Err(Flaw::Field(part.number));
         }
     }
     Ok(())
 }
 
-/// The length that a part's sizing field states.
+/// The length that a part's sizing field states, in ASCII.
 pub fn part_length(layout: &Layout, body: &[u8], part: &Part) -> u64 {
-    number(layout.field(part.sized_by).of(body))
+    part_length_in(Set::Ascii, layout, body, part)
+}
+
+/// The length that a part's sizing field states.
+pub fn part_length_in(set: Set, layout: &Layout, body: &[u8], part: &Part) -> u64 {
+    number_in(Text::new(set, layout.field(part.sized_by).of(body)))
+}
+
+/// Where a part starts in an ASCII record whose length is right.
+pub fn part_start(layout: &Layout, body: &[u8], wanted: &Part) -> usize {
+    part_start_in(Set::Ascii, layout, body, wanted)
 }
 
 /// Where a part starts in a record whose length is right.
-pub fn part_start(layout: &Layout, body: &[u8], wanted: &Part) -> usize {
+pub fn part_start_in(set: Set, layout: &Layout, body: &[u8], wanted: &Part) -> usize {
     let before = layout.parts.iter().take_while(|part| part.number < wanted.number);
-    layout.fixed + before.map(|part| part_length(layout, body, part) as usize).sum::<usize>()
+    layout.fixed + before.map(|part| part_length_in(set, layout, body, part) as usize).sum::<usize>()
 }
 
 /// A part's bytes in a record whose length is right.
-pub fn part_of<'a>(layout: &Layout, body: &'a [u8], part: &Part) -> &'a [u8] {
-    let start = part_start(layout, body, part);
-    &body[start..start + part_length(layout, body, part) as usize]
+fn part_of<'a>(set: Set, layout: &Layout, body: &'a [u8], part: &Part) -> &'a [u8] {
+    let start = part_start_in(set, layout, body, part);
+    &body[start..start + part_length_in(set, layout, body, part) as usize]
 }
 
 /// Clause 22.9: clipping origin '0' asks four coordinates of '0000'; the fault is the coordinate's.
-fn clipping_broken(layout: &Layout, fixed: &Field, body: &[u8]) -> bool {
+fn clipping_broken(set: Set, layout: &Layout, fixed: &Field, body: &[u8]) -> bool {
     let coordinate = layout.code == 52 && (10..=13).contains(&fixed.number);
-    coordinate && layout.field(9).of(body) == b"0" && fixed.of(body) != b"0000"
+    let holds = |field: &Field, characters: &[u8]| Text::new(set, field.of(body)).is(characters);
+    coordinate && holds(layout.field(9), b"0") && !holds(fixed, b"0000")
+}
+
+/// A fixed field in ASCII.
+pub fn field(field: &Field, bytes: &[u8]) -> bool {
+    field_in(Set::Ascii, field, bytes)
 }
 
 /// A fixed field: clause 5.4 a) to c) with document 01's reading of blanks.
-pub fn field(field: &Field, bytes: &[u8]) -> bool {
-    if field.usage == Usage::Conditional && all_blank(bytes) {
+pub fn field_in(set: Set, field: &Field, bytes: &[u8]) -> bool {
+    let text = Text::new(set, bytes);
+    if field.usage == Usage::Conditional && all_blank(text) {
         return true;
     }
-    of_type(field.kind, bytes) && (marked(field, bytes) || by_rule(field.rule, bytes))
+    of_type(field.kind, text) && (marked(field, text) || by_rule(field.rule, text))
 }
 
 /// A routing number or date that holds a mark its type admits is left to its type.
-fn marked(field: &Field, bytes: &[u8]) -> bool {
+fn marked(field: &Field, text: Text) -> bool {
     let judged_so = matches!(field.rule, Rule::Routing(_) | Rule::Date);
     let cant_read = matches!(field.kind, Type::MicrCantRead | Type::MicrDash | Type::MicrOnUs | Type::MicrUnparsed);
     let questionable = field.kind == Type::NumericBlankQuestion;
-    judged_so && ((cant_read && bytes.contains(&b'*')) || (questionable && bytes.contains(&b'?')))
+    judged_so && ((cant_read && text.contains(b'*')) || (questionable && text.contains(b'?')))
 }
 
-/// Clause 5.3: the characters of each data type.
-pub fn of_type(kind: Type, bytes: &[u8]) -> bool {
+/// Clause 5.3: the characters of each data type. Binary is never looked at.
+pub fn of_type(kind: Type, text: Text) -> bool {
     match kind {
-        Type::AllBlank => all_blank(bytes),
-        Type::Alphabetic => bytes.iter().all(|byte| byte.is_ascii_alphabetic() || *byte == b' '),
-        Type::Alphanumeric => bytes.iter().all(|byte| byte.is_ascii_alphanumeric() || *byte == b' '),
-        Type::AlphanumericSpecial => bytes.iter().all(|byte| (0x20..=0x7E).contains(byte)),
+        Type::AllBlank => all_blank(text),
+        Type::Alphabetic => text.all(|character| character.is_ascii_alphabetic() || character == b' '),
+        Type::Alphanumeric => text.all(|character| character.is_ascii_alphanumeric() || character == b' '),
+        Type::AlphanumericSpecial => text.all(|character| (0x20..=0x7E).contains(&character)),
         Type::Binary => true,
-        Type::Numeric => all_digits(bytes),
-        Type::NumericBlank => digits_and(bytes, b" ") && !blank_embedded(bytes),
-        Type::NumericBlankDash => digits_and(bytes, b" -") && !blank_embedded(bytes),
-        Type::NumericBlankQuestion => digits_and(bytes, b" ?") && !blank_embedded(bytes),
-        Type::MicrCantRead => digits_and(bytes, b" *"),
-        Type::MicrDash => digits_and(bytes, b" *-"),
-        Type::MicrOnUs => digits_and(bytes, b" *-/"),
-        Type::MicrUnparsed => digits_and(bytes, b" *-/$#"),
+        Type::Numeric => all_digits_in(text),
+        Type::NumericBlank => digits_and(text, b" ") && !blank_embedded(text),
+        Type::NumericBlankDash => digits_and(text, b" -") && !blank_embedded(text),
+        Type::NumericBlankQuestion => digits_and(text, b" ?") && !blank_embedded(text),
+        Type::MicrCantRead => digits_and(text, b" *"),
+        Type::MicrDash => digits_and(text, b" *-"),
+        Type::MicrOnUs => digits_and(text, b" *-/"),
+        Type::MicrUnparsed => digits_and(text, b" *-/$#"),
     }
 }
 
 /// The rest of a field's own clause.
-fn by_rule(rule: Rule, bytes: &[u8]) -> bool {
+fn by_rule(rule: Rule, text: Text) -> bool {
     match rule {
         Rule::TypeAlone => true,
-        Rule::Codes(codes) => codes.iter().any(|code| code.as_bytes().eq_ignore_ascii_case(bytes)),
-        Rule::Range(low, high) => all_digits(bytes) && (low..=high).contains(&number(bytes)),
+        Rule::Codes(codes) => codes.iter().any(|code| is_code(text, code.as_bytes())),
+        Rule::Range(low, high) => all_digits_in(text) && (low..=high).contains(&number_in(text)),
         Rule::Ranges(ranges) => {
-            all_digits(bytes) && ranges.iter().any(|(low, high)| (*low..=*high).contains(&number(bytes)))
+            all_digits_in(text) && ranges.iter().any(|(low, high)| (*low..=*high).contains(&number_in(text)))
         }
-        Rule::Digits => all_digits(bytes),
-        Rule::OneOrTwoDigits => one_or_two_digits(bytes),
-        Rule::Date => date(bytes),
-        Rule::HourMinute => time(bytes, &[23, 59]),
-        Rule::HourMinuteSecond => time(bytes, &[23, 59, 59]),
-        Rule::Routing(forms) => forms.iter().any(|form| in_form(*form, bytes)),
+        Rule::Digits => all_digits_in(text),
+        Rule::OneOrTwoDigits => one_or_two_digits(text),
+        Rule::Date => date(text),
+        Rule::HourMinute => time(text, &[23, 59]),
+        Rule::HourMinuteSecond => time(text, &[23, 59, 59]),
+        Rule::Routing(forms) => forms.iter().any(|form| in_form(*form, text)),
     }
 }
 
-pub fn all_blank(bytes: &[u8]) -> bool {
-    bytes.iter().all(|byte| *byte == b' ')
+/// A defined value; a small letter means what its capital means (clause 5.1.1).
+fn is_code(text: Text, code: &[u8]) -> bool {
+    let alike = |(one, other): (u8, &u8)| one.eq_ignore_ascii_case(other);
+    text.len() == code.len() && text.characters().zip(code).all(alike)
 }
 
+pub fn all_blank(text: Text) -> bool {
+    text.all(|character| character == b' ')
+}
+
+/// All digits, in ASCII.
 pub fn all_digits(bytes: &[u8]) -> bool {
-    bytes.iter().all(|byte| byte.is_ascii_digit())
+    all_digits_in(Text::new(Set::Ascii, bytes))
 }
 
-fn digits_and(bytes: &[u8], others: &[u8]) -> bool {
-    bytes.iter().all(|byte| byte.is_ascii_digit() || others.contains(byte))
+pub fn all_digits_in(text: Text) -> bool {
+    text.all(|character| character.is_ascii_digit())
+}
+
+fn digits_and(text: Text, others: &[u8]) -> bool {
+    text.all(|character| character.is_ascii_digit() || others.contains(&character))
 }
 
 /// A blank with some digit before it and some digit after it (clauses 5.3.8 to 5.3.10).
-fn blank_embedded(bytes: &[u8]) -> bool {
-    let first = bytes.iter().position(|byte| byte.is_ascii_digit());
-    let last = bytes.iter().rposition(|byte| byte.is_ascii_digit());
+fn blank_embedded(text: Text) -> bool {
+    let first = text.characters().position(|character| character.is_ascii_digit());
+    let last = text.characters().rposition(|character| character.is_ascii_digit());
     match (first, last) {
-        (Some(first), Some(last)) => bytes[first..=last].contains(&b' '),
+        (Some(first), Some(last)) => text.part(first, last).contains(b' '),
         _ => false,
     }
 }
 
-/// The number that digits spell; at most sixteen of them stand in one field.
+/// The number that ASCII digits spell.
 pub fn number(digits: &[u8]) -> u64 {
-    digits.iter().fold(0, |so_far, digit| so_far * 10 + u64::from(digit - b'0'))
+    number_in(Text::new(Set::Ascii, digits))
 }
 
-fn one_or_two_digits(bytes: &[u8]) -> bool {
-    let digits = bytes.iter().filter(|byte| byte.is_ascii_digit()).count();
-    digits >= 1 && digits_and(bytes, b" ")
+/// The number that digits spell; at most sixteen of them stand in one field.
+pub fn number_in(digits: Text) -> u64 {
+    digits.characters().fold(0, |so_far, digit| so_far * 10 + u64::from(digit - b'0'))
+}
+
+fn one_or_two_digits(text: Text) -> bool {
+    digits_and(text, b" ") && !all_blank(text)
 }
 
 /// YYYYMMDD by three ranges alone: 30 February passes.
-fn date(bytes: &[u8]) -> bool {
-    all_digits(bytes)
-        && bytes.len() == 8
-        && (1993..=9999).contains(&number(&bytes[..4]))
-        && (1..=12).contains(&number(&bytes[4..6]))
-        && (1..=31).contains(&number(&bytes[6..]))
+fn date(text: Text) -> bool {
+    all_digits_in(text)
+        && text.len() == 8
+        && (1993..=9999).contains(&number_in(text.part(0, 4)))
+        && (1..=12).contains(&number_in(text.part(4, 6)))
+        && (1..=31).contains(&number_in(text.part(6, 8)))
 }
 
 /// Pairs of digits, each at most its limit.
-fn time(bytes: &[u8], limits: &[u64]) -> bool {
-    all_digits(bytes) && bytes.chunks(2).zip(limits).all(|(pair, limit)| number(pair) <= *limit)
+fn time(text: Text, limits: &[u64]) -> bool {
+    let pair = |at: usize| number_in(text.part(2 * at, 2 * at + 2));
+    all_digits_in(text) && text.len() == 2 * limits.len() && (0..limits.len()).all(|at| pair(at) <= limits[at])
 }
 
 /// Request 1: a routing field takes each form that it lists. Of these only TTTTAAAAC and NNNNNNNNN take nine digits, so a field
 /// that does not list the second judges nine digits by their check digit.
-fn in_form(form: Form, bytes: &[u8]) -> bool {
-    match form {
-        Form::WithCheckDigit => with_check_digit(bytes),
-        Form::Canadian => canadian(bytes),
-        Form::WithDash => with_dash(bytes),
-        Form::BlankFirst => blank_first(bytes),
-        Form::NonFinancial => non_financial(bytes),
-    }
+fn in_form(form: Form, text: Text) -> bool {
+    text.len() == 9
+        && match form {
+            Form::WithCheckDigit => with_check_digit(text),
+            Form::Canadian => dashed(text, 5),
+            Form::WithDash => dashed(text, 4),
+            Form::BlankFirst => blank_first(text),
+            Form::NonFinancial => non_financial(text),
+        }
 }
 
 /// TTTTAAAAC: nine digits whose sum weighted 3, 7, 1 is a multiple of ten (the ABA rule).
-fn with_check_digit(bytes: &[u8]) -> bool {
-    if bytes.len() != 9 || !all_digits(bytes) {
+fn with_check_digit(text: Text) -> bool {
+    if !all_digits_in(text) {
         return false;
     }
     let weights = [3, 7, 1, 3, 7, 1, 3, 7, 1];
-    let sum: u64 = bytes.iter().zip(weights).map(|(digit, weight)| u64::from(digit - b'0') * weight).sum();
+    let sum: u64 = text.characters().zip(weights).map(|(digit, weight)| u64::from(digit - b'0') * weight).sum();
     sum.is_multiple_of(10)
 }
 
-/// TTTTT-FFF: five digits, a dash, three digits.
-fn canadian(bytes: &[u8]) -> bool {
-    bytes.len() == 9 && all_digits(&bytes[..5]) && bytes[5] == b'-' && all_digits(&bytes[6..])
-}
-
-/// TTTT-AAAA: four digits, a dash, four digits.
-fn with_dash(bytes: &[u8]) -> bool {
-    bytes.len() == 9 && all_digits(&bytes[..4]) && bytes[4] == b'-' && all_digits(&bytes[5..])
+/// TTTTT-FFF and TTTT-AAAA: digits with a dash at this place.
+fn dashed(text: Text, place: usize) -> bool {
+    all_digits_in(text.part(0, place)) && text.at(place) == b'-' && all_digits_in(text.part(place + 1, text.len()))
 }
 
 /// bTTTTAAAA: a blank, eight digits.
-fn blank_first(bytes: &[u8]) -> bool {
-    bytes.len() == 9 && bytes[0] == b' ' && all_digits(&bytes[1..])
+fn blank_first(text: Text) -> bool {
+    text.at(0) == b' ' && all_digits_in(text.part(1, text.len()))
 }
 
 /// NNNNNNNNN: one to nine digits in a row, blanks on either side; "the only format in which blanks are allowed for numbers
 /// shorter than nine digits" (clause 7.4). Justification is not judged.
-fn non_financial(bytes: &[u8]) -> bool {
-    let first = bytes.iter().position(|byte| *byte != b' ');
-    let last = bytes.iter().rposition(|byte| *byte != b' ');
+fn non_financial(text: Text) -> bool {
+    let first = text.characters().position(|character| character != b' ');
+    let last = text.characters().rposition(|character| character != b' ');
     match (first, last) {
-        (Some(first), Some(last)) => bytes.len() == 9 && all_digits(&bytes[first..=last]),
+        (Some(first), Some(last)) => all_digits_in(text.part(first, last + 1)),
         _ => false,
     }
 }
@@ -216,17 +252,23 @@ mod tests {
     use super::*;
     use crate::layout::layout;
 
+    /// The same in both sets: what these tests pass in, and what they refuse.
     fn passes(code: u8, number: u8, bytes: &[u8]) -> bool {
         let at = layout(code).field(number);
         assert_eq!(at.size(), bytes.len());
-        field(at, bytes)
+        let passed = field(at, bytes);
+        assert_eq!(field_in(Set::Ebcdic, at, &Set::Ebcdic.bytes(bytes)), passed, "{code}.{number} in EBCDIC");
+        passed
     }
 
     /// P1 and P2 speak of TTTTAAAAC; a field that lists the non-financial form takes any nine digits.
     #[test]
     fn check_digits_p1_p2() {
-        assert!(with_check_digit(b"123456780")); // 3+14+3+12+35+6+21+56+0 = 150
-        assert!(!with_check_digit(b"123456781"));
+        for set in [Set::Ascii, Set::Ebcdic] {
+            let (right, wrong) = (set.bytes(b"123456780"), set.bytes(b"123456781"));
+            assert!(with_check_digit(Text::new(set, &right))); // 3+14+3+12+35+6+21+56+0 = 150
+            assert!(!with_check_digit(Text::new(set, &wrong)));
+        }
         for (code, number) in [(20, 10), (25, 4), (26, 3), (28, 3), (31, 4), (32, 3), (35, 3), (61, 5)] {
             assert!(passes(code, number, b"123456780") && passes(code, number, b"000000000"));
             assert!(!passes(code, number, b"123456781"));

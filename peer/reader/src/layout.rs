@@ -1,6 +1,8 @@
 //! The layouts of the nineteen carried record types, typed from the tables of ANS X9.100-180-2006.
 //! Positions are those of the standard: the first character of a record is position 1, both ends belong to the field.
 
+use crate::charset::Set;
+
 /// The USAGE column (clause 6.3).
 #[derive(Clone, Copy, Debug, PartialEq, Eq)]
 pub enum Usage {
@@ -126,7 +128,12 @@ pub fn layout(code: u8) -> &'static Layout {
     found.expect("a carried type")
 }
 
-/// The carried type that two characters name.
+/// The carried type that two characters of a set name.
+pub fn carried_in(set: Set, characters: &[u8]) -> Option<u8> {
+    carried(&[set.character(characters[0]), set.character(characters[1])])
+}
+
+/// The carried type that two ASCII characters name.
 pub fn carried(characters: &[u8]) -> Option<u8> {
     LAYOUTS.iter().find(|layout| name_of(layout.code) == characters).map(|layout| layout.code)
 }

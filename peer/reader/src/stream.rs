@@ -35,13 +35,19 @@ pub fn file(seed: u64, index: u64) -> Made {
     if index % RARE == RARE / 2 {
         return rare(&mut random, (index / RARE) as usize);
     }
-    let turn = (index / TURNS.len() as u64) as usize;
-    let place = (index % TURNS.len() as u64) as usize;
+    in_round(&mut random, (index / ROUND as u64) as usize, (index % ROUND as u64) as usize)
+}
+
+/// The files of a round.
+pub const ROUND: usize = TURNS.len();
+
+/// The file at a place of a round.
+pub fn in_round(random: &mut Random, turn: usize, place: usize) -> Made {
     let shape = TURNS[place];
     // Turns of the same shape in one round take different targets.
     let alike = TURNS.iter().filter(|other| **other == shape).count();
     let before = TURNS[..place].iter().filter(|other| **other == shape).count();
-    shaped(&mut random, shape, turn * alike + before)
+    shaped(random, shape, turn * alike + before)
 }
 
 /// A file of this shape; the turn chooses the target where a shape has many.
@@ -339,12 +345,17 @@ fn largest_image(random: &mut Random, plain: &Wish) -> Made {
 
 /// Gives a 52 an image of this many bytes.
 pub fn set_image(data: &mut Rec, length: usize, fill: u8) {
+    put_image(data, &vec![fill; length]);
+}
+
+/// Gives a 52 this image.
+pub fn put_image(data: &mut Rec, bytes: &[u8]) {
     let layout = data.layout();
     let image = layout.parts.iter().find(|part| part.number == 27).expect("field 27");
     let start = crate::judge::part_start(layout, &data.body, image);
     let before = crate::judge::part_length(layout, &data.body, image) as usize;
-    data.body.splice(start..start + before, std::iter::repeat_n(fill, length));
-    data.set_number(20, length as u64);
+    data.body.splice(start..start + before, bytes.iter().copied());
+    data.set_number(20, bytes.len() as u64);
 }
 
 /// 99,999 or 100,000 views of one item: five digits hold the first only.

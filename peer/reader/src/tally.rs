@@ -3,11 +3,14 @@
 use std::collections::BTreeMap;
 
 use crate::books::{self, Slip};
+use crate::charset::{Set, EBCDIC_CARRIED};
+use crate::copy::copy;
 use crate::credits::{self, CreditPoint};
 use crate::descent::{split_record, Inside, Number, Reading, Row};
 use crate::harm::{field_targets, insides, key_fields, lawful_pairs, place_targets, slip_targets, total_targets};
 use crate::layout::{carried, layout, name_of, CARRIED, LAYOUTS, NOT_CARRIED};
 use crate::routing::{self, Shape};
+use crate::sets::{self, SetPoint};
 
 /// One thing that a run is to show.
 #[derive(Clone, Copy, Debug, PartialEq, Eq, PartialOrd, Ord)]
@@ -30,6 +33,8 @@ pub enum Point {
     Slipped(u8, u8, Slip),
     /// What an accepted file shows of 61s, or a refused one of their views (request 2).
     Credit(CreditPoint),
+    /// What the two character sets bring about (request 5).
+    Sets(SetPoint),
     LengthRefused(u8, &'static str),
     BelowTwo,
     CutIn(&'static str),
@@ -40,25 +45,50 @@ pub enum Point {
     PictureFieldRefused(u8),
 }
 
-/// How often each point was met.
+/// How often each point was met, in ASCII files and in EBCDIC ones.
 #[derive(Clone, Debug, Default)]
 pub struct Tally {
     pub met: BTreeMap<Point, u64>,
+    pub in_ebcdic: BTreeMap<Point, u64>,
 }
 
 impl Tally {
     pub fn note(&mut self, point: Point) {
-        *self.met.entry(point).or_insert(0) += 1;
+        self.note_in(Set::Ascii, point);
     }
 
-    pub fn add(&mut self, other: &Tally) {
-        for (point, count) in &other.met {
-            *self.met.entry(*point).or_insert(0) += count;
+    pub fn note_in(&mut self, set: Set, point: Point) {
+        *self.of(set).entry(point).or_insert(0) += 1;
+    }
+
+    fn of(&mut self, set: Set) -> &mut BTreeMap<Point, u64> {
+        match set {
+            Set::Ascii => &mut self.met,
+            Set::Ebcdic => &mut self.in_ebcdic,
         }
     }
 
-    /// Notes what one file shows.
+    pub fn add(&mut self, other: &Tally) {
+        add(&mut self.met, &other.met);
+        add(&mut self.in_ebcdic, &other.in_ebcdic);
+    }
+
+    /// Notes what one file shows, as the proved library is to read it. An EBCDIC file shows what its copy shows.
     pub fn note_reading(&mut self, file: &[u8], reading: &Reading) {
+        match Set::by_library(file) {
+            Set::Ascii => self.note_ascii(file, reading),
+            Set::Ebcdic => {
+                let mut shown = Tally::default();
+                shown.note_ascii(&copy(file), reading);
+                add(&mut self.in_ebcdic, &shown.met);
+            }
+        }
+        if EBCDIC_CARRIED {
+            sets::shown(file, reading).into_iter().for_each(|point| self.note(Point::Sets(point)));
+        }
+    }
+
+    fn note_ascii(&mut self, file: &[u8], reading: &Reading) {
         let answer = &reading.answer;
         let field = answer.field as u8;
         self.note(Point::Answer(answer.number));
@@ -142,26 +172,38 @@ impl Tally {
         }
     }
 
-    /// The points of a whole run that were not met.
-    pub fn missing(&self) -> Vec<Point> {
-        demanded().into_iter().filter(|point| !self.met.contains_key(point)).collect()
+    /// The points of a whole run that were not met, and in files of which set.
+    pub fn missing(&self) -> Vec<(Set, Point)> {
+        let in_ascii = demanded().into_iter().filter(|point| !self.met.contains_key(point));
+        let in_ebcdic = demanded_in_ebcdic().into_iter().filter(|point| !self.in_ebcdic.contains_key(point));
+        in_ascii.map(|point| (Set::Ascii, point)).chain(in_ebcdic.map(|point| (Set::Ebcdic, point))).collect()
     }
 
     /// A line for each group: met of demanded.
     pub fn report(&self) -> String {
-        let mut groups: BTreeMap<&'static str, (usize, usize, u64)> = BTreeMap::new();
-        for point in demanded() {
-            let group = groups.entry(group_of(&point)).or_insert((0, 0, u64::MAX));
-            let count = self.met.get(&point).copied().unwrap_or(0);
-            group.0 += usize::from(count > 0);
-            group.1 += 1;
-            group.2 = group.2.min(count);
-        }
-        let lines = groups
-            .iter()
-            .map(|(name, (met, of, least))| format!("  {name}: {met} of {of}, the rarest met {least} times\n"));
-        lines.collect()
+        report_of("", &demanded(), &self.met) + &report_of("EBCDIC, ", &demanded_in_ebcdic(), &self.in_ebcdic)
     }
+}
+
+fn add(to: &mut BTreeMap<Point, u64>, counts: &BTreeMap<Point, u64>) {
+    for (point, count) in counts {
+        *to.entry(*point).or_insert(0) += count;
+    }
+}
+
+fn report_of(of_set: &str, demanded: &[Point], met: &BTreeMap<Point, u64>) -> String {
+    let mut groups: BTreeMap<&'static str, (usize, usize, u64)> = BTreeMap::new();
+    for point in demanded {
+        let group = groups.entry(group_of(point)).or_insert((0, 0, u64::MAX));
+        let count = met.get(point).copied().unwrap_or(0);
+        group.0 += usize::from(count > 0);
+        group.1 += 1;
+        group.2 = group.2.min(count);
+    }
+    let lines = groups
+        .iter()
+        .map(|(name, (met, of, least))| format!("  {of_set}{name}: {met} of {of}, the rarest met {least} times\n"));
+    lines.collect()
 }
 
 /// The type that the record at this offset names by two digits.
@@ -246,8 +288,29 @@ fn routing_points() -> Vec<Point> {
     points
 }
 
-/// Everything that a run of 100,000 files is to show.
+/// Everything that a run of 100,000 files is to show, once EBCDIC is carried with what two sets bring about.
 pub fn demanded() -> Vec<Point> {
+    let of_sets = if EBCDIC_CARRIED { sets::demanded() } else { Vec::new() };
+    in_either_set().into_iter().chain(of_sets.into_iter().map(Point::Sets)).collect()
+}
+
+/// What its files in EBCDIC are to show, once it is carried.
+pub fn demanded_in_ebcdic() -> Vec<Point> {
+    if EBCDIC_CARRIED {
+        in_either_set().into_iter().filter(can_be_in_ebcdic).collect()
+    } else {
+        Vec::new()
+    }
+}
+
+/// A file is told as EBCDIC by a first record of type 01, so that no other type stands there out of place; and an empty file is ASCII.
+fn can_be_in_ebcdic(point: &Point) -> bool {
+    let not_first = matches!(point, Point::PairRefused(_, 0, _));
+    let size = matches!(point, Point::Answer(Number::Size) | Point::PictureAnswer(Number::Size));
+    !not_first && !size
+}
+
+fn in_either_set() -> Vec<Point> {
     use Number::{Accepted, After, Cut, Field, Length, Link, Open, Place, Size, Total, Type};
     let numbers = [Accepted, Size, Cut, Length, Type, Place, Field, Link, Total, Open, After];
     let mut points: Vec<Point> = numbers.into_iter().map(Point::Answer).collect();
@@ -289,6 +352,7 @@ fn group_of(point: &Point) -> &'static str {
         Point::TotalRefused(..) => "control fields refused at TOTAL",
         Point::Slipped(..) => "control fields and slips refused at TOTAL",
         Point::Credit(point) => point.group(),
+        Point::Sets(point) => point.group(),
         Point::LengthRefused(..) => "types refused at LENGTH",
         Point::BelowTwo => "lengths below two",
         Point::CutIn(_) => "sorts of CUT",

@@ -4,7 +4,9 @@
 use std::process::ExitCode;
 use std::time::Instant;
 
-use peer_reader::descent::{read, Number};
+use peer_reader::charset::{Set, EBCDIC_CARRIED};
+use peer_reader::descent::{read_in, Number};
+use peer_reader::ebcdic;
 use peer_reader::picture::picture;
 use peer_reader::random::Random;
 use peer_reader::stream;
@@ -19,21 +21,24 @@ fn main() -> ExitCode {
     let mut tally = Tally::default();
     let (mut accepted, mut bytes) = (0, 0);
     // SIZE of the picture call is met by chance in a stream of this length; `compare` has the largest file for it besides.
-    tally.note_picture(&picture(&[], 0));
-    for index in 0..files {
-        let made = stream::file(seed, index).bytes;
-        let reading = read(&made);
+    tally.note_picture(&[], &picture(&[], 0));
+    let mut put = |made: Vec<u8>, index: u64| {
+        let reading = read_in(Set::by_library(&made), &made);
         tally.note_asked(&made, &reading, &mut Random::for_file(!seed, index));
         accepted += u64::from(reading.answer.number == Number::Accepted);
         bytes += made.len();
-    }
+    };
+    (0..files).for_each(|index| put(stream::file(seed, index).bytes, index));
+    let in_ebcdic = if EBCDIC_CARRIED { files / 2 } else { 0 };
+    (0..in_ebcdic).for_each(|index| put(ebcdic::file(seed, index).bytes, index));
+    let files = files + in_ebcdic;
     println!(
         "seed {seed}: {files} files ({accepted} accepted, {bytes} bytes), {:.1} seconds",
         begun.elapsed().as_secs_f64()
     );
     println!("{}", tally.report().trim_end());
     let missing = tally.missing();
-    missing.iter().for_each(|point| println!("not covered: {point:?}"));
+    missing.iter().for_each(|(set, point)| println!("not covered in {set:?}: {point:?}"));
     println!("points not covered {}", missing.len());
     ExitCode::from(u8::from(!missing.is_empty()))
 }

@@ -1,9 +1,11 @@
 //! Writes one generated file to standard output.
-//! Use: make_file --seed S [--kind SHAPE] [--turn N]; a shape is one of peer_reader::stream::SHAPES, the turn its target.
+//! Use: make_file --seed S [--kind SHAPE] [--turn N]; a shape is one of peer_reader::stream::SHAPES or peer_reader::ebcdic::SHAPES, the turn
+//! its target.
 
 use std::io::Write;
 use std::process::ExitCode;
 
+use peer_reader::ebcdic;
 use peer_reader::random::Random;
 use peer_reader::stream::{rare, shaped, SHAPES};
 
@@ -18,7 +20,7 @@ fn main() -> ExitCode {
         Err(message) => {
             eprintln!("make_file: {message}");
             eprintln!("use: make_file --seed S [--kind SHAPE] [--turn N]");
-            eprintln!("shapes: {} rare", SHAPES.join(" "));
+            eprintln!("shapes: {} rare, and of two sets: {}", SHAPES.join(" "), ebcdic::SHAPES.join(", "));
             ExitCode::from(2)
         }
     }
@@ -41,6 +43,9 @@ fn made() -> Result<Vec<u8>, String> {
     let turn = turn.unwrap_or_else(|| random.below(1_000_000));
     if kind == "rare" {
         return Ok(rare(&mut random, turn).bytes);
+    }
+    if ebcdic::SHAPES.contains(&kind.as_str()) {
+        return Ok(ebcdic::shaped(&mut random, &kind, turn).bytes);
     }
     if !SHAPES.contains(&kind.as_str()) {
         return Err(format!("{kind} is no shape"));
