@@ -34,7 +34,7 @@ code list part = eqb (length part) 1 && isCode list (capital (getD part 0 0))
 
 -- "Clipping origin 0 requires four coordinates of 0000"; the origin stands at a place of the record, counted from 0
 abbrev pub clippingCoordinate : ℕ → List ℕ → List ℕ → Bool
-clippingCoordinate origin part body = every isNumeric part && (not (eqb (getD body origin 0) 0x30) || eqb (number part) 0)
+clippingCoordinate origin part body = every isNumeric part && (not (eqb (capital (getD body origin 0)) 0x30) || eqb (number part) 0)
 
 -- the Format line or the Defined Values of a field, over its part of the record's body
 unfoldable pub follows : Rule → List ℕ → List ℕ → Bool

@@ -250,7 +250,7 @@ fn byte_at(s: &[u8], at: usize) -> u8
 fn is_clipping_coordinate<'a>(origin: usize, part: &'a [u8], body: &'a [u8]) -> bool
     ensures { λ r. ⌜ r ≡ clippingCoordinate origin (now (part .entry)) (now (body .entry)) ⌝ }
 {
-    let clipped = !(byte_at(body, origin) == b'0');
+    let clipped = !(text::capital_of(byte_at(body, origin)) == b'0');
     text::all_numeric(part) & (clipped | (text::number_in(part) == 0))
 }
 

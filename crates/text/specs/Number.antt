@@ -3,11 +3,17 @@ use Prim.Native.Nat.{ℕ, _+_, _-_, _*_}
 use mathlib.Core.Bool.{Bool, true, false, cond}
 use mathlib.Core.List.{List, [], _∷_}
 use lib.ListN.{take}
+use Rattle.text.specs.declared.character_set.CharacterSet.{CharacterSet}
+use Rattle.text.specs.declared.character_set.CharacterSet.the-variants.{Ascii, Ebcdic}
 use Rattle.text.specs.Characters.{isNumeric}
 
--- 5.1.3: the number that a numeric character stands for; no other character adds anything
+-- 5.1.3: the number that a numeric character stands for, from 0's own code on; no other character adds anything
+abbrev pub codeOfZero : CharacterSet → ℕ
+codeOfZero Ascii = 0x30
+codeOfZero Ebcdic = 0xF0
+
 abbrev pub digit : ℕ → ℕ
-digit x = cond (isNumeric x) (x - 0x30) 0
+digit x = cond (isNumeric x) (x - codeOfZero) 0
 
 -- the value of the digits after those that came to `sum`
 abbrev pub valueAfter : ℕ → List ℕ → ℕ
