@@ -64,7 +64,7 @@ pub extern "C" fn x9_picture(file: &[u8], offset: u64, place: &mut [u64; 4]) -> 
 pub extern "C" fn x9_record(body: &[u8], answer: &mut [u64; 2]) -> u64
     ensures { λ r. ⌜ Judging (now (body .entry)) r (now (answer .exit)) ⌝ }
 {
-    let judged = judge::judge_record(body);
+    let judged = judge::judge_record(set, body);
     let number = judged.number();
     let field = judged.field() as u64;
     *answer = [number, field];

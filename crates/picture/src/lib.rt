@@ -3,6 +3,7 @@ use frame::Cursor;
 use frame::Frame;
 use judge::Judged;
 use layout::ImageViewData;
+use text::CharacterSet;
 ghost use mathlib.Core.Path.{_≡_};
 ghost use Prim.Native.Nat.{_+_, _≤_};
 ghost use lib.ListN.{length};
@@ -79,18 +80,18 @@ impl Found {
 }
 
 // The picture of a record whose body starts at a place of the file.
-fn in_body(start: usize, body: &[u8]) -> Found
+fn in_body(set: CharacterSet, start: usize, body: &[u8]) -> Found
     requires { ⌜ start + length (now body) ≤ 268_435_456 ⌝ }
-    ensures { λ r. ⌜ r ≡ inBody start (now (body .entry)) ⌝ }
+    ensures { λ r. ⌜ r ≡ inBody set start (now (body .entry)) ⌝ }
 {
     if body.len() < 2 {
         return Found::LengthRefused;
     }
-    if judge::type_of(body) != ImageViewData::TYPE {
+    if judge::type_of(set, body) != ImageViewData::TYPE {
         return Found::TypeRefused;
     }
-    match judge::judge_image(body) {
-        Judged::Sound => Found::At(start + judge::image_start(body), judge::image_size(body)),
+    match judge::judge_image(set, body) {
+        Judged::Sound => Found::At(start + judge::image_start(set, body), judge::image_size(set, body)),
         Judged::WrongLength => Found::LengthRefused,
         Judged::UnknownType => Found::TypeRefused,
         Judged::WrongField(n) => Found::FieldRefused(n),
@@ -107,9 +108,10 @@ pub fn find_picture(file: &[u8], offset: usize) -> Found
     if 268_435_456 < file.len() {
         return Found::SizeRefused;
     }
+    let set = text::set_of(file);
     match Cursor::at(offset).frame(file) {
         Frame::Cut => Found::CutRefused,
-        Frame::Whole(start, size) => in_body(start, frame::part_of(file, start, size)),
+        Frame::Whole(start, size) => in_body(set, start, frame::part_of(file, start, size)),
     }
 }
 

@@ -4,6 +4,7 @@ use mathlib.Core.Path.{_≡_, sym, _∙_}
 use mathlib.Core.List.{List, _++_}
 use lib.ListN.{length, drop}
 use borrow.Author.Tests.{le-leb, lt-leb}
+use Rattle.text.specs.declared.character_set.CharacterSet.{CharacterSet}
 use Rattle.passes.specs.declared.Fault.{Fault}
 use Rattle.passes.specs.declared.Fault.the-variants.{Room}
 use Rattle.passes.specs.declared.Totals.{Totals}
@@ -19,9 +20,9 @@ abbrev pub Meets : List ℕ → List ℕ → Answer → List ℕ → Type 0
 Meets file table answer after =
     (answer ≡ answerOf file (length table)) × ((after ≡ tableOf file table) × Arranged file table answer after)
 
-module _ (file table : List ℕ) (bytes : Bytes file) where
+module _ (set : CharacterSet) (file table : List ℕ) (bytes : Bytes file) where
   meets : (answer : Answer) (after : List ℕ) → answer ≡ answerOf file (length table) → after ≡ tableOf file table → Meets file table answer after
-  meets answer after e t = (e, (t, arranged file table answer after bytes e t))
+  meets answer after e t = (e, (t, arranged set file table answer after bytes e t))
 
   pub no-room : (t : Totals) → surveyed file ≡ Accepted t → length table / 7 < t .records .0 → Meets file table (Refused Room (t .records .0) 0) table
   unfolding answerOf tableOf

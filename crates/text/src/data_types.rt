@@ -1,4 +1,5 @@
 // Clause 5.3: the field data types, each made of the basic character types as Table 2 makes it.
+use crate::character_set::CharacterSet;
 use crate::characters::is_alphabetic;
 use crate::characters::is_amount_symbol;
 use crate::characters::is_blank;
@@ -11,7 +12,11 @@ use crate::characters::is_special;
 use crate::characters::is_transit_symbol;
 ghost use mathlib.Core.Path.{_≡_};
 ghost use Rattle.text.specs.declared.data_types.DataType.the-variants.{ANS};
+ghost use Prim.Native.Nat.{ℕ};
+ghost use Rattle.text.specs.declared.character_set.CharacterSet.{CharacterSet};
+ghost use Rattle.text.specs.declared.character_set.CharacterSet.the-variants.{Ascii, Ebcdic};
 ghost use Rattle.text.specs.DataTypes.{admits, isMark};
+ghost use Rattle.text.specs.Told.{Tells};
 
 // By the names that the standard gives them, in the order of the clause; ANC (5.3.4) is in no carried record.
 pub enum DataType {
@@ -30,69 +35,123 @@ pub enum DataType {
     NBMU,
 }
 
-// 5.3.5 (ANS): the alphabetic, the numeric and the special characters.
-pub fn is_alphanumeric_special(x: u8) -> bool
-    ensures { λ r. ⌜ r ≡ admits ANS x ⌝ }
-{
-    is_alphabetic(x) | (is_numeric(x) | is_special(x))
+// What the basic character types say of a character.
+pub struct Told {
+    pub blank: bool,
+    pub alphabetic: bool,
+    pub numeric: bool,
+    pub alphanumeric_special: bool,
+    pub questionable: bool,
+    pub cannot_read: bool,
+    pub dash: bool,
+    pub on_us: bool,
+    pub amount: bool,
+    pub transit: bool,
 }
 
-// The same: in Table 1 these stand together, from the blank through ~. This one runs, being one comparison.
+// 5.3.5 (ANS): the alphabetic, the numeric and the special characters.
+pub fn is_alphanumeric_special(set: CharacterSet, x: u8) -> bool
+    ensures { λ r. ⌜ r ≡ admits set ANS x ⌝ }
+{
+    is_alphabetic(set, x) | (is_numeric(set, x) | is_special(set, x))
+}
+
+// The same in ASCII: in Table 1 these stand together, from the blank through ~. This one runs there, being one comparison.
 fn is_printable(x: u8) -> bool
-    ensures { λ r. ⌜ r ≡ admits ANS x ⌝ }
+    ensures { λ r. ⌜ r ≡ admits Ascii ANS x ⌝ }
 {
     (b' ' <= x) & (x <= b'~')
 }
 
-// The characters to which a field of each type is limited, by the row of Table 2.
-pub fn admits_character(t: DataType, x: u8) -> bool
-    ensures { λ r. ⌜ r ≡ admits t x ⌝ }
+// Each set is named at its calls, so that the compiler keeps one column of each type.
+fn told_in_ascii(x: u8) -> Told
+    ensures { λ r. ⌜ Tells Ascii x r ⌝ }
 {
-    let blank = is_blank(x);
-    let alphabetic = is_alphabetic(x);
-    let numeric = is_numeric(x);
-    let alphanumeric_special = is_printable(x);
-    let cannot_read = is_cannot_read(x);
-    let dash = is_dash(x);
-    let on_us = is_on_us_symbol(x);
-    let amount = is_amount_symbol(x);
-    let transit = is_transit_symbol(x);
-    match t {
-        // 5.3.1
-        DataType::AB => blank,
-        // 5.3.2
-        DataType::A => alphabetic,
-        // 5.3.3
-        DataType::AN => alphabetic | numeric,
-        // 5.3.5
-        DataType::ANS => alphanumeric_special,
-        // 5.3.6
-        DataType::Binary => true,
-        // 5.3.7
-        DataType::N => numeric,
-        // 5.3.8
-        DataType::NB => numeric | blank,
-        // 5.3.9
-        DataType::NBD => numeric | (blank | dash),
-        // 5.3.10
-        DataType::NBQ => numeric | (blank | is_questionable(x)),
-        // 5.3.11
-        DataType::NBMc => numeric | (blank | cannot_read),
-        // 5.3.12
-        DataType::NBMcd => numeric | (blank | (cannot_read | dash)),
-        // 5.3.13
-        DataType::NBMcdo => numeric | (blank | (cannot_read | (dash | on_us))),
-        // 5.3.14
-        DataType::NBMU => numeric | (blank | (amount | (cannot_read | (dash | (on_us | transit))))),
+    Told {
+        blank: is_blank(CharacterSet::Ascii, x),
+        alphabetic: is_alphabetic(CharacterSet::Ascii, x),
+        numeric: is_numeric(CharacterSet::Ascii, x),
+        alphanumeric_special: is_printable(x),
+        questionable: is_questionable(CharacterSet::Ascii, x),
+        cannot_read: is_cannot_read(CharacterSet::Ascii, x),
+        dash: is_dash(CharacterSet::Ascii, x),
+        on_us: is_on_us_symbol(CharacterSet::Ascii, x),
+        amount: is_amount_symbol(CharacterSet::Ascii, x),
+        transit: is_transit_symbol(CharacterSet::Ascii, x),
     }
 }
 
-// The can't-read or questionable mark, where the data type admits it (clauses 5.1.4 and 5.2.2).
-pub fn is_mark(t: DataType, x: u8) -> bool
-    ensures { λ r. ⌜ r ≡ isMark t x ⌝ }
+fn told_in_ebcdic(x: u8) -> Told
+    ensures { λ r. ⌜ Tells Ebcdic x r ⌝ }
 {
-    let questionable = is_questionable(x);
-    let cannot_read = is_cannot_read(x);
+    Told {
+        blank: is_blank(CharacterSet::Ebcdic, x),
+        alphabetic: is_alphabetic(CharacterSet::Ebcdic, x),
+        numeric: is_numeric(CharacterSet::Ebcdic, x),
+        alphanumeric_special: is_alphanumeric_special(CharacterSet::Ebcdic, x),
+        questionable: is_questionable(CharacterSet::Ebcdic, x),
+        cannot_read: is_cannot_read(CharacterSet::Ebcdic, x),
+        dash: is_dash(CharacterSet::Ebcdic, x),
+        on_us: is_on_us_symbol(CharacterSet::Ebcdic, x),
+        amount: is_amount_symbol(CharacterSet::Ebcdic, x),
+        transit: is_transit_symbol(CharacterSet::Ebcdic, x),
+    }
+}
+
+// The characters to which a field of each type is limited, by the row of Table 2, whatever the set.
+fn limits_to(t: DataType, c: Told) -> bool
+    ensures { λ r. ⌜ ((set : CharacterSet) (x : ℕ) → Tells set x c → r ≡ admits set t x) ⌝ }
+{
+    match t {
+        // 5.3.1
+        DataType::AB => c.blank,
+        // 5.3.2
+        DataType::A => c.alphabetic,
+        // 5.3.3
+        DataType::AN => c.alphabetic | c.numeric,
+        // 5.3.5
+        DataType::ANS => c.alphanumeric_special,
+        // 5.3.6
+        DataType::Binary => true,
+        // 5.3.7
+        DataType::N => c.numeric,
+        // 5.3.8
+        DataType::NB => c.numeric | c.blank,
+        // 5.3.9
+        DataType::NBD => c.numeric | (c.blank | c.dash),
+        // 5.3.10
+        DataType::NBQ => c.numeric | (c.blank | c.questionable),
+        // 5.3.11
+        DataType::NBMc => c.numeric | (c.blank | c.cannot_read),
+        // 5.3.12
+        DataType::NBMcd => c.numeric | (c.blank | (c.cannot_read | c.dash)),
+        // 5.3.13
+        DataType::NBMcdo => c.numeric | (c.blank | (c.cannot_read | (c.dash | c.on_us))),
+        // 5.3.14
+        DataType::NBMU => {
+            c.numeric | (c.blank | (c.amount | (c.cannot_read | (c.dash | (c.on_us | c.transit)))))
+        }
+    }
+}
+
+pub fn admits_in_ascii(t: DataType, x: u8) -> bool
+    ensures { λ r. ⌜ r ≡ admits Ascii t x ⌝ }
+{
+    limits_to(t, told_in_ascii(x))
+}
+
+pub fn admits_in_ebcdic(t: DataType, x: u8) -> bool
+    ensures { λ r. ⌜ r ≡ admits Ebcdic t x ⌝ }
+{
+    limits_to(t, told_in_ebcdic(x))
+}
+
+// The can't-read or questionable mark, where the data type admits it (clauses 5.1.4 and 5.2.2).
+pub fn is_mark(set: CharacterSet, t: DataType, x: u8) -> bool
+    ensures { λ r. ⌜ r ≡ isMark set t x ⌝ }
+{
+    let questionable = is_questionable(set, x);
+    let cannot_read = is_cannot_read(set, x);
     match t {
         DataType::AB => false,
         DataType::A => false,

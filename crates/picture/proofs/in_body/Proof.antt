@@ -35,7 +35,7 @@ image-start-requires : tie.Need-image-start-requires
 image-start-requires c κs = (sym (c .before .before .judge-image .ensures) ∙ c .enum-told .given .1, omega arith)
 
 add-t10 : tie.Need-add-t10
-add-t10 c = omega (arith, c .image-start .ensures, image-within (now (c .before .before .before .before .before .before .before .before .args .body)) (sym (c .before .before .before .judge-image .ensures) ∙ c .before .enum-told .given .1))
+add-t10 c = omega (arith, c .image-start .ensures, image-within (c .before .before .before .before .before .before .before .before .args .set) (now (c .before .before .before .before .before .before .before .before .args .body)) (sym (c .before .before .before .judge-image .ensures) ∙ c .before .enum-told .given .1))
 
 image-size-requires : tie.Need-image-size-requires
 image-size-requires c κs = search needs

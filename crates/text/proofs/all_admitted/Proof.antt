@@ -10,10 +10,10 @@ use Rattle.text.proofs.all_admitted.Statement.{statement}
 use Rattle.text.proofs.all_admitted.Tie as tie
 
 abbrev Inv-loop : tie.InvT-loop
-Inv-loop t s all₀ i₀ all i = (i ≤ length s) × (all && every (admits t) (drop i s) ≡ every (admits t) s)
+Inv-loop set t s all₀ i₀ all i = (i ≤ length s) × (all && every (admits set t) (drop i s) ≡ every (admits set t) s)
 
 abbrev μ-loop : tie.MeasureT-loop
-μ-loop t s all₀ i₀ all i = length s - i
+μ-loop set t s all₀ i₀ all i = length s - i
 
 loop-holds : tie.Need-loop-holds Inv-loop μ-loop
 loop-holds c = (search needs, refl)
@@ -34,13 +34,13 @@ loop-again : tie.Need-loop-again Inv-loop μ-loop
 loop-again c = (
   search needs,
   rw (c .admits-character .ensures)
-      (every-carried (admits (c .before .before .before .before .before .args .t)) (now (c .before .before .before .before .before .args .s))
+      (every-carried (admits (c .before .before .before .before .before .args .set) (c .before .before .before .before .before .args .t)) (now (c .before .before .before .before .before .args .s))
       (c .before .before .before .loop .i) (c .before .before .before .loop .all) (search needs)
       ∙ c .before .before .before .loop .inv .1),
 )
 
 returns : tie.Need-returns Inv-loop μ-loop
-returns c = every-told (admits (c .before .before .before .args .t)) (now (c .before .before .before .args .s)) (c .before .loop .i) (c .before .loop .all) (search needs)
+returns c = every-told (admits (c .before .before .before .args .set) (c .before .before .before .args .t)) (now (c .before .before .before .args .s)) (c .before .loop .i) (c .before .loop .all) (search needs)
     ∙ c .before .loop .inv .1
 
 pub all-admitted-spec : {M : Type 1} → statement M

@@ -91,49 +91,49 @@ all-admitted-requires-12 : tie.Need-all-admitted-requires-12
 all-admitted-requires-12 c κs = search needs
 
 returns : tie.Need-returns
-returns c = c .all-admitted .ensures ∙ apart (c .before .before .before .before .args .t) AB (now (c .before .before .before .before .args .s)) (c .before .enum-told .given .1) refl
+returns c = c .all-admitted .ensures ∙ apart (c .before .before .before .before .args .set) (c .before .before .before .before .args .t) AB (now (c .before .before .before .before .args .s)) (c .before .enum-told .given .1) refl
 
 returns-2 : tie.Need-returns-2
-returns-2 c = c .all-admitted2 .ensures ∙ apart (c .before .before .before .before .args .t) A (now (c .before .before .before .before .args .s)) (c .before .enum-told2 .given .1) refl
+returns-2 c = c .all-admitted2 .ensures ∙ apart (c .before .before .before .before .args .set) (c .before .before .before .before .args .t) A (now (c .before .before .before .before .args .s)) (c .before .enum-told2 .given .1) refl
 
 returns-3 : tie.Need-returns-3
-returns-3 c = c .all-admitted3 .ensures ∙ apart (c .before .before .before .before .args .t) AN (now (c .before .before .before .before .args .s)) (c .before .enum-told3 .given .1) refl
+returns-3 c = c .all-admitted3 .ensures ∙ apart (c .before .before .before .before .args .set) (c .before .before .before .before .args .t) AN (now (c .before .before .before .before .args .s)) (c .before .enum-told3 .given .1) refl
 
 returns-4 : tie.Need-returns-4
-returns-4 c = c .all-admitted4 .ensures ∙ apart (c .before .before .before .before .args .t) ANS (now (c .before .before .before .before .args .s)) (c .before .enum-told4 .given .1) refl
+returns-4 c = c .all-admitted4 .ensures ∙ apart (c .before .before .before .before .args .set) (c .before .before .before .before .args .t) ANS (now (c .before .before .before .before .args .s)) (c .before .enum-told4 .given .1) refl
 
 returns-5 : tie.Need-returns-5
-returns-5 c = rw (c .enum-told5 .given .1) (binary-passes (now (c .before .before .before .args .s)))
+returns-5 c = rw (c .enum-told5 .given .1) (binary-passes (c .before .before .before .args .set) (now (c .before .before .before .args .s)))
 
 returns-6 : tie.Need-returns-6
-returns-6 c = c .all-admitted5 .ensures ∙ apart (c .before .before .before .before .args .t) N (now (c .before .before .before .before .args .s)) (c .before .enum-told6 .given .1) refl
+returns-6 c = c .all-admitted5 .ensures ∙ apart (c .before .before .before .before .args .set) (c .before .before .before .before .args .t) N (now (c .before .before .before .before .args .s)) (c .before .enum-told6 .given .1) refl
 
 returns-7 : tie.Need-returns-7
 returns-7 c =
     rw (c .before .all-admitted6 .ensures, c .blank-embedded .ensures)
-    (together (c .before .before .before .before .before .args .t) NB (now (c .before .before .before .before .before .args .s)) (c .before .before .enum-told7 .given .1) refl)
+    (together (c .before .before .before .before .before .args .set) (c .before .before .before .before .before .args .t) NB (now (c .before .before .before .before .before .args .s)) (c .before .before .enum-told7 .given .1) refl)
 
 returns-8 : tie.Need-returns-8
 returns-8 c =
     rw (c .before .all-admitted7 .ensures, c .blank-embedded2 .ensures)
-    (together (c .before .before .before .before .before .args .t) NBD (now (c .before .before .before .before .before .args .s)) (c .before .before .enum-told8 .given .1) refl)
+    (together (c .before .before .before .before .before .args .set) (c .before .before .before .before .before .args .t) NBD (now (c .before .before .before .before .before .args .s)) (c .before .before .enum-told8 .given .1) refl)
 
 returns-9 : tie.Need-returns-9
 returns-9 c =
     rw (c .before .all-admitted8 .ensures, c .blank-embedded3 .ensures)
-    (together (c .before .before .before .before .before .args .t) NBQ (now (c .before .before .before .before .before .args .s)) (c .before .before .enum-told9 .given .1) refl)
+    (together (c .before .before .before .before .before .args .set) (c .before .before .before .before .before .args .t) NBQ (now (c .before .before .before .before .before .args .s)) (c .before .before .enum-told9 .given .1) refl)
 
 returns-10 : tie.Need-returns-10
-returns-10 c = c .all-admitted9 .ensures ∙ apart (c .before .before .before .before .args .t) NBMc (now (c .before .before .before .before .args .s)) (c .before .enum-told10 .given .1) refl
+returns-10 c = c .all-admitted9 .ensures ∙ apart (c .before .before .before .before .args .set) (c .before .before .before .before .args .t) NBMc (now (c .before .before .before .before .args .s)) (c .before .enum-told10 .given .1) refl
 
 returns-11 : tie.Need-returns-11
-returns-11 c = c .all-admitted10 .ensures ∙ apart (c .before .before .before .before .args .t) NBMcd (now (c .before .before .before .before .args .s)) (c .before .enum-told11 .given .1) refl
+returns-11 c = c .all-admitted10 .ensures ∙ apart (c .before .before .before .before .args .set) (c .before .before .before .before .args .t) NBMcd (now (c .before .before .before .before .args .s)) (c .before .enum-told11 .given .1) refl
 
 returns-12 : tie.Need-returns-12
-returns-12 c = c .all-admitted11 .ensures ∙ apart (c .before .before .before .before .args .t) NBMcdo (now (c .before .before .before .before .args .s)) (c .before .enum-told12 .given .1) refl
+returns-12 c = c .all-admitted11 .ensures ∙ apart (c .before .before .before .before .args .set) (c .before .before .before .before .args .t) NBMcdo (now (c .before .before .before .before .args .s)) (c .before .enum-told12 .given .1) refl
 
 returns-13 : tie.Need-returns-13
-returns-13 c = c .all-admitted12 .ensures ∙ apart (c .before .before .before .before .args .t) NBMU (now (c .before .before .before .before .args .s)) (c .before .enum-told13 .given .1) refl
+returns-13 c = c .all-admitted12 .ensures ∙ apart (c .before .before .before .before .args .set) (c .before .before .before .before .args .t) NBMU (now (c .before .before .before .before .args .s)) (c .before .enum-told13 .given .1) refl
 
 pub of-type-spec : {M : Type 1} → statement M
 of-type-spec =
