@@ -9,6 +9,7 @@ use borrow.Author.Tests.{leb-true}
 use lib.Dec.{leb, eqb}
 use lib.ListN.{length, drop, length-append}
 use lib.Seq.{sets, length-sets}
+use Rattle.text.specs.CharacterSet.{setOf}
 use Rattle.text.specs.declared.character_set.CharacterSet.{CharacterSet}
 use Rattle.frame.specs.Frames.{part, frameAt}
 use Rattle.frame.specs.declared.Frame.the-variants.{Cut, Whole}
@@ -92,9 +93,12 @@ pub record Survey (set : CharacterSet) (file : List ℕ) (at : ℕ) (s : Standin
   pub same : run set (length file) file 0 [] ≡ run set (place .fuel) file at (place .past)
   pub count : length (rowsOf file) ≡ 7 * length (place .past) + length (rowsFrom set (place .fuel) file at (place .past))
 
-pub survey-first : (set : CharacterSet) (file : List ℕ) (s : Standing) → length file ≤ 268_435_456 → s ≡ cappedFigures (standing set file []) → Survey set file 0 s
+pub survey-first : (set : CharacterSet) (file : List ℕ) (s : Standing) → set ≡ setOf file → length file ≤ 268_435_456
+    → s ≡ cappedFigures (standing set file []) → Survey set file 0 s
 unfolding place-first
-survey-first set file s h e = record { place = place-first set file s h e; same = refl; count = omega arith }
+survey-first set file s q h e =
+    let rows : length (rowsFrom set (length file) file 0 []) ≡ length (rowsOf file) = rw q in
+    record { place = place-first set file s h e; same = refl; count = omega (arith, rows) }
 
 module _ (set : CharacterSet) (file : List ℕ) (at : ℕ) (s : Standing) (v : Survey set file at s) where
   left : at < length file → 0 < v .place .fuel
@@ -164,10 +168,17 @@ pub record Fill (set : CharacterSet) (file table₀ : List ℕ) (at : ℕ) (s : 
   pub room : base + length (rowsFrom set (place .fuel) file at (place .past)) ≤ length table
   pub same : splice table₀ 0 (rowsOf file) ≡ splice table base (rowsFrom set (place .fuel) file at (place .past))
 
-pub fill-first : (set : CharacterSet) (file table : List ℕ) (s : Standing) → length file ≤ 268_435_456 → length (rowsOf file) ≤ length table → s ≡ cappedFigures (standing set file [])
-    → Fill set file table 0 s 0 table
+pub fill-first : (set : CharacterSet) (file table : List ℕ) (s : Standing) → set ≡ setOf file → length file ≤ 268_435_456 → length (rowsOf file) ≤ length table
+    → s ≡ cappedFigures (standing set file []) → Fill set file table 0 s 0 table
 unfolding place-first
-fill-first set file table s h l e = record { place = place-first set file s h e; long = refl; room = omega arith; same = refl }
+fill-first set file table s q h l e =
+    let rows : rowsFrom set (length file) file 0 [] ≡ rowsOf file = rw q in
+    record {
+      place = place-first set file s h e;
+      long = refl;
+      room = omega (arith, ap length rows);
+      same = ap (splice table 0) (sym rows);
+    }
 
 module _ (set : CharacterSet) (file table₀ : List ℕ) (at : ℕ) (s : Standing) (base : ℕ) (table : List ℕ) (v : Fill set file table₀ at s base table) where
   more : at < length file → 0 < v .place .fuel

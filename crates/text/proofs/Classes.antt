@@ -8,6 +8,7 @@ use native.Mathlib.Omega.{arith}
 use borrow.Author.Tests.{leb-true, eqb-true, eqb-false, ne-eqb}
 use lib.Dec.{leb, eqb}
 use Rattle.text.specs.declared.character_set.CharacterSet.{CharacterSet}
+use Rattle.text.specs.declared.character_set.CharacterSet.the-variants.{Ascii, Ebcdic}
 use Rattle.text.specs.Ranges.{within}
 use Rattle.text.specs.Characters.{isBlank, isNumeric}
 use Rattle.text.specs.declared.data_types.DataType.the-variants.{ANS}
@@ -47,15 +48,18 @@ same-equal false true e = e
 same-equal false false e = refl
 
 -- at every value of a byte
-pub printable-range : (set : CharacterSet) (x : ℕ) → x < 256 → within 0x20 0x7E x ≡ admits set ANS x
-printable-range set x h =
-    same-equal (within 0x20 0x7E x) (admits set ANS x)
-    (passes-below 256 (λ (y : ℕ). same (within 0x20 0x7E y) (admits set ANS y)) refl x h)
+pub printable-range : (x : ℕ) → x < 256 → within 0x20 0x7E x ≡ admits Ascii ANS x
+printable-range x h =
+    same-equal (within 0x20 0x7E x) (admits Ascii ANS x)
+    (passes-below 256 (λ (y : ℕ). same (within 0x20 0x7E y) (admits Ascii ANS y)) refl x h)
 
 digit-not-blank : (set : CharacterSet) (x : ℕ) → isNumeric set x ≡ true → isBlank set x ≡ false
-digit-not-blank set x e =
+digit-not-blank Ascii x e =
     let low = leb-true 0x30 x (and-left (leb 0x30 x) (leb x 0x39) e) in
     ne-eqb x 0x20 (λ q. omega arith)
+digit-not-blank Ebcdic x e =
+    let low = leb-true 0xF0 x (and-left (leb 0xF0 x) (leb x 0xF9) e) in
+    ne-eqb x 0x40 (λ q. omega arith)
 
 never-both : (b : Bool) → b && false ≡ false
 never-both true = refl

@@ -1,6 +1,6 @@
 -- One turn of each loop, on plain lists. Assumes nothing.
 use mathlib.Core.Path.{_≡_, refl, ap, sym, _∙_}
-use mathlib.Core.Bool.{Bool, true, false, _&&_, _||_, not, cond}
+use mathlib.Core.Bool.{Bool, true, false, _&&_, _||_, cond}
 use mathlib.Core.List.{List, [], _∷_}
 use Prim.Native.Nat.{ℕ, suc, _+_, _-_, _*_, _^_, _≤_, _<_}
 use native.Mathlib.Numerals.{add-one}
@@ -11,11 +11,12 @@ use lib.Dec.{leb}
 use lib.ListN.{length, getD, take, drop, drop-of-length-le, length-take}
 use lib.Seq.{drop-cons}
 use Rattle.text.specs.declared.character_set.CharacterSet.{CharacterSet}
+use Rattle.text.specs.declared.character_set.CharacterSet.the-variants.{Ascii, Ebcdic}
+use Rattle.text.specs.Ranges.{within}
 use Rattle.text.specs.Characters.{isBlank, isNumeric}
-use Rattle.text.specs.declared.data_types.DataType.{DataType}
 use Rattle.text.specs.declared.data_types.DataType.the-variants.{Binary}
-use Rattle.text.specs.DataTypes.{every, some, blankAfter, blankEmbedded, admits, keepsDigitsTogether, ofType}
-use Rattle.text.specs.Number.{digit, valueAfter, number}
+use Rattle.text.specs.DataTypes.{every, some, blankAfter, admits}
+use Rattle.text.specs.Number.{codeOfZero, digit, valueAfter, number}
 
 -- what is left at i is the element there and what is left after it
 pub rest : (s : List ℕ) (i : ℕ) → i < length s → drop i s ≡ getD s i 0 ∷ drop (i + 1) s
@@ -58,30 +59,30 @@ abbrev pub embeddedFrom : CharacterSet → Bool → Bool → List ℕ → Bool
 embeddedFrom set before gap xs = (gap && some (isNumeric set) xs) || blankAfter set before xs
 
 -- a gap and now a digit: embedded
-gap-closed : (set : CharacterSet) → (gap (digit set) more rest : Bool) → gap && digit set ≡ true → (gap && (digit set || more)) || rest ≡ true
-gap-closed set true true more rest e = refl
-gap-closed set true false more rest e = cc
-gap-closed set false (digit set) more rest e = cc
+gap-closed : (gap digit more rest : Bool) → gap && digit ≡ true → (gap && (digit || more)) || rest ≡ true
+gap-closed true true more rest e = refl
+gap-closed true false more rest e = cc
+gap-closed false digit more rest e = cc
 
 -- a turn that finds no digit after a gap
-gap-carried : (set : CharacterSet) → (gap (digit set) before blank more rest : Bool) → gap && digit set ≡ false
-    → (gap && (digit set || more)) || ((before && (blank && more)) || rest) ≡ ((gap || (before && blank)) && more) || rest
-gap-carried set true true before blank more rest e = cc
-gap-carried set true false before blank true rest e = refl
-gap-carried set true false true true false rest e = refl
-gap-carried set true false true false false rest e = refl
-gap-carried set true false false blank false rest e = refl
-gap-carried set false (digit set) true true more rest e = refl
-gap-carried set false (digit set) true false more rest e = refl
-gap-carried set false (digit set) false blank more rest e = refl
+gap-carried : (gap digit before blank more rest : Bool) → gap && digit ≡ false
+    → (gap && (digit || more)) || ((before && (blank && more)) || rest) ≡ ((gap || (before && blank)) && more) || rest
+gap-carried true true before blank more rest e = cc
+gap-carried true false before blank true rest e = refl
+gap-carried true false true true false rest e = refl
+gap-carried true false true false false rest e = refl
+gap-carried true false false blank false rest e = refl
+gap-carried false digit true true more rest e = refl
+gap-carried false digit true false more rest e = refl
+gap-carried false digit false blank more rest e = refl
 
 module _ (set : CharacterSet) (s : List ℕ) (i : ℕ) (before gap : Bool) where
   pub embedded-found : i < length s → gap && isNumeric set (getD s i 0) ≡ true → embeddedFrom set before gap (drop i s) ≡ true
-  embedded-found h e = rw (rest s i h) (gap-closed set gap (isNumeric set (getD s i 0)) _ _ e)
+  embedded-found h e = rw (rest s i h) (gap-closed gap (isNumeric set (getD s i 0)) _ _ e)
 
   pub embedded-goes-on : i < length s → gap && isNumeric set (getD s i 0) ≡ false
       → embeddedFrom set before gap (drop i s) ≡ embeddedFrom set (before || isNumeric set (getD s i 0)) (gap || (before && isBlank set (getD s i 0))) (drop (i + 1) s)
-  embedded-goes-on h e = rw (rest s i h) (gap-carried set gap (isNumeric set (getD s i 0)) before (isBlank set (getD s i 0)) _ _ e)
+  embedded-goes-on h e = rw (rest s i h) (gap-carried gap (isNumeric set (getD s i 0)) before (isBlank set (getD s i 0)) _ _ e)
 
   pub embedded-ends : length s ≤ i → embeddedFrom set before gap (drop i s) ≡ false
   embedded-ends h = rw (drop-of-length-le s h) (no-digit gap)
@@ -103,30 +104,26 @@ ten-more i = rw add-one (pow-suc 10 i)
 pub ten-top : (i : ℕ) → i ≤ 18 → 10 ^ i ≤ 10 ^ 18
 ten-top i h = pow-le-pow-right (omega arith) h
 
--- binary data is of its type, whatever it is
-pub binary-passes : (set : CharacterSet) (xs : List ℕ) → true ≡ ofType set Binary xs
-unfolding ofType
+-- binary data is limited to nothing
+pub binary-passes : (set : CharacterSet) (xs : List ℕ) → true ≡ every (admits set Binary) xs
 binary-passes set [] = refl
 binary-passes set (x ∷ xs) = binary-passes set xs
 
--- the type of a field by what its loops find, at a type that is known
-module _ (set : CharacterSet) (t known : DataType) (xs : List ℕ) (e : t ≡ known) where
-  pub together : keepsDigitsTogether known ≡ true → every (admits set known) xs && not (blankEmbedded set xs) ≡ ofType set t xs
-  unfolding ofType
-  together k = rw (e, k)
-
-  pub apart : keepsDigitsTogether known ≡ false → every (admits set known) xs ≡ ofType set t xs
-  unfolding ofType
-  apart k = rw (e, k) (sym (and-true (every (admits set known) xs)))
+-- a character is a digit by its place after the zero of its set
+pub digit-told : (set : CharacterSet) (x : ℕ) → digit set x ≡ cond (within (codeOfZero set) (codeOfZero set + 9) x) (x - codeOfZero set) 0
+digit-told Ascii x = refl
+digit-told Ebcdic x = refl
 
 -- a digit is at most 9, and a run of k digits has a number below the k-th power of ten
-digit-test : (a b : Bool) (x : ℕ) → (b ≡ true → x ≤ 0x39) → cond (a && b) (x - 0x30) 0 ≤ 9
-digit-test true true x h = omega (arith, h refl)
-digit-test true false x h = omega arith
-digit-test false b x h = omega arith
+digit-test : (a b : Bool) (zero x : ℕ) → (b ≡ true → x ≤ zero + 9) → cond (a && b) (x - zero) 0 ≤ 9
+digit-test true true zero x h = omega (arith, h refl)
+digit-test true false zero x h = omega arith
+digit-test false b zero x h = omega arith
 
 digit-small : (set : CharacterSet) (x : ℕ) → digit set x ≤ 9
-digit-small set x = digit-test (leb 0x30 x) (leb x 0x39) x (λ e. leb-true x 0x39 e)
+digit-small set x =
+    rw (digit-told set x)
+    (digit-test (leb (codeOfZero set) x) (leb x (codeOfZero set + 9)) (codeOfZero set) x (leb-true x (codeOfZero set + 9)))
 
 value-below : (set : CharacterSet) (v : ℕ) (xs : List ℕ) → valueAfter set v xs < (v + 1) * 10 ^ length xs
 value-below set v [] = omega arith

@@ -8,9 +8,9 @@ use Rattle.text.specs.declared.character_set.CharacterSet.the-variants.{
 use Rattle.text.specs.Characters.{isNumeric}
 
 -- 5.1.3: the number that a numeric character stands for, from 0's own code on; no other character adds anything
-abbrev pub codeOfZero : CharacterSet → CharacterSet → ℕ
-codeOfZero set Ascii = 0x30
-codeOfZero set Ebcdic = 0xF0
+abbrev pub codeOfZero : CharacterSet → ℕ
+codeOfZero Ascii = 0x30
+codeOfZero Ebcdic = 0xF0
 
 abbrev pub digit : CharacterSet → ℕ → ℕ
 digit set x = cond (isNumeric set x) (x - codeOfZero set) 0
