@@ -14,7 +14,7 @@ use Rattle.text.specs.Characters.{isBlank, isNumeric}
 use Rattle.text.specs.declared.data_types.DataType.the-variants.{ANS}
 use Rattle.text.specs.DataTypes.{every, admits, blankAfter}
 
-and-left : (a b : Bool) → a && b ≡ true → a ≡ true
+pub and-left : (a b : Bool) → a && b ≡ true → a ≡ true
 and-left true b e = refl
 and-left false b e = cc
 
@@ -61,7 +61,7 @@ digit-not-blank Ebcdic x e =
     let low = leb-true 0xF0 x (and-left (leb 0xF0 x) (leb x 0xF9) e) in
     ne-eqb x 0x40 (λ q. omega arith)
 
-never-both : (b : Bool) → b && false ≡ false
+pub never-both : (b : Bool) → b && false ≡ false
 never-both true = refl
 never-both false = refl
 

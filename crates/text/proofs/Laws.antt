@@ -115,10 +115,10 @@ digit-told Ascii x = refl
 digit-told Ebcdic x = refl
 
 -- a digit is at most 9, and a run of k digits has a number below the k-th power of ten
-digit-test : (a b : Bool) (zero x : ℕ) → (b ≡ true → x ≤ zero + 9) → cond (a && b) (x - zero) 0 ≤ 9
-digit-test true true zero x h = omega (arith, h refl)
-digit-test true false zero x h = omega arith
-digit-test false b zero x h = omega arith
+digit-test : (a b : Bool) (first x : ℕ) → (b ≡ true → x ≤ first + 9) → cond (a && b) (x - first) 0 ≤ 9
+digit-test true true first x h = omega (arith, h refl)
+digit-test true false first x h = omega arith
+digit-test false b first x h = omega arith
 
 digit-small : (set : CharacterSet) (x : ℕ) → digit set x ≤ 9
 digit-small set x =

@@ -4,7 +4,7 @@ use Rattle.text.proofs.data_types.is_printable.Statement.{statement}
 use Rattle.text.proofs.data_types.is_printable.Tie as tie
 
 returns : tie.Need-returns
-returns c = printable-range (c .args .set) (c .args .x) (omega arith)
+returns c = printable-range (c .args .x) (omega arith)
 
 pub is-printable-spec : {M : Type 1} → statement M
 is-printable-spec = tie.close (tie.spec returns)
