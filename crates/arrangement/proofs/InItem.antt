@@ -6,6 +6,8 @@ use mathlib.Core.Path.{_≡_, refl, ap, _∙_}
 use mathlib.Core.List.{List, [], _∷_}
 use lib.Dec.{eqb}
 use Rattle.text.specs.declared.character_set.CharacterSet.{CharacterSet}
+use Rattle.text.specs.declared.character_set.CharacterSet.the-variants.{Ascii, Ebcdic}
+use Rattle.text.specs.Capitals.{capital}
 use Rattle.layout.specs.Layouts.{cashLetterHeader, bundleHeader}
 use Rattle.judge.specs.Alone.{typeOf}
 use Rattle.order.specs.MayFollow.{isItem}
@@ -112,9 +114,14 @@ module _ (set : CharacterSet) (inside : Bool) (letter : Body) (o : Owner) where
       (in-step (onto a past) b 33 (k .addendum-b) (search) (in-run past a 32 (k .addenda-a) (search) h)))
   in-addenda past ofCredit k h = h
 
--- the cash letter header has the indicator
+-- the cash letter header has the indicator; where there is none, both are 0
+no-capital : (set : CharacterSet) → 0 ≡ capital set 0
+unfolding capital
+no-capital Ascii = refl
+no-capital Ebcdic = refl
+
 indicates : (set : CharacterSet) (past : List Body) → indicatorIn set past ≡ indicatorOf set (newest set (is 10) past)
-indicates set [] = refl
+indicates set [] = no-capital set
 indicates set (b ∷ past) = rw (indicates set past) (either (is 10 (typeOf set b)))
   where
     either : (c : Bool) → cond c (indicatorOf set b) (indicatorOf set (newest set (is 10) past)) ≡ indicatorOf set (cond c b (newest set (is 10) past))

@@ -28,7 +28,7 @@ pub record Fresh (set : CharacterSet) (a : Addenda) (d : Body) (past : List Body
   pub endorser : endorserIn set (d ∷ past) ≡ 0
   pub addenda : addendaIn set (d ∷ past) ≡ 0
   pub shown : shownIn set (d ∷ past) ≡ 0
-  pub stated-is : statedIn set (d ∷ past) ≡ sound.statedIn a d
+  pub stated-is : statedIn set (d ∷ past) ≡ sound.statedIn set a d
   pub detail-is : newest set isItem (d ∷ past) ≡ d
   pub holder : holderIn set (d ∷ past) ≡ layoutIn a .typeNumber
 
@@ -39,7 +39,7 @@ abbrev pub nextPresent : ℕ → Body → ℕ → ℕ
 nextPresent t b x = cond (eqb t 20) 0 (cond (isCheckOrReturn t) t x)
 
 fresh-of : (set : CharacterSet) (t : ℕ) (a : Addenda) (d : Body) (past : List Body) → typeOf set d ≡ t → isItem t ≡ true → eqb t 10 || (eqb t 20 || eqb t 70) ≡ false
-    → statedAs set t d ≡ sound.statedIn a d → layoutIn a .typeNumber ≡ t → Fresh set a d past
+    → statedAs set t d ≡ sound.statedIn set a d → layoutIn a .typeNumber ≡ t → Fresh set a d past
 fresh-of set t a d past k i n s q =
     record {
       bofd = step set 0 nextBofd past d t k ∙ simp i;
@@ -76,7 +76,7 @@ demanded ofCredit = refl
 -- what an item with all its records leaves
 pub record ItemFigures (set : CharacterSet) (i : Item) (past : List Body) : Type 0 where
   pub addenda : addendaIn set (afterItem past i) ≡ length (addendaThen (i .addenda) [])
-  pub stated-is : statedIn set (afterItem past i) ≡ sound.statedIn (i .addenda) (i .detail)
+  pub stated-is : statedIn set (afterItem past i) ≡ sound.statedIn set (i .addenda) (i .detail)
   pub shown : shownIn set (afterItem past i) ≡ length (i .views)
   pub demands : isCheckOrReturn (holderIn set (afterItem past i)) ≡ demandsView (i .addenda)
   pub present : presentIn set (afterItem past i) ≡ presentWith (i .addenda) (presentIn set past)

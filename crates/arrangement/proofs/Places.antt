@@ -127,10 +127,10 @@ module _ (set : CharacterSet) (inside : Bool) (l o i : ℕ) (ps : List Placed) w
         amount = rw (h .not-70, h .not-90, h .not-99, h .not-25, h .not-31, h .not-61);
       }
 
-  pub record Alike (set : CharacterSet) (past bs others : List Body) : Type 0 where
+  pub record Alike (past bs others : List Body) : Type 0 where
     pub agree : Stands set past inside l o i → Agree set past bs (alikeThen l (cond inside o 0) (cond inside i 0) others ps)
 
-  alike : {past bs others : List Body} (b : Body) (t : ℕ) → Inner t → typeOf set b ≡ t → Alike set (b ∷ past) bs others → Alike set past (b ∷ bs) (b ∷ others)
+  alike : {past bs others : List Body} (b : Body) (t : ℕ) → Inner t → typeOf set b ≡ t → Alike (b ∷ past) bs others → Alike past (b ∷ bs) (b ∷ others)
   alike {past} b t h k then =
       record {
         agree = λ s.
@@ -138,25 +138,25 @@ module _ (set : CharacterSet) (inside : Bool) (l o i : ℕ) (ps : List Placed) w
             row-then set (placed l (cond inside o 0) (cond inside i 0) 0 b) t k s′ (inner-seat t (b ∷ past) b h) (then .agree s′);
       }
 
-  alike-run : {past bs others : List Body} (rs : List Body) (t : ℕ) → Inner t → All (OfType set t) rs → Alike set (onto rs past) bs others
-      → Alike set past (rs ++ bs) (rs ++ others)
+  alike-run : {past bs others : List Body} (rs : List Body) (t : ℕ) → Inner t → All (OfType set t) rs → Alike (onto rs past) bs others
+      → Alike past (rs ++ bs) (rs ++ others)
   alike-run [] t h k then = then
   alike-run (r ∷ rs) t h k then = alike r t h (k .0) (alike-run rs t h (k .1) then)
 
-  alike-optional : {past bs others : List Body} (r : Option Body) (t : ℕ) → Inner t → IfAny (OfType set t) r → Alike set (afterOptional past r) bs others
-      → Alike set past (optionalThen r bs) (optionalThen r others)
+  alike-optional : {past bs others : List Body} (r : Option Body) (t : ℕ) → Inner t → IfAny (OfType set t) r → Alike (afterOptional past r) bs others
+      → Alike past (optionalThen r bs) (optionalThen r others)
   alike-optional none t h k then = then
   alike-optional (some r) t h k then = alike r t h k then
 
-  pub alike-views : {past bs : List Body} (vs : List View) → All (TypedView set) vs → Alike set (afterViews past vs) bs []
-      → Alike set past (viewsThen vs bs) (viewsThen vs [])
+  pub alike-views : {past bs : List Body} (vs : List View) → All (TypedView set) vs → Alike (afterViews past vs) bs []
+      → Alike past (viewsThen vs bs) (viewsThen vs [])
   alike-views [] k then = then
   alike-views (v ∷ vs) k then =
       alike (v .detail) 50 (search) (k .0 .detail) (alike (v .image) 52 (search) (k .0 .image) (alike-optional (v .analysis) 54 (search) (k .0 .analysis)
       (alike-views vs (k .1) then)))
 
-  pub alike-addenda : {past bs others : List Body} (a : Addenda) → TypedAddenda set a → Alike set (afterAddenda past a) bs others
-      → Alike set past (addendaThen a bs) (addendaThen a others)
+  pub alike-addenda : {past bs others : List Body} (a : Addenda) → TypedAddenda set a → Alike (afterAddenda past a) bs others
+      → Alike past (addendaThen a bs) (addendaThen a others)
   alike-addenda (ofCheck a b c) k then =
       alike-run a 26 (search) (k .addenda-a) (alike-optional b 27 (search) (k .addendum-b) (alike-run c 28 (search) (k .addenda-c) then))
   alike-addenda (ofReturn a b c d) k then =

@@ -7,6 +7,7 @@ use mathlib.Core.List.{List, [], _∷_, _++_}
 use lib.Dec.{leb}
 use lib.ListN.{length, drop}
 use borrow.Author.Tests.{leb-true, le-leb, lt-leb}
+use Rattle.text.specs.CharacterSet.{setOf}
 use Rattle.text.specs.declared.character_set.CharacterSet.{CharacterSet}
 use Rattle.judge.specs.Alone.{typeOf}
 use Rattle.passes.specs.declared.Fault.{Fault}
@@ -49,103 +50,103 @@ picked-room : (b : Bool) (u t : Totals) (n : ℕ) → cond b (Accepted u) (Refus
 picked-room true u t n e = refl
 picked-room false u t n e = absurd (refused-not Room n 0 t e)
 
-record Roomed (set : CharacterSet) (rows : ℕ) (a : Answer) : Type 0 where
+record Roomed (rows : ℕ) (a : Answer) : Type 0 where
   totals-are : Totals
   accepted : a ≡ Accepted totals-are
-  room : totals-are .records .0 ≤ rows set
+  room : totals-are .records .0 ≤ rows
 
-in-room : (set : CharacterSet) (rows : ℕ) (a : Answer) (t : Totals) → inRoom (rows set) a ≡ Accepted t → Roomed set (rows set) a
-in-room set (rows set) (Accepted u) t e =
+in-room : (rows : ℕ) (a : Answer) (t : Totals) → inRoom rows a ≡ Accepted t → Roomed rows a
+in-room rows (Accepted u) t e =
     record {
       totals-are = u;
       accepted = refl;
-      room = leb-true (u .records .0) (rows set) (picked-room (leb (u .records .0) (rows set)) u t (u .records .0) e);
+      room = leb-true (u .records .0) rows (picked-room (leb (u .records .0) rows) u t (u .records .0) e);
     }
-in-room set (rows set) (Refused fault n o) t e = absurd (refused-not fault n o t e)
+in-room rows (Refused fault n o) t e = absurd (refused-not fault n o t e)
 
 -- an arrangement makes the file accepted, with its totals and its rows
-pub record Read (set : CharacterSet) (file : List ℕ) (x : File) : Type 0 where
-  pub answer : surveyed file ≡ Accepted (totals set x)
-  pub its-rows : rowsOf file ≡ rows set x
+pub record Read (file : List ℕ) (x : File) : Type 0 where
+  pub answer : surveyed file ≡ Accepted (totals (setOf file) x)
+  pub its-rows : rowsOf file ≡ rows (setOf file) x
 
-pub arranged-accepted : (set : CharacterSet) (file : List ℕ) (x : File) → Arranges file x → Read set file x
-arranged-accepted set file x a =
-    let k = sound-typed set x (a .sound) in
-    let r = records-accepted set file (records x) (a .size) (a .bytes) (sound-good set x (a .sound)) in
-    record { answer = r .answer ∙ ap Accepted (totals-of set x k (a .sound)); its-rows = r .rows ∙ rows-of set x k (a .sound) }
+pub arranged-accepted : (file : List ℕ) (x : File) → Arranges file x → Read file x
+arranged-accepted file x a =
+    let k = sound-typed (setOf file) x (a .sound) in
+    let r = records-accepted file (records x) (a .size) (a .bytes) (sound-good (setOf file) x (a .sound)) in
+    record { answer = r .answer ∙ ap Accepted (totals-of (setOf file) x k (a .sound)); its-rows = r .rows ∙ rows-of (setOf file) x k (a .sound) }
 
 -- an accepted file has an arrangement
-pub accepted-arranged : CharacterSet → (file : List ℕ) (t : Totals) → Bytes file → surveyed file ≡ Accepted t → (x : File) × Arranges file x
-accepted-arranged set file t b e =
-    let r = accepted-records set file t b e in
-    let s = shape-of set (r .bodies) (good-chain set [] (r .bodies) (r .good)) in
-    let g = subst (λ (bs : List Body). GoodAll set [] bs) (sym (s .written-out)) (r .good) in (
+pub accepted-arranged : (file : List ℕ) (t : Totals) → Bytes file → surveyed file ≡ Accepted t → (x : File) × Arranges file x
+accepted-arranged file t b e =
+    let r = accepted-records file t b e in
+    let s = shape-of (setOf file) (r .bodies) (good-chain (setOf file) [] (r .bodies) (r .good)) in
+    let g = subst (λ (bs : List Body). GoodAll (setOf file) [] bs) (sym (s .written-out)) (r .good) in (
       s .file,
-      record { sound = good-sound set (s .file) (s .typed) g; bytes = ap framed (s .written-out) ∙ r .bytes; size = accepted-small file t e },
+      record { sound = good-sound (setOf file) (s .file) (s .typed) g; bytes = ap framed (s .written-out) ∙ r .bytes; size = accepted-small file t e },
     )
 
 -- never two, sound or not, with records of the types of their places
 pub one-arrangement : (set : CharacterSet) (x y : File) → Typed set x → Typed set y → written x ≡ written y → length (written x) ≤ 268_435_456 → x ≡ y
 one-arrangement set x y k l e n = one-shape set x y k l (one-framing (records x) (records y) e n)
 
-module _ (set : CharacterSet) (file table : List ℕ) (x : File) (a : Arranges file x) where
-  accepted-answer : HasRoom table x → answerOf file (length table) ≡ Accepted (totals set x)
+module _ (file table : List ℕ) (x : File) (a : Arranges file x) where
+  accepted-answer : HasRoom table x → answerOf file (length table) ≡ Accepted (totals (setOf file) x)
   unfolding answerOf
-  accepted-answer h = rw (arranged-accepted set file x a .answer) (rw (le-leb (length (records x)) (length table / 7) (omega (arith, h))))
+  accepted-answer h = rw (arranged-accepted file x a .answer) (rw (le-leb (length (records x)) (length table / 7) (omega (arith, h))))
 
   room-answer : length table < 7 * length (records x) → answerOf file (length table) ≡ Refused Room (length (records x)) 0
   unfolding answerOf
-  room-answer h = rw (arranged-accepted set file x a .answer) (rw (lt-leb (length (records x)) (length table / 7) (omega (arith, h))))
+  room-answer h = rw (arranged-accepted file x a .answer) (rw (lt-leb (length (records x)) (length table / 7) (omega (arith, h))))
 
-answer-accepted : (set : CharacterSet) (file table : List ℕ) (t : Totals) → answerOf file (length table) ≡ Accepted t
-    → Roomed set (length table / 7) (surveyed file)
+answer-accepted : (file table : List ℕ) (t : Totals) → answerOf file (length table) ≡ Accepted t
+    → Roomed (length table / 7) (surveyed file)
 unfolding answerOf
-answer-accepted set file table t e = in-room set (length table / 7) (surveyed file) t e
+answer-accepted file table t e = in-room (length table / 7) (surveyed file) t e
 
 same-totals : (u v : Totals) → Accepted u ≡ Accepted v → u ≡ v
 same-totals u v e = cc
 
-has-room : CharacterSet → (file table : List ℕ) (x : File) (t : Totals) → Arranges file x → answerOf file (length table) ≡ Accepted t → HasRoom table x
-has-room set file table x t a e =
-    let r = answer-accepted set file table t e in
-    let u = same-totals (r .totals-are) (totals set x) (sym (r .accepted) ∙ arranged-accepted set file x a .answer) in
+has-room : (file table : List ℕ) (x : File) (t : Totals) → Arranges file x → answerOf file (length table) ≡ Accepted t → HasRoom table x
+has-room file table x t a e =
+    let r = answer-accepted file table t e in
+    let u = same-totals (r .totals-are) (totals (setOf file) x) (sym (r .accepted) ∙ arranged-accepted file x a .answer) in
     omega (arith, r .room, ap (λ (v : Totals). v .records .0) u)
 
-pub theorem : CharacterSet → (file table : List ℕ) → Bytes file → Arranged file table (answerOf file (length table)) (tableOf file table)
+pub theorem : (file table : List ℕ) → Bytes file → Arranged file table (answerOf file (length table)) (tableOf file table)
 unfolding tableOf
-theorem set file table b =
+theorem file table b =
     record {
       exact = (
         λ acc.
             let (t, e) = acc in
-            let r = answer-accepted set file table t e in
-            let (x, a) = accepted-arranged set file (r .totals-are) b (r .accepted) in
-            (x, a, has-room set file table x t a e),
-        λ y. let (x, a, room) = y in (totals set x, accepted-answer set file table x a room),
+            let r = answer-accepted file table t e in
+            let (x, a) = accepted-arranged file (r .totals-are) b (r .accepted) in
+            (x, a, has-room file table x t a e),
+        λ y. let (x, a, room) = y in (totals (setOf file) x, accepted-answer file table x a room),
       );
-      alone = λ x y a c. one-arrangement set x y (sound-typed set x (a .sound)) (sound-typed set y (c .sound)) (a .bytes ∙ sym (c .bytes))
+      alone = λ x y a c. one-arrangement (setOf file) x y (sound-typed (setOf file) x (a .sound)) (sound-typed (setOf file) y (c .sound)) (a .bytes ∙ sym (c .bytes))
           (omega (arith, ap length (a .bytes), a .size));
-      its-totals = λ x a acc. let (t, e) = acc in accepted-answer set file table x a (has-room set file table x t a e);
+      its-totals = λ x a acc. let (t, e) = acc in accepted-answer file table x a (has-room file table x t a e);
       its-rows = λ x a acc.
           let (t, e) = acc in
-          ap (λ (answer : Answer). tableAfter answer (rowsOf file) table) (accepted-answer set file table x a (has-room set file table x t a e))
-          ∙ ap (λ (r : List ℕ). r ++ drop (length r) table) (arranged-accepted set file x a .its-rows);
+          ap (λ (answer : Answer). tableAfter answer (rowsOf file) table) (accepted-answer file table x a (has-room file table x t a e))
+          ∙ ap (λ (r : List ℕ). r ++ drop (length r) table) (arranged-accepted file x a .its-rows);
       its-control =
           λ x t a e.
-          let u = same-totals t (totals set x) (sym e ∙ accepted-answer set file table x a (has-room set file table x t a e)) in (
+          let u = same-totals t (totals (setOf file) x) (sym e ∙ accepted-answer file table x a (has-room file table x t a e)) in (
             ap (λ (v : Totals). v .items .0) u ∙ sym (a .sound .item-count),
             ap (λ (v : Totals). v .sums .debit .0) u ∙ sym (a .sound .debit-cents),
             ap (λ (v : Totals). v .sums .credit .0) u ∙ sym (a .sound .credit-cents),
           );
-      its-room = λ x a h. room-answer set file table x a h;
+      its-room = λ x a h. room-answer file table x a h;
     }
 
 -- the same of an answer and a table that are those of the reading
-pub arranged : CharacterSet → (file table : List ℕ) (answer : Answer) (after : List ℕ) → Bytes file → answer ≡ answerOf file (length table) → after ≡ tableOf file table
+pub arranged : (file table : List ℕ) (answer : Answer) (after : List ℕ) → Bytes file → answer ≡ answerOf file (length table) → after ≡ tableOf file table
     → Arranged file table answer after
-arranged set file table answer after b e t =
+arranged file table answer after b e t =
     subst (λ (a : Answer). Arranged file table a after) (sym e)
-    (subst (λ (u : List ℕ). Arranged file table (answerOf file (length table)) u) (sym t) (theorem set file table b))
+    (subst (λ (u : List ℕ). Arranged file table (answerOf file (length table)) u) (sym t) (theorem file table b))
 
 pub of-answer : {file table after : List ℕ} {a b : Answer} → a ≡ b → Arranged file table a after → Arranged file table b after
 of-answer {file} {table} {after} e h = subst (λ (a : Answer). Arranged file table a after) e h

@@ -8,6 +8,7 @@ use lib.Dec.{leb, eqb}
 use lib.ListN.{length, drop, length-drop, take-append-drop, drop-of-length-le}
 use lib.Seq.{getD-drop, drop-drop, length-take-le}
 use borrow.Author.Tests.{leb-true, leb-false, eqb-true}
+use Rattle.text.specs.CharacterSet.{setOf}
 use Rattle.text.specs.declared.character_set.CharacterSet.{CharacterSet}
 use Rattle.frame.specs.Frames.{part, lengthAt, frameAt}
 use Rattle.frame.specs.declared.Frame.the-variants.{Whole}
@@ -75,7 +76,7 @@ module _ (set : CharacterSet) (file : List ℕ) (hb : Bytes file) (t : Totals) w
   unfolding stepOf
   next past older opened u size e =
       let at = extent past in
-      let f = laws.framed file (standing set file (entries set past)) at u size e in
+      let f = laws.framed set file (standing set file (entries set past)) at u size e in
       let begins = whole-start file at (f .start) size (f .whole) in
       let there : frameAt file at ≡ Whole (at + 4) size = f .whole ∙ ap (λ (n : ℕ). Whole n size) begins in
       let fits = whole-within file at (at + 4) size there in
@@ -146,19 +147,19 @@ module _ (set : CharacterSet) (file : List ℕ) (hb : Bytes file) (t : Totals) w
       at-all false q others = at-step (stepOf set file (standing set file (entries set past)) (extent past)) refl (leb-false _ _ q) others
 
 -- an accepted file is good records, each behind its length; its totals and its rows are theirs
-pub record Records (set : CharacterSet) (file : List ℕ) (t : Totals) : Type 0 where
+pub record Records (file : List ℕ) (t : Totals) : Type 0 where
   pub bodies : List Body
   pub bytes : framed bodies ≡ file
-  pub good : GoodAll set [] bodies
-  pub sums : t ≡ totalsAfter set (onto bodies [])
-  pub rows : rowsOf file ≡ rowsAll set 0 [] bodies
+  pub good : GoodAll (setOf file) [] bodies
+  pub sums : t ≡ totalsAfter (setOf file) (onto bodies [])
+  pub rows : rowsOf file ≡ rowsAll (setOf file) 0 [] bodies
 
-pub accepted-records : (set : CharacterSet) (file : List ℕ) (t : Totals) → Bytes file → surveyed file ≡ Accepted t → Records set file t
+pub accepted-records : (file : List ℕ) (t : Totals) → Bytes file → surveyed file ≡ Accepted t → Records file t
 unfolding surveyed
-accepted-records set file t hb e =
-    let ran = within (leb 1 (length file) && leb (length file) 268_435_456) (run set (length file) file 0 []) e in
-    let x = found set file hb t (length file) [] tt (none-opened set) (omega arith) ran in
-    let read = records-accepted set file (x .bodies) (accepted-small file t e) (x .bytes) (x .good) in
+accepted-records file t hb e =
+    let ran = within (leb 1 (length file) && leb (length file) 268_435_456) (run (setOf file) (length file) file 0 []) e in
+    let x = found (setOf file) file hb t (length file) [] tt (none-opened (setOf file)) (omega arith) ran in
+    let read = records-accepted file (x .bodies) (accepted-small file t e) (x .bytes) (x .good) in
     record { bodies = x .bodies; bytes = x .bytes; good = x .good; sums = injected (sym e ∙ read .answer); rows = read .rows }
   where
     within : (c : Bool) (a : Answer) → cond c a (Refused Size 0 0) ≡ Accepted t → a ≡ Accepted t

@@ -49,7 +49,7 @@ linkChecks set k past b =
     cond (eqb k 52) (viewChecks set past b) []
 
 abbrev pub states : CharacterSet → Layout → Body → ℕ → ℕ → Bool
-states set k b n (value set) = eqb (number set (fieldOf k n b)) (value set)
+states set k b n value = eqb (number set (fieldOf k n b)) value
 
 abbrev pub bundleChecks : CharacterSet → List Body → Body → List Check
 bundleChecks set past b =

@@ -250,7 +250,7 @@ stands set file past h =
     refl
     refl
     refl
-    (newest-held set file (is 10) (λ t at. history.indicatorIn file at) (λ t b. indicatorOf set b)
+    (newest-held set file (is 10) (λ t at. history.indicatorIn set file at) (λ t b. indicatorOf set b)
     (λ at b k e. ap (λ (x : List ℕ). capital set (getD x 0 0)) (fields-at set k cashLetterHeader (λ c. refl) refl e 8)) past h)
-    (newest-held set file (is 50) (λ t at. history.signatureIn file at) (λ t b. signatureOf set b)
+    (newest-held set file (is 50) (λ t at. history.signatureIn set file at) (λ t b. signatureOf set b)
     (λ at b k e. ap (number set) (fields-at set k imageViewDetail (λ c. refl) refl e 10)) past h)

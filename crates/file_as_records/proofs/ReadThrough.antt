@@ -6,6 +6,7 @@ use mathlib.Core.List.{List, [], _∷_, _++_}
 use lib.ListN.{length, take, drop, length-append, length-drop}
 use lib.Seq.{drop-drop, take-append-seam, drop-append-seam}
 use borrow.Author.Tests.{le-leb, eq-eqb}
+use Rattle.text.specs.CharacterSet.{setOf}
 use Rattle.text.specs.declared.character_set.CharacterSet.{CharacterSet}
 use Rattle.frame.specs.Frames.{part, lengthIn, lengthAt, frameAt}
 use Rattle.frame.specs.declared.Frame.the-variants.{Whole}
@@ -104,16 +105,16 @@ reads set file small (b ∷ bs) n past older opened e g l =
     }
 
 -- good records behind their lengths are an accepted file
-pub record ReadWhole (set : CharacterSet) (file : List ℕ) (bodies : List Body) : Type 0 where
-  pub answer : surveyed file ≡ Accepted (totalsAfter set (onto bodies []))
-  pub rows : rowsOf file ≡ rowsAll set 0 [] bodies
+pub record ReadWhole (file : List ℕ) (bodies : List Body) : Type 0 where
+  pub answer : surveyed file ≡ Accepted (totalsAfter (setOf file) (onto bodies []))
+  pub rows : rowsOf file ≡ rowsAll (setOf file) 0 [] bodies
 
-pub records-accepted : (set : CharacterSet) (file : List ℕ) (bodies : List Body) → length file ≤ 268_435_456 → framed bodies ≡ file → GoodAll set [] bodies
-    → ReadWhole set file bodies
+pub records-accepted : (file : List ℕ) (bodies : List Body) → length file ≤ 268_435_456 → framed bodies ≡ file → GoodAll (setOf file) [] bodies
+    → ReadWhole file bodies
 unfolding surveyed
-records-accepted set file [] small e g = absurd (omega arith)
-records-accepted set file (b ∷ bs) small e g =
-    let read = reads set file small (b ∷ bs) (length file) [] tt (none-opened set) (sym e) g (omega arith) in
+records-accepted file [] small e g = absurd (omega arith)
+records-accepted file (b ∷ bs) small e g =
+    let read = reads (setOf file) file small (b ∷ bs) (length file) [] tt (none-opened (setOf file)) (sym e) g (omega arith) in
     record {
       answer = rw (le-leb 1 (length file) (omega (arith, ap length e)), le-leb (length file) 268_435_456 small) (read .answer);
       rows = read .rows;

@@ -124,7 +124,7 @@ module _ (set : CharacterSet) {file : List ℕ} {at : ℕ} {b : Body} (past : Li
       let cycle = under-where (insideIn set past) (λ inside. ap (same (fieldOf imageViewData 4 b)) (bundle-same inside 9)) in
       rw (own 2, own 3, own 4, own 5, own 7, own 8, header-same letter 4, header-same letter 5, cycle, sequence-same item)
 
-  links-same : AllOpened set (b ∷ past) → links.linkChecks file (over set past) (typeOf set b) at ≡ linkChecks set (typeOf set b) past b
+  links-same : AllOpened set (b ∷ past) → links.linkChecks set file (over set past) (typeOf set b) at ≡ linkChecks set (typeOf set b) past b
   links-same opened =
       ap₂
       (λ (inOrder : Bool) (view : List Check).
@@ -132,7 +132,7 @@ module _ (set : CharacterSet) {file : List ℕ} {at : ℕ} {b : Body} (past : Li
       ∷ check 1 (annexB (typeOf set b) (indicatorIn set past) (openedIn set past) (holderIn set past) (shownIn set past)) ∷ check 2 inOrder ∷ view)
       numbered-same (under (eqb (typeOf set b) 52) (views-same opened) refl)
 
-  totals-same : totals.totalChecks file (over set past) (typeOf set b) at ≡ totalChecks set (typeOf set b) past b
+  totals-same : totals.totalChecks set file (over set past) (typeOf set b) at ≡ totalChecks set (typeOf set b) past b
   unfolding judgedAs
   totals-same =
       under (eqb (typeOf set b) 70)
@@ -148,8 +148,8 @@ record Passed (set : CharacterSet) (file : List ℕ) (s : Standing) (at : ℕ) (
   carried : isCarried (typeOf set b) ≡ true
   follows : mayFollow (s .inside) (s .last) (s .present) (typeOf set b) ≡ true
   alone : judgedAs set (typeOf set b) b ≡ Sound
-  linked : firstFailing (links.linkChecks file s (typeOf set b) at) ≡ 0
-  totalled : firstFailing (totals.totalChecks file s (typeOf set b) at) ≡ 0
+  linked : firstFailing (links.linkChecks set file s (typeOf set b) at) ≡ 0
+  totalled : firstFailing (totals.totalChecks set file s (typeOf set b) at) ≡ 0
 
 -- one check passed, and the turn that goes on behind it
 record Through (Check : Type 0) (next : Turn) (t : ℕ) : Type 0 where
