@@ -43,9 +43,11 @@ endsOf (ofCheck a b c) = 25 ∷ 61 ∷ 70 ∷ []
 endsOf (ofReturn a b c d) = 31 ∷ 61 ∷ 70 ∷ []
 endsOf ofCredit = 25 ∷ 31 ∷ 61 ∷ 70 ∷ []
 
-module _ (set : CharacterSet) (k : Layout) (adds : Adds set k) (c : isCarried (k .typeNumber) ≡ true) (o : isOneOf (k .typeNumber) checked ≡ false) where
+module _ (set : CharacterSet) (k : Layout) (adds : Adds set k) (c : isCarried (k .typeNumber) ≡ true)
+    (o : isOneOf (k .typeNumber) checked ≡ false) where
   one-good : (past : List Body) (b : Body) (owed rest : List Body) → Right set k b → Follows set past (k .typeNumber)
-      → numberedAs set (k .typeNumber) past b ≡ true → Owes set past (b ∷ owed) → (Owes set (b ∷ past) owed → GoodAll set (b ∷ past) rest) → GoodAll set past (b ∷ rest)
+      → numberedAs set (k .typeNumber) past b ≡ true → Owes set past (b ∷ owed) → (Owes set (b ∷ past) owed → GoodAll set (b ∷ past) rest)
+      → GoodAll set past (b ∷ rest)
   unfolding addendaKept
   one-good past b owed rest right allowed number owes on =
       let t = k .typeNumber in
@@ -63,7 +65,8 @@ module _ (set : CharacterSet) (k : Layout) (adds : Adds set k) (c : isCarried (k
             });
       }
 
-  optional-good : (ts : List ℕ) → every (follows true (k .typeNumber)) ts ≡ true → ((p : List Body) (b : Body) → numberedAs set (k .typeNumber) p b ≡ true)
+  optional-good : (ts : List ℕ) → every (follows true (k .typeNumber)) ts ≡ true
+      → ((p : List Body) (b : Body) → numberedAs set (k .typeNumber) p b ≡ true)
       → (past : List Body) (x : Option Body) (owed rest : List Body) → IfAny (Right set k) x → Allow set (k .typeNumber ∷ ts) past
       → Owes set past (optionalThen x owed)
       → (Allow set ts (afterOptional past x) → Owes set (afterOptional past x) owed → GoodAll set (afterOptional past x) rest)
@@ -89,7 +92,8 @@ module _ (set : CharacterSet) (k : Layout) (adds : Adds set k) (c : isCarried (k
         (λ w. run-good (b ∷ past) bs owed rest (n + 1) (sound .1) (omega (arith, more, e)) (allow-at set (t ∷ ts) (w .inside) (right .type) again) w on)
 
 -- the addenda of an item of a bundle, behind its first record
-pub addenda-good : (set : CharacterSet) (past : List Body) (a : Addenda) (rest : List Body) → SoundAddenda set a → lastIn set past ≡ layoutIn a .typeNumber → bofdIn set past ≡ 0
+pub addenda-good : (set : CharacterSet) (past : List Body) (a : Addenda) (rest : List Body) → SoundAddenda set a
+    → lastIn set past ≡ layoutIn a .typeNumber → bofdIn set past ≡ 0
     → endorserIn set past ≡ 0 → Owes set past (addendaThen a [])
     → (Allow set (50 ∷ endsOf a) (afterAddenda past a) → Owes set (afterAddenda past a) [] → GoodAll set (afterAddenda past a) rest)
     → GoodAll set past (addendaThen a rest)

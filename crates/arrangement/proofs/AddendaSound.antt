@@ -69,7 +69,8 @@ module _ (set : CharacterSet) (k : Layout) (adds : Adds set k) where
         }
 
 -- the addenda of an item, behind its first record
-pub addenda-sound : (set : CharacterSet) (past : List Body) (a : Addenda) (rest : List Body) → TypedAddenda set a → bofdIn set past ≡ 0 → endorserIn set past ≡ 0 → Short set past
+pub addenda-sound : (set : CharacterSet) (past : List Body) (a : Addenda) (rest : List Body) → TypedAddenda set a → bofdIn set past ≡ 0
+    → endorserIn set past ≡ 0 → Short set past
     → GoodAll set past (addendaThen a rest) → AddendaFound set (SoundAddenda set a) (afterAddenda past a) rest
 addenda-sound set past (ofCheck a b c) rest typed bofd endorser short good =
     let x =
@@ -88,7 +89,8 @@ addenda-sound set past (ofReturn a b c d) rest typed bofd endorser short good =
     let x =
     run-sound set returnAddendumA (adds-32 set) nextBofd (λ d y. refl) (λ p d. refl)
     past a (b ∷ optionalThen c (d ++ rest)) 1 (typed .addenda-a) (omega (arith, bofd)) short good in
-    let w = optional-sound set returnAddendumB (adds-33 set) (onto a past) (some b) (optionalThen c (d ++ rest)) (typed .addendum-b) (x .short) (x .behind) in
+    let w =
+    optional-sound set returnAddendumB (adds-33 set) (onto a past) (some b) (optionalThen c (d ++ rest)) (typed .addendum-b) (x .short) (x .behind) in
     let y = optional-sound set returnAddendumC (adds-34 set) (b ∷ onto a past) c (d ++ rest) (typed .addendum-c) (w .short) (w .behind) in
     let z =
     run-sound set returnAddendumD (adds-35 set) nextEndorser (λ d y. refl) (λ p d. refl)

@@ -43,7 +43,8 @@ module _ (set : CharacterSet) (letter : Body) where
   bundle-sound b past rest typed here good =
       let header = as-type set 20 past (b .header) (typed .header) (good .first) in
       let around = bundle-begun set letter (b .header) past (typed .header) here in
-      let its = items-sound set letter (b .header) (b .items) (b .header ∷ past) (b .control) rest (typed .items) (typed .control) around (good .rest) in
+      let its =
+      items-sound set letter (b .header) (b .items) (b .header ∷ past) (b .control) rest (typed .items) (typed .control) around (good .rest) in
       let before = afterItems (b .header ∷ past) (b .items) in
       let control = as-type set 70 before (b .control) (typed .control) (its .behind .first) in
       let totals = control .totalled .bundle refl in
@@ -79,7 +80,8 @@ module _ (set : CharacterSet) (letter : Body) where
   content-sound (bundled b) past rest typed here good = bundle-sound b past rest typed here good
   content-sound (direct c) past rest typed here good = credit-sound c past rest typed here good
 
-  pub contents-sound : (cs : List Content) (past rest : List Body) → All (TypedContent set) cs → InLetter set letter past → GoodAll set past (contentsThen cs rest)
+  pub contents-sound : (cs : List Content) (past rest : List Body) → All (TypedContent set) cs → InLetter set letter past
+      → GoodAll set past (contentsThen cs rest)
       → Found set (All (SoundContent set letter) cs) (afterContents past cs) rest
   contents-sound [] past rest typed here good = record { sound = tt; behind = good }
   contents-sound (c ∷ cs) past rest typed here good =

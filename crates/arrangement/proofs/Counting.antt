@@ -15,7 +15,7 @@ use Rattle.arrangement.specs.TypesInPlace.{OfType, TypedView, TypedBundl
 use Rattle.arrangement.proofs.Quiet.{Quiet, QuietContents, QuietItems, item-of, quiet-contents, quiet-item, quiet-items, quiet-optional, quiet-step, step}
 use Rattle.arrangement.proofs.After.{afterBundle, afterContent, afterContents, afterItems, afterLetter, afterView, afterViews, asItem, count-each}
 
--- how `sumSince begins measure` goes on: `sumSince begins measure past` is `value 0 (adding begins measure) past`
+-- how `sumSince set begins measure` goes on: `sumSince set begins measure past` is `value set 0 (adding begins measure) past`
 abbrev pub adding : (ℕ → Bool) → (ℕ → Body → ℕ) → ℕ → Body → ℕ → ℕ
 adding begins measure t b x = cond (begins t) 0 (measure t b + x)
 

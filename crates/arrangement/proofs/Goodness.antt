@@ -38,7 +38,8 @@ record Filing (set : CharacterSet) (past : List Body) : Type 0 where
   next : Follows set past 10
 
 letter-good : (set : CharacterSet) (l : CashLetter) (past rest : List Body) → SoundLetter set l → Filing set past
-    → (Filing set (afterLetter past l) → Follows set (afterLetter past l) 99 → GoodAll set (afterLetter past l) rest) → GoodAll set past (letterThen l rest)
+    → (Filing set (afterLetter past l) → Follows set (afterLetter past l) 99 → GoodAll set (afterLetter past l) rest)
+    → GoodAll set past (letterThen l rest)
 unfolding follows isCarried
 letter-good set l past rest sound h on =
     let typed = letter-typed set l sound in
@@ -56,7 +57,9 @@ letter-good set l past rest sound h on =
       credit-cents = sound .credit-cents ∙ sym (f .credit);
     } in
     record {
-      first = made-plain set cashLetterHeader (known-10 set) refl refl past (l .header) (sound .header) (h .next) (settled-kept set 10 past refl (h .settled)) refl;
+      first =
+          made-plain set cashLetterHeader (known-10 set) refl refl past (l .header) (sound .header)
+          (h .next) (settled-kept set 10 past refl (h .settled)) refl;
       rest =
           contents-good set (l .header) (l .contents) (l .header ∷ past) (c ∷ rest) (sound .contents)
           (record {
@@ -70,7 +73,8 @@ letter-good set l past rest sound h on =
           let behind-90 : Allow set (10 ∷ 99 ∷ []) (c ∷ before) = allow-at set (10 ∷ 99 ∷ []) outside (typed .control) refl in
           let letter-is = indicator-is set before (w .here .letter-is) in
           record {
-            first = made-90 set before c (sound .control) (w .next .may 90 refl) (w .settled) (filled-letter letter-is (f .bundles) (sound .filled)) totals;
+            first =
+                made-90 set before c (sound .control) (w .next .may 90 refl) (w .settled) (filled-letter letter-is (f .bundles) (sound .filled)) totals;
             rest =
                 on
                 (record {
@@ -83,8 +87,10 @@ letter-good set l past rest sound h on =
     }
 
 -- the 99 may come behind a cash letter: where there is none, that it may come is asked for
-letters-good : (set : CharacterSet) (ls : List CashLetter) (past rest : List Body) → All (SoundLetter set) ls → Filing set past → (length ls ≡ 0 → Follows set past 99)
-    → (Filing set (afterLetters past ls) → Follows set (afterLetters past ls) 99 → GoodAll set (afterLetters past ls) rest) → GoodAll set past (lettersThen ls rest)
+letters-good : (set : CharacterSet) (ls : List CashLetter) (past rest : List Body) → All (SoundLetter set) ls → Filing set past
+    → (length ls ≡ 0 → Follows set past 99)
+    → (Filing set (afterLetters past ls) → Follows set (afterLetters past ls) 99 → GoodAll set (afterLetters past ls) rest)
+    → GoodAll set past (lettersThen ls rest)
 letters-good set [] past rest sound h ends on = on h (ends refl)
 letters-good set (l ∷ ls) past rest sound h ends on =
     letter-good set l past (lettersThen ls rest) (sound .0) h (λ h₁ ends₁. letters-good set ls (afterLetter past l) rest (sound .1) h₁ (λ e. ends₁) on)

@@ -73,7 +73,8 @@ pub record Inner (t : ℕ) : Type 0 where
   pub details : Quiet nextDetail t
 
 module _ (set : CharacterSet) (inside : Bool) (letter : Body) (o : Owner) where
-  pub in-step : (past : List Body) (b : Body) (t : ℕ) → typeOf set b ≡ t → Inner t → InItem set inside letter o past → InItem set inside letter o (b ∷ past)
+  pub in-step : (past : List Body) (b : Body) (t : ℕ) → typeOf set b ≡ t → Inner t → InItem set inside letter o past
+      → InItem set inside letter o (b ∷ past)
   in-step past b t k q h =
       let insides = quiet-step set false nextInside past b t k (q .insides) in
       let letters = quiet-step set [] nextLetter past b t k (q .letters) in
@@ -95,7 +96,8 @@ module _ (set : CharacterSet) (inside : Bool) (letter : Body) (o : Owner) where
   in-optional past none t k q h = h
   in-optional past (some b) t k q h = in-step past b t k q h
 
-  pub in-run : (past bs : List Body) (t : ℕ) → All (OfType set t) bs → Inner t → InItem set inside letter o past → InItem set inside letter o (onto bs past)
+  pub in-run : (past bs : List Body) (t : ℕ) → All (OfType set t) bs → Inner t → InItem set inside letter o past
+      → InItem set inside letter o (onto bs past)
   in-run past [] t k q h = h
   in-run past (b ∷ bs) t k q h = in-run (b ∷ past) bs t (k .1) q (in-step past b t (k .0) q h)
 
@@ -104,7 +106,8 @@ module _ (set : CharacterSet) (inside : Bool) (letter : Body) (o : Owner) where
       in-optional (v .image ∷ v .detail ∷ past) (v .analysis) 54 (k .analysis) (search)
       (in-step (v .detail ∷ past) (v .image) 52 (k .image) (search) (in-step past (v .detail) 50 (k .detail) (search) h))
 
-  pub in-addenda : (past : List Body) (a : Addenda) → TypedAddenda set a → InItem set inside letter o past → InItem set inside letter o (afterAddenda past a)
+  pub in-addenda : (past : List Body) (a : Addenda) → TypedAddenda set a → InItem set inside letter o past
+      → InItem set inside letter o (afterAddenda past a)
   in-addenda past (ofCheck a b c) k h =
       in-run (afterOptional (onto a past) b) c 28 (k .addenda-c) (search)
       (in-optional (onto a past) b 27 (k .addendum-b) (search) (in-run past a 26 (k .addenda-a) (search) h))
@@ -128,5 +131,6 @@ indicates set (b ∷ past) = rw (indicates set past) (either (is 10 (typeOf set 
     either true = refl
     either false = refl
 
-pub indicator-is : (set : CharacterSet) {letter : Body} (past : List Body) → newest set (is 10) past ≡ letter → indicatorIn set past ≡ indicator set letter
+pub indicator-is : (set : CharacterSet) {letter : Body} (past : List Body) → newest set (is 10) past ≡ letter
+    → indicatorIn set past ≡ indicator set letter
 indicator-is set past e = indicates set past ∙ ap (indicatorOf set) e

@@ -20,7 +20,8 @@ pub record InLetter (set : CharacterSet) (letter : Body) (past : List Body) : Ty
   pub letter-is : newest set (is 10) past ≡ letter
 
 pub letter-begun : (set : CharacterSet) (b : Body) (past : List Body) → typeOf set b ≡ 10 → insideIn set past ≡ false → InLetter set b (b ∷ past)
-letter-begun set b past k outside = record { outside = step set false nextInside past b 10 k ∙ outside; letter-is = step set [] nextLetter past b 10 k }
+letter-begun set b past k outside =
+    record { outside = step set false nextInside past b 10 k ∙ outside; letter-is = step set [] nextLetter past b 10 k }
 
 module _ (set : CharacterSet) (letter : Body) where
   -- at a 20
@@ -47,6 +48,7 @@ module _ (set : CharacterSet) (letter : Body) where
       let a = around-item set false letter (newest set (is 20) past) (asItem c) past (item-of set c k) (around-credit past h) in
       record { outside = a .inside-is; letter-is = a .letter-is }
 
-  pub behind-contents : (cs : List Content) (past : List Body) → All (TypedContent set) cs → InLetter set letter past → InLetter set letter (afterContents past cs)
+  pub behind-contents : (cs : List Content) (past : List Body) → All (TypedContent set) cs → InLetter set letter past
+      → InLetter set letter (afterContents past cs)
   behind-contents [] past k h = h
   behind-contents (c ∷ cs) past k h = behind-contents cs (afterContent past c) (k .1) (behind-content c past (k .0) h)

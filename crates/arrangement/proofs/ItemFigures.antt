@@ -38,7 +38,8 @@ nextShown t b x = adding isItem (count (is 50)) t b x
 abbrev pub nextPresent : ℕ → Body → ℕ → ℕ
 nextPresent t b x = cond (eqb t 20) 0 (cond (isCheckOrReturn t) t x)
 
-fresh-of : (set : CharacterSet) (t : ℕ) (a : Addenda) (d : Body) (past : List Body) → typeOf set d ≡ t → isItem t ≡ true → eqb t 10 || (eqb t 20 || eqb t 70) ≡ false
+fresh-of : (set : CharacterSet) (t : ℕ) (a : Addenda) (d : Body) (past : List Body) → typeOf set d ≡ t → isItem t ≡ true
+    → eqb t 10 || (eqb t 20 || eqb t 70) ≡ false
     → statedAs set t d ≡ sound.statedIn set a d → layoutIn a .typeNumber ≡ t → Fresh set a d past
 fresh-of set t a d past k i n s q =
     record {
@@ -62,7 +63,8 @@ presentWith (ofCheck a b c) present = 25
 presentWith (ofReturn a b c d) present = 31
 presentWith ofCredit present = present
 
-present-step : (set : CharacterSet) (a : Addenda) (d : Body) (past : List Body) → OfType set (layoutIn a .typeNumber) d → presentIn set (d ∷ past) ≡ presentWith a (presentIn set past)
+present-step : (set : CharacterSet) (a : Addenda) (d : Body) (past : List Body) → OfType set (layoutIn a .typeNumber) d
+    → presentIn set (d ∷ past) ≡ presentWith a (presentIn set past)
 present-step set (ofCheck a b c) d past k = step set 0 nextPresent past d 25 k
 present-step set (ofReturn a b c e) d past k = step set 0 nextPresent past d 31 k
 present-step set ofCredit d past k = step set 0 nextPresent past d 61 k
@@ -115,7 +117,8 @@ header-stays = search
 pub letter-stays : QuietContents nextLetter
 letter-stays = search
 
-module _ (set : CharacterSet) (inside : Bool) (letter header : Body) (i : Item) (past : List Body) (typed : TypedItem set i) (around : Around set inside letter header past) where
+module _ (set : CharacterSet) (inside : Bool) (letter header : Body) (i : Item) (past : List Body) (typed : TypedItem set i)
+    (around : Around set inside letter header past) where
   pub around-item : Around set inside letter header (afterItem past i)
   around-item =
       record {

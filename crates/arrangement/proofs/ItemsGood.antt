@@ -58,7 +58,8 @@ item-ends ofCredit ofCredit present h = refl
 module _ (set : CharacterSet) (letter header : Body) where
   item-good : (i : Item) (past rest : List Body) → SoundItem set letter header i → Between set letter header past
       → oneItemType (presentIn set past) (layoutOf i .typeNumber) ≡ true
-      → (Between set letter header (afterItem past i) → Follows set (afterItem past i) 70 → GoodAll set (afterItem past i) rest) → GoodAll set past (itemThen i rest)
+      → (Between set letter header (afterItem past i) → Follows set (afterItem past i) 70 → GoodAll set (afterItem past i) rest)
+      → GoodAll set past (itemThen i rest)
   item-good i past rest sound b same on =
       let d = i .detail ∷ past in
       let before = afterAddenda d (i .addenda) in

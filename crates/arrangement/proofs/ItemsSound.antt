@@ -49,7 +49,8 @@ begins set (ofCheck a b c) = record { known = known-25 set; no-addendum = refl; 
 begins set (ofReturn a b c d) = record { known = known-31 set; no-addendum = refl; no-bundle = refl; no-view = refl; closes = refl }
 begins set ofCredit = record { known = known-61 set; no-addendum = refl; no-bundle = refl; no-view = refl; closes = refl }
 
-first-sound : (set : CharacterSet) (a : Addenda) (d : Body) (past : List Body) → OfType set (layoutIn a .typeNumber) d → Good set past d → First set a d past
+first-sound : (set : CharacterSet) (a : Addenda) (d : Body) (past : List Body) → OfType set (layoutIn a .typeNumber) d → Good set past d
+    → First set a d past
 first-sound set a d past typed good =
     let t = layoutIn a .typeNumber in
     let g = as-type set t past d typed good in
@@ -79,7 +80,8 @@ item-sound set inside letter o i past rest typed within good =
     addenda-sound set d (i .addenda) (viewsThen (i .views) rest) (typed .addenda) (new .bofd) (new .endorser) (omega (arith, new .addenda)) (good .rest) in
     let before = afterAddenda d (i .addenda) in
     let v =
-    views-sound set inside letter o before (i .views) rest (typed .views) (in-addenda set inside letter o d (i .addenda) (typed .addenda) within) (a .behind) in
+    views-sound set inside letter o before (i .views) rest (typed .views)
+    (in-addenda set inside letter o d (i .addenda) (typed .addenda) within) (a .behind) in
     let still-addenda = quiet-views set 0 nextAddenda (omega arith) before (i .views) (typed .views) in
     let still-stated = quiet-views set 0 (nextStated set) (search) before (i .views) (typed .views) in
     record {
@@ -102,7 +104,8 @@ pub record ItemsFound (set : CharacterSet) (letter header : Body) (its : List It
 module _ (set : CharacterSet) (letter header : Body) where
   -- and with that
   item-whole : (i : Item) (past rest : List Body) → TypedItem set i → Around set true letter header (afterItem past i)
-      → ItemFound set letter (inBundle header i) i past rest → Settled set (afterItem past i) → Viewed set (afterItem past i) → SoundItem set letter header i
+      → ItemFound set letter (inBundle header i) i past rest → Settled set (afterItem past i) → Viewed set (afterItem past i)
+      → SoundItem set letter header i
   item-whole i past rest typed behind found settled viewed =
       let f = item-figures set i past typed in
       let letter-is = indicator-is set (afterItem past i) (behind .letter-is) in

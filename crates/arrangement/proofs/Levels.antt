@@ -85,11 +85,18 @@ file-figures set f k =
     record {
       letters = letters-counted set f k;
       all = omega (arith, ap length (onto-letters (f .header ∷ []) (f .letters) (f .control ∷ [])), length-onto [] (records f));
-      bundles = file-sum set (count (is 20)) (omega arith) (by-contents set (omega arith) (by-count set (omega arith) (omega arith) (omega arith))) f k;
-      items = file-sum set (count isItem) (omega arith) (by-contents set (omega arith) (by-items set (omega arith) (by-details set (omega arith)))) f k;
-      debits = file-sum set (debitOne set) (omega arith) (by-contents set (omega arith) (by-items set (omega arith) (by-details set (omega arith)))) f k;
-      debit = file-sum set (debitAs set) (omega arith) (by-contents set (omega arith) (by-items set (omega arith) (by-details set (omega arith)))) f k;
-      credits = file-sum set (creditOne set) (omega arith) (by-contents set (omega arith) (by-items set (omega arith) (by-details set (omega arith)))) f k;
-      credit = file-sum set (creditAs set) (omega arith) (by-contents set (omega arith) (by-items set (omega arith) (by-credits set (omega arith)))) f k;
-      views = file-sum set (count (is 50)) (omega arith) (by-contents set (omega arith) (by-items set (omega arith) (by-views set (omega arith)))) f k;
+      bundles =
+          file-sum set (count (is 20)) (omega arith) (by-contents set (omega arith) (by-count set (omega arith) (omega arith) (omega arith))) f k;
+      items =
+          file-sum set (count isItem) (omega arith) (by-contents set (omega arith) (by-items set (omega arith) (by-details set (omega arith)))) f k;
+      debits =
+          file-sum set (debitOne set) (omega arith) (by-contents set (omega arith) (by-items set (omega arith) (by-details set (omega arith)))) f k;
+      debit =
+          file-sum set (debitAs set) (omega arith) (by-contents set (omega arith) (by-items set (omega arith) (by-details set (omega arith)))) f k;
+      credits =
+          file-sum set (creditOne set) (omega arith) (by-contents set (omega arith) (by-items set (omega arith) (by-details set (omega arith)))) f k;
+      credit =
+          file-sum set (creditAs set) (omega arith) (by-contents set (omega arith) (by-items set (omega arith) (by-credits set (omega arith)))) f k;
+      views =
+          file-sum set (count (is 50)) (omega arith) (by-contents set (omega arith) (by-items set (omega arith) (by-views set (omega arith)))) f k;
     }

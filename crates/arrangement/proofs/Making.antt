@@ -47,14 +47,16 @@ allow-rest set {t} {ts} a = record { may = λ u e. a .may u (later (eqb u t) (is
     later false d e = e
 
 -- at types written out the last fact is `refl`
-pub allow-at : (set : CharacterSet) {opened : Bool} {past : List Body} {t : ℕ} (ts : List ℕ) → insideIn set past ≡ opened → lastIn set past ≡ t → every (follows opened t) ts ≡ true
+pub allow-at : (set : CharacterSet) {opened : Bool} {past : List Body} {t : ℕ} (ts : List ℕ) → insideIn set past ≡ opened
+    → lastIn set past ≡ t → every (follows opened t) ts ≡ true
     → Allow set ts past
 allow-at set {opened} {past} ts i e h = record { may = λ u o. among (follows (insideIn set past) (lastIn set past)) u ts (rw (i, e) h) o }
 
 -- of any layout: at a layout written out, the checks compute to those of its type
 module _ (set : CharacterSet) (k : Layout) (known : Known set k) (past : List Body) (b : Body) where
   made : Right set k b → isCarried (k .typeNumber) ≡ true → Follows set past (k .typeNumber)
-      → oneItemType (presentIn set past) (k .typeNumber) ≡ true → Linked set (k .typeNumber) past b → Totalled set (k .typeNumber) past b → Good set past b
+      → oneItemType (presentIn set past) (k .typeNumber) ≡ true → Linked set (k .typeNumber) past b → Totalled set (k .typeNumber) past b
+      → Good set past b
   unfolding mayFollow
   made r c f o l s =
       of-type set (k .typeNumber) past b (r .type)
@@ -93,13 +95,15 @@ module _ (set : CharacterSet) (k : Layout) (known : Known set k) (c : isCarried 
       })
       (not-totalled set past b t not-70 not-90 not-99)
 
-pub settled-kept : (set : CharacterSet) (t : ℕ) (past : List Body) → isAddendum t ≡ false → Settled set past → addendaKept t (statedIn set past) (addendaIn set past) ≡ true
+pub settled-kept : (set : CharacterSet) (t : ℕ) (past : List Body) → isAddendum t ≡ false → Settled set past
+    → addendaKept t (statedIn set past) (addendaIn set past) ≡ true
 unfolding addendaKept
 settled-kept set t past n s = rw (n, le-leb (statedIn set past) (addendaIn set past) s) refl
 
 -- the links of a record that is no addendum and no 52
 plainly : (set : CharacterSet) (t : ℕ) (past : List Body) (b : Body) → isAddendum t ≡ false → eqb t 52 ≡ false → Settled set past
-    → annexB t (indicatorIn set past) (openedIn set past) (holderIn set past) (shownIn set past) ≡ true → numberedAs set t past b ≡ true → Linked set t past b
+    → annexB t (indicatorIn set past) (openedIn set past) (holderIn set past) (shownIn set past) ≡ true → numberedAs set t past b ≡ true
+    → Linked set t past b
 plainly set t past b a v s x n = record { addenda = settled-kept set t past a s; annex-b = x; numbered = n; view = refuted (eqb t 52) v }
 
 module _ (set : CharacterSet) (past : List Body) (b : Body) where
@@ -137,10 +141,12 @@ module _ (set : CharacterSet) (past : List Body) (b : Body) where
 
   pub made-99 : Right set fileControl b → Follows set past 99 → Settled set past → FileTotals set past b → Good set past b
   unfolding isCarried annexB
-  made-99 r f s t = made set fileControl (known-99 set) past b r refl f refl (plainly set 99 past b refl refl s refl refl) (file-totalled set past b t)
+  made-99 r f s t =
+      made set fileControl (known-99 set) past b r refl f refl (plainly set 99 past b refl refl s refl refl) (file-totalled set past b t)
 
 -- an item's first record
-pub made-item : (set : CharacterSet) (a : Addenda) (d : Body) (past : List Body) → Right set (layoutIn a) d → Follows set past (layoutIn a .typeNumber) → Settled set past
+pub made-item : (set : CharacterSet) (a : Addenda) (d : Body) (past : List Body) → Right set (layoutIn a) d
+    → Follows set past (layoutIn a .typeNumber) → Settled set past
     → Viewed set past → oneItemType (presentIn set past) (layoutIn a .typeNumber) ≡ true → Good set past d
 unfolding isCarried annexB
 made-item set (ofCheck a b c) d past r f s v p =
@@ -157,6 +163,7 @@ made-item set ofCredit d past r f s v p =
     (not-totalled set past d 61 refl refl refl)
 
 -- the item before a record that is no item and no addendum stays settled behind it
-pub settled-on : (set : CharacterSet) (past : List Body) (b : Body) (t : ℕ) → typeOf set b ≡ t → isItem t ≡ false → isAddendum t ≡ false → Settled set past → Settled set (b ∷ past)
+pub settled-on : (set : CharacterSet) (past : List Body) (b : Body) (t : ℕ) → typeOf set b ≡ t → isItem t ≡ false → isAddendum t ≡ false
+    → Settled set past → Settled set (b ∷ past)
 settled-on set past b t e i a s =
     omega (arith, simp (i, a) at (step set 0 nextAddenda past b t e), simp i at (step set 0 (nextStated set) past b t e))

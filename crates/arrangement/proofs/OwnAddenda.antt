@@ -80,7 +80,8 @@ module _ (set : CharacterSet) (next : ℕ → Body → ℕ → ℕ) where
   count-optional past none t k c = omega arith
   count-optional past (some b) t k c = step set 0 next past b t k ∙ c b (value set 0 next past)
 
-pub addenda-count : (set : CharacterSet) (past : List Body) (a : Addenda) → TypedAddenda set a → addendaIn set (afterAddenda past a) ≡ length (addendaThen a []) + addendaIn set past
+pub addenda-count : (set : CharacterSet) (past : List Body) (a : Addenda) → TypedAddenda set a
+    → addendaIn set (afterAddenda past a) ≡ length (addendaThen a []) + addendaIn set past
 addenda-count set past (ofCheck a b c) k =
     omega (
       arith,

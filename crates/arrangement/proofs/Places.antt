@@ -43,7 +43,8 @@ pub record Stands (set : CharacterSet) (past : List Body) (inside : Bool) (l o i
   pub items : itemsSince set (is 20) past ≡ i
 
 -- where a record of a type stands, from where those before it stand
-pub stands-on : (set : CharacterSet) {inside inside′ : Bool} {l o i l′ o′ i′ : ℕ} {past : List Body} (b : Body) (t : ℕ) → typeOf set b ≡ t → Stands set past inside l o i
+pub stands-on : (set : CharacterSet) {inside inside′ : Bool} {l o i l′ o′ i′ : ℕ} {past : List Body} (b : Body) (t : ℕ) → typeOf set b ≡ t
+    → Stands set past inside l o i
     → toInside t b inside ≡ inside′ → toLetters t b l ≡ l′ → toOpened t b o ≡ o′ → toItems t b i ≡ i′
     → Stands set (b ∷ past) inside′ l′ o′ i′
 stands-on set {past = past} b t k s within letters opened items =
@@ -72,7 +73,8 @@ pub record Seat (set : CharacterSet) (t : ℕ) (inside : Bool) (l o i : ℕ) (pa
   pub item : cond inside i 0 ≡ p .item
   pub amount : amountAfter set t past (p .body) ≡ p .amount
 
-seated : (set : CharacterSet) {t : ℕ} {inside : Bool} {l o i : ℕ} {past : List Body} {p : Placed} → Stands set past inside l o i → Seat set t inside l o i past p → Seated set t past p
+seated : (set : CharacterSet) {t : ℕ} {inside : Bool} {l o i : ℕ} {past : List Body} {p : Placed} → Stands set past inside l o i
+    → Seat set t inside l o i past p → Seated set t past p
 seated set s h =
     record {
       letter = rw (s .letters) (h .letter);
@@ -85,7 +87,8 @@ same-row : (t at size l₁ l₂ o₁ o₂ i₁ i₂ n₁ n₂ : ℕ) (xs ys : Li
     → _≡_ {A = List ℕ} (t ∷ at ∷ size ∷ l₁ ∷ o₁ ∷ i₁ ∷ n₁ ∷ xs) (t ∷ at ∷ size ∷ l₂ ∷ o₂ ∷ i₂ ∷ n₂ ∷ ys)
 same-row t at size l₁ l₂ o₁ o₂ i₁ i₂ n₁ n₂ xs ys a b c d e = cc
 
-pub row-then : (set : CharacterSet) {inside : Bool} {l o i : ℕ} {past bs : List Body} {ps : List Placed} (p : Placed) (t : ℕ) → typeOf set (p .body) ≡ t
+pub row-then : (set : CharacterSet) {inside : Bool} {l o i : ℕ} {past bs : List Body} {ps : List Placed} (p : Placed) (t : ℕ)
+    → typeOf set (p .body) ≡ t
     → Stands set (p .body ∷ past) inside l o i → Seat set t inside l o i (p .body ∷ past) p
     → Agree set (p .body ∷ past) bs ps → Agree set past (p .body ∷ bs) (p ∷ ps)
 row-then set {past = past} p t k s h others =
@@ -113,7 +116,8 @@ record Inner (t : ℕ) : Type 0 where
 
 -- The addenda and views of an item, each with its item's ordinals, where what follows agrees.
 module _ (set : CharacterSet) (inside : Bool) (l o i : ℕ) (ps : List Placed) where
-  inner-stands : (t : ℕ) {past : List Body} (b : Body) → Inner t → typeOf set b ≡ t → Stands set past inside l o i → Stands set (b ∷ past) inside l o i
+  inner-stands : (t : ℕ) {past : List Body} (b : Body) → Inner t → typeOf set b ≡ t → Stands set past inside l o i
+      → Stands set (b ∷ past) inside l o i
   inner-stands t b h k s =
       stands-on set b t k s (rw (h .not-20, h .not-70)) (rw (h .not-10) (zero-add l)) (rw (h .not-10, h .not-20) (zero-add o))
       (rw (h .not-20, h .not-25, h .not-31, h .not-61) (zero-add i))

@@ -61,10 +61,12 @@ module _ (set : CharacterSet) {X : Type 0} (first : X) (next : ℕ → Body → 
   pub step : (past : List Body) (b : Body) (t : ℕ) → typeOf set b ≡ t → value set first next (b ∷ past) ≡ next t b (value set first next past)
   step past b t k = ap (λ (u : ℕ). next u b (value set first next past)) k
 
-  pub quiet-step : (past : List Body) (b : Body) (t : ℕ) → typeOf set b ≡ t → Quiet next t → value set first next (b ∷ past) ≡ value set first next past
+  pub quiet-step : (past : List Body) (b : Body) (t : ℕ) → typeOf set b ≡ t → Quiet next t
+      → value set first next (b ∷ past) ≡ value set first next past
   quiet-step past b t k q = step past b t k ∙ q b (value set first next past)
 
-  pub quiet-run : (past bs : List Body) (t : ℕ) → All (OfType set t) bs → Quiet next t → value set first next (onto bs past) ≡ value set first next past
+  pub quiet-run : (past bs : List Body) (t : ℕ) → All (OfType set t) bs → Quiet next t
+      → value set first next (onto bs past) ≡ value set first next past
   quiet-run past [] t k q = refl
   quiet-run past (b ∷ bs) t k q = quiet-run (b ∷ past) bs t (k .1) q ∙ quiet-step past b t (k .0) q
 
@@ -73,7 +75,8 @@ module _ (set : CharacterSet) {X : Type 0} (first : X) (next : ℕ → Body → 
   quiet-optional past none t k q = refl
   quiet-optional past (some b) t k q = quiet-step past b t k q
 
-  pub quiet-view : QuietViews next → (past : List Body) (v : View) → TypedView set v → value set first next (afterView past v) ≡ value set first next past
+  pub quiet-view : QuietViews next → (past : List Body) (v : View) → TypedView set v
+      → value set first next (afterView past v) ≡ value set first next past
   quiet-view q past v k =
       quiet-optional (v .image ∷ v .detail ∷ past) (v .analysis) 54 (k .analysis) (q .analysis)
       ∙ quiet-step (v .detail ∷ past) (v .image) 52 (k .image) (q .image) ∙ quiet-step past (v .detail) 50 (k .detail) (q .detail)
@@ -97,7 +100,8 @@ module _ (set : CharacterSet) {X : Type 0} (first : X) (next : ℕ → Body → 
   quiet-detail q (ofReturn a b c d) = q .return
   quiet-detail q ofCredit = q .credit
 
-  pub quiet-first : QuietDetails next → (past : List Body) (i : Item) → TypedItem set i → value set first next (i .detail ∷ past) ≡ value set first next past
+  pub quiet-first : QuietDetails next → (past : List Body) (i : Item) → TypedItem set i
+      → value set first next (i .detail ∷ past) ≡ value set first next past
   quiet-first q past i k = quiet-step past (i .detail) (layoutOf i .typeNumber) (k .detail) (quiet-detail q (i .addenda))
 
   -- of an item whose addenda and views are quiet, the figure takes the 25, 31 or 61
@@ -107,7 +111,8 @@ module _ (set : CharacterSet) {X : Type 0} (first : X) (next : ℕ → Body → 
       quiet-views qv (afterAddenda (i .detail ∷ past) (i .addenda)) (i .views) (k .views)
       ∙ quiet-addenda qa (i .detail ∷ past) (i .addenda) (k .addenda) ∙ step past (i .detail) (layoutOf i .typeNumber) (k .detail)
 
-  pub quiet-item : QuietItems next → (past : List Body) (i : Item) → TypedItem set i → value set first next (afterItem past i) ≡ value set first next past
+  pub quiet-item : QuietItems next → (past : List Body) (i : Item) → TypedItem set i
+      → value set first next (afterItem past i) ≡ value set first next past
   quiet-item q past i k = at-item (q .addenda) (q .views) past i k ∙ quiet-detail (q .details) (i .addenda) (i .detail) (value set first next past)
 
   -- of an item whose 25, 31 or 61 and addenda are quiet, the figure takes the views

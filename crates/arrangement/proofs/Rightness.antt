@@ -32,7 +32,8 @@ picked-zero : (t : Bool) (x n : ℕ) → leb 1 n ≡ true → cond t x n ≡ 0 �
 picked-zero true x n l e = (refl, e)
 picked-zero false x n l e = absurd (omega (arith, leb-true 1 n l, e))
 
-lines-hold : (set : CharacterSet) (ls : List Line) (b : Body) → linesNumbered ls ≡ true → firstWrong set ls b ≡ 0 → All (λ (l : Line). lineHolds set l b ≡ true) ls
+lines-hold : (set : CharacterSet) (ls : List Line) (b : Body) → linesNumbered ls ≡ true → firstWrong set ls b ≡ 0
+    → All (λ (l : Line). lineHolds set l b ≡ true) ls
 unfolding firstWrong
 lines-hold set [] b n e = tt
 lines-hold set (l ∷ ls) b n e =
@@ -45,12 +46,14 @@ unfolding firstWrong
 none-wrong set [] b h = refl
 none-wrong set (l ∷ ls) b h = rw (h .0) (none-wrong set ls b (h .1))
 
-parts-right : (set : CharacterSet) (ss : List Sized) (b : Body) (rest : List ℕ) → partsNumbered ss ≡ true → firstWrongPart set ss b rest ≡ 0 → PartsRight set ss b rest
+parts-right : (set : CharacterSet) (ss : List Sized) (b : Body) (rest : List ℕ) → partsNumbered ss ≡ true → firstWrongPart set ss b rest ≡ 0
+    → PartsRight set ss b rest
 unfolding firstWrongPart
 parts-right set [] b rest n e = tt
 parts-right set (s ∷ ss) b rest n e =
     let m = both (leb 1 (s .number)) (partsNumbered ss) n in
-    let p = picked-zero (ofType set (s .dataType) (take (statedSize set s b) rest)) (firstWrongPart set ss b (drop (statedSize set s b) rest)) (s .number) (m .0) e in
+    let p =
+    picked-zero (ofType set (s .dataType) (take (statedSize set s b) rest)) (firstWrongPart set ss b (drop (statedSize set s b) rest)) (s .number) (m .0) e in
     (p .0, parts-right set ss b (drop (statedSize set s b) rest) (m .1) (p .1))
 
 no-part-wrong : (set : CharacterSet) (ss : List Sized) (b : Body) (rest : List ℕ) → PartsRight set ss b rest → firstWrongPart set ss b rest ≡ 0
@@ -59,7 +62,8 @@ no-part-wrong set [] b rest h = refl
 no-part-wrong set (s ∷ ss) b rest h = rw (h .0) (no-part-wrong set ss b (drop (statedSize set s b) rest) (h .1))
 
 -- no fixed record is longer than its fixed part
-not-long : (set : CharacterSet) (ss : List Sized) (b : Body) (fixed : ℕ) → length b ≡ fixed + statedSizes set ss b → isVariable ss || leb (length b) fixed ≡ true
+not-long : (set : CharacterSet) (ss : List Sized) (b : Body) (fixed : ℕ) → length b ≡ fixed + statedSizes set ss b
+    → isVariable ss || leb (length b) fixed ≡ true
 unfolding statedSizes
 not-long set [] b fixed e = le-leb (length b) fixed (omega (arith, e))
 not-long set (s ∷ ss) b fixed e = refl

@@ -48,19 +48,22 @@ module _ (set : CharacterSet) (inside : Bool) (l o n : ℕ) where
       (alike-addenda set inside l o (n + 1) ps (i .addenda) (k .addenda) (alike-views set inside l o (n + 1) ps (i .views) (k .views) next) .agree s′)
 
 -- the items of a bundle from ordinal n + 1 on; what follows agrees wherever they lead
-items-agree : (set : CharacterSet) (l o n : ℕ) {past rest : List Body} {ps : List Placed} (items : List Item) → All (TypedItem set) items → Stands set past true l o n
+items-agree : (set : CharacterSet) (l o n : ℕ) {past rest : List Body} {ps : List Placed} (items : List Item) → All (TypedItem set) items
+    → Stands set past true l o n
     → ((m : ℕ) → Stands set (afterItems past items) true l o m → Agree set (afterItems past items) rest ps)
     → Agree set past (itemsThen items rest) (itemPlaces set l o (n + 1) items ps)
 items-agree set l o n [] k s others = others n s
 items-agree set l o n (i ∷ items) k s others = item-agrees set true l o n i (k .0) s (λ s′. items-agree set l o (n + 1) items (k .1) s′ others)
 
 -- the debit cents in the row of a control: those before it, as they can be stated
-control-amount : (set : CharacterSet) (begins : ℕ → Bool) (past : List Body) (c : Body) (t : ℕ) → OfType set t c → Quiet (adding begins (debitAs set)) t
+control-amount : (set : CharacterSet) (begins : ℕ → Bool) (past : List Body) (c : Body) (t : ℕ) → OfType set t c
+    → Quiet (adding begins (debitAs set)) t
     → {n : ℕ} → debitSince set begins past ≡ n → capped n ≡ n → capped (debitSince set begins (c ∷ past)) ≡ n
 control-amount set begins past c t k q e whole = ap capped (quiet-step set 0 (adding begins (debitAs set)) past c t k q ∙ e) ∙ whole
 
 -- what a cash letter holds, from its bundle n + 1 on, behind which no bundle is open
-contents-agree : (set : CharacterSet) (letter : Body) (l n i : ℕ) {past rest : List Body} {ps : List Placed} (cs : List Content) → All (TypedContent set) cs
+contents-agree : (set : CharacterSet) (letter : Body) (l n i : ℕ) {past rest : List Body} {ps : List Placed} (cs : List Content)
+    → All (TypedContent set) cs
     → All (SoundContent set letter) cs → Stands set past false l n i
     → ((m j : ℕ) → Stands set (afterContents past cs) false l m j → Agree set (afterContents past cs) rest ps)
     → Agree set past (contentsThen cs rest) (contentPlaces set l (n + 1) cs ps)
@@ -84,7 +87,8 @@ contents-agree set letter l n i {past} (bundled b ∷ cs) k h s others =
 contents-agree set letter l n i (direct c ∷ cs) k h s others =
     item-agrees set false l n i (asItem c) (item-of set c (k .0)) s (λ s′. contents-agree set letter l n (i + 1) cs (k .1) (h .1) s′ others)
 
-letters-agree : (set : CharacterSet) (n o i : ℕ) {past rest : List Body} {ps : List Placed} (ls : List CashLetter) → All (TypedLetter set) ls → All (SoundLetter set) ls
+letters-agree : (set : CharacterSet) (n o i : ℕ) {past rest : List Body} {ps : List Placed} (ls : List CashLetter) → All (TypedLetter set) ls
+    → All (SoundLetter set) ls
     → Stands set past false n o i → ((m p j : ℕ) → Stands set (afterLetters past ls) false m p j → Agree set (afterLetters past ls) rest ps)
     → Agree set past (lettersThen ls rest) (letterPlaces set (n + 1) ls ps)
 letters-agree set n o i [] k h s others = others n o i s

@@ -36,7 +36,8 @@ record LetterFound (set : CharacterSet) (l : CashLetter) (past rest : List Body)
   outside : insideIn set (afterLetter past l) ≡ false
   behind : GoodAll set (afterLetter past l) rest
 
-letter-sound : (set : CharacterSet) (l : CashLetter) (past rest : List Body) → TypedLetter set l → insideIn set past ≡ false → GoodAll set past (letterThen l rest)
+letter-sound : (set : CharacterSet) (l : CashLetter) (past rest : List Body) → TypedLetter set l → insideIn set past ≡ false
+    → GoodAll set past (letterThen l rest)
     → LetterFound set l past rest
 letter-sound set l past rest typed outside good =
     let header = as-type set 10 past (l .header) (typed .header) (good .first) in
@@ -52,7 +53,8 @@ letter-sound set l past rest typed outside good =
           record {
             header = right-in set cashLetterHeader (l .header) (known-10 set) (typed .header) (header .alone);
             filled =
-                filled-letter (indicatorIn set before) (indicator set (l .header)) (openedIn set before) (bundleCount l) (indicator-is set before (here .letter-is))
+                filled-letter (indicatorIn set before) (indicator set (l .header)) (openedIn set before)
+                (bundleCount l) (indicator-is set before (here .letter-is))
                 (f .bundles) (letter-in set before (l .control) control);
             contents = contents .sound;
             control = right-in set cashLetterControl (l .control) (known-90 set) (typed .control) (control .alone);
@@ -67,7 +69,8 @@ letter-sound set l past rest typed outside good =
       behind = contents .behind .rest;
     }
 
-letters-sound : (set : CharacterSet) (ls : List CashLetter) (past rest : List Body) → All (TypedLetter set) ls → insideIn set past ≡ false → GoodAll set past (lettersThen ls rest)
+letters-sound : (set : CharacterSet) (ls : List CashLetter) (past rest : List Body) → All (TypedLetter set) ls → insideIn set past ≡ false
+    → GoodAll set past (lettersThen ls rest)
     → Found set (All (SoundLetter set) ls) (afterLetters past ls) rest
 letters-sound set [] past rest typed outside good = record { sound = tt; behind = good }
 letters-sound set (l ∷ ls) past rest typed outside good =

@@ -124,8 +124,8 @@ theorem file table b =
             (x, a, has-room file table x t a e),
         λ y. let (x, a, room) = y in (totals (setOf file) x, accepted-answer file table x a room),
       );
-      alone = λ x y a c. one-arrangement (setOf file) x y (sound-typed (setOf file) x (a .sound)) (sound-typed (setOf file) y (c .sound)) (a .bytes ∙ sym (c .bytes))
-          (omega (arith, ap length (a .bytes), a .size));
+      alone = λ x y a c. one-arrangement (setOf file) x y (sound-typed (setOf file) x (a .sound)) (sound-typed (setOf file) y (c .sound))
+          (a .bytes ∙ sym (c .bytes)) (omega (arith, ap length (a .bytes), a .size));
       its-totals = λ x a acc. let (t, e) = acc in accepted-answer file table x a (has-room file table x t a e);
       its-rows = λ x a acc.
           let (t, e) = acc in
@@ -142,7 +142,8 @@ theorem file table b =
     }
 
 -- the same of an answer and a table that are those of the reading
-pub arranged : (file table : List ℕ) (answer : Answer) (after : List ℕ) → Bytes file → answer ≡ answerOf file (length table) → after ≡ tableOf file table
+pub arranged : (file table : List ℕ) (answer : Answer) (after : List ℕ) → Bytes file → answer ≡ answerOf file (length table)
+    → after ≡ tableOf file table
     → Arranged file table answer after
 arranged file table answer after b e t =
     subst (λ (a : Answer). Arranged file table a after) (sym e)

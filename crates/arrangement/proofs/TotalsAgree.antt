@@ -43,7 +43,8 @@ field-size (l ∷ ls) n b = here (eqb (l .number) n) (field-size ls n b)
     here false others = others
 
 -- a figure that a field of at most 16 characters states is not capped
-pub stated-whole : (set : CharacterSet) (k : Layout) (n : ℕ) (b : Body) {figure : ℕ} → sizeAmong (k .lines) n ≤ 16 → stated set k n b ≡ figure → capped figure ≡ figure
+pub stated-whole : (set : CharacterSet) (k : Layout) (n : ℕ) (b : Body) {figure : ℕ} → sizeAmong (k .lines) n ≤ 16
+    → stated set k n b ≡ figure → capped figure ≡ figure
 stated-whole set k n b {figure} short e =
     let below = number-below set (fieldOf k n b) 16 (omega (arith, field-size (k .lines) n b)) in
     rw (le-leb figure unstatable (omega arith))

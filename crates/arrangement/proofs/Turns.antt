@@ -138,7 +138,8 @@ module _ (set : CharacterSet) (past : List Body) (b : Body) where
   letter-in g = filled-in (indicatorIn set past) (openedIn set past) (g .linked .annex-b)
 
 -- a type that does not follow the one before it, in a bundle or outside
-pub not-after : (set : CharacterSet) (t n : ℕ) (past : List Body) (b c : Body) → typeOf set b ≡ n → typeOf set c ≡ t → ((opened : Bool) → follows opened n t ≡ false)
+pub not-after : (set : CharacterSet) (t n : ℕ) (past : List Body) (b c : Body) → typeOf set b ≡ n → typeOf set c ≡ t
+    → ((opened : Bool) → follows opened n t ≡ false)
     → Good set (b ∷ past) c → ⊥
 not-after set t n past b c e k f g =
     let opened = insideIn set (b ∷ past) in

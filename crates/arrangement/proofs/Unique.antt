@@ -93,7 +93,8 @@ seq set {A} {B} {w = w} {to = to} f g ordered = record {
 }
 
 -- a record, and a part after it
-led : (set : CharacterSet) {B X : Type 0} {Q : B → Type 0} {w : B → List Body → List Body} {from to : ℕ} → (make : Body → B → X) → Unique set Q w from to →
+led : (set : CharacterSet) {B X : Type 0} {Q : B → Type 0} {w : B → List Body → List Body} {from to : ℕ} → (make : Body → B → X)
+    → Unique set Q w from to →
     (d d' : Body) (x y : B) (r s : List Body) → Q x → Q y → to ≤ next set r → to ≤ next set s → d ∷ w x r ≡ d' ∷ w y s →
     (make d x ≡ make d' y) × (r ≡ s)
 led set make part d d' x y r s h g a b e = let p = part .known x y r s h g a b (cc) in (cc, p .1)
@@ -110,10 +111,12 @@ at-turn : (set : CharacterSet) (t : ℕ) (b : Body) → OfType set t b → (turn
 at-turn set t b h = rw h (omega arith)
 
 bodies : (set : CharacterSet) (t : ℕ) → Unique set (All (OfType set t)) _++_ (turn t) (turn t + 1)
-bodies set t = many set (OfType set t) _∷_ _++_ (turn t) (turn t) (λ r. refl) (λ x xs r. refl) (λ x r h. at-turn set t x h) (single set t (turn t) .known)
+bodies set t =
+    many set (OfType set t) _∷_ _++_ (turn t) (turn t) (λ r. refl) (λ x xs r. refl) (λ x r h. at-turn set t x h) (single set t (turn t) .known)
 
 views : (set : CharacterSet) → Unique set (All (TypedView set)) viewsThen 55 56
-views set = many set (TypedView set) viewThen viewsThen 55 55 (λ r. refl) (λ x xs r. refl) (λ x r h. at-turn set 50 (x .detail) (h .detail)) (λ x y r s h g.
+views set =
+    many set (TypedView set) viewThen viewsThen 55 55 (λ r. refl) (λ x xs r. refl) (λ x r h. at-turn set 50 (x .detail) (h .detail)) (λ x y r s h g.
     led set {X = View} (λ d z. let (image, analysis) = z in record { detail = d; image = image; analysis = analysis })
     (seq set (single set 52 53) (optional set 54) (omega arith))
     (x .detail) (y .detail) (x .image, x .analysis) (y .image, y .analysis) r s (h .image, h .analysis) (g .image, g .analysis))
@@ -122,11 +125,13 @@ abbrev item : Body → Addenda → List View → Item
 item d a vs = record { detail = d; addenda = a; views = vs }
 
 -- the types of an item's records behind the first, in pairs, as `seq` has its parts
-of-check : (set : CharacterSet) {d : Body} {a : List Body} {b : Option Body} {c : List Body} {vs : List View} → TypedItem set (item d (ofCheck a b c) vs)
+of-check : (set : CharacterSet) {d : Body} {a : List Body} {b : Option Body} {c : List Body} {vs : List View}
+    → TypedItem set (item d (ofCheck a b c) vs)
     → All (OfType set 26) a × (IfAny (OfType set 27) b × (All (OfType set 28) c × All (TypedView set) vs))
 of-check set h = (h .addenda .addenda-a, (h .addenda .addendum-b, (h .addenda .addenda-c, h .views)))
 
-of-return : (set : CharacterSet) {d : Body} {a : List Body} {b : Body} {c : Option Body} {g : List Body} {vs : List View} → TypedItem set (item d (ofReturn a b c g) vs)
+of-return : (set : CharacterSet) {d : Body} {a : List Body} {b : Body} {c : Option Body} {g : List Body} {vs : List View}
+    → TypedItem set (item d (ofReturn a b c g) vs)
     → All (OfType set 32) a × (OfType set 33 b × (IfAny (OfType set 34) c × (All (OfType set 35) g × All (TypedView set) vs)))
 of-return set h = (h .addenda .addenda-a, (h .addenda .addendum-b, (h .addenda .addendum-c, (h .addenda .addenda-d, h .views))))
 
@@ -134,7 +139,8 @@ of-return set h = (h .addenda .addenda-a, (h .addenda .addendum-b, (h .addenda .
 two-types : (set : CharacterSet) {d d' : Body} {r s : List Body} (t t' : ℕ) → t ≢ t' → OfType set t d → OfType set t' d' → d ∷ r ≡ d' ∷ s → ⊥
 two-types set t t' other h h' e = other (cc)
 
-item-known : (set : CharacterSet) (d d' : Body) (x x' : Addenda) (vs vs' : List View) (r s : List Body) → TypedItem set (item d x vs) → TypedItem set (item d' x' vs') →
+item-known : (set : CharacterSet) (d d' : Body) (x x' : Addenda) (vs vs' : List View) (r s : List Body) → TypedItem set (item d x vs)
+    → TypedItem set (item d' x' vs') →
     60 ≤ next set r → 60 ≤ next set s → itemThen (item d x vs) r ≡ itemThen (item d' x' vs') s → (item d x vs ≡ item d' x' vs') × (r ≡ s)
 item-known set d d' (ofCheck a b c) (ofCheck a' b' c') vs vs' r s h h' l l' e =
     led set (λ d z. let (a, more) = z in let (b, others) = more in let (c, vs) = others in item d (ofCheck a b c) vs)
@@ -143,7 +149,8 @@ item-known set d d' (ofCheck a b c) (ofCheck a' b' c') vs vs' r s h h' l l' e =
     (of-check set h) (of-check set h') (omega arith) (omega arith) e
 item-known set d d' (ofReturn a b c g) (ofReturn a' b' c' g') vs vs' r s h h' l l' e =
     led set (λ d z. let (a, more) = z in let (b, others) = more in let (c, last) = others in let (g, vs) = last in item d (ofReturn a b c g) vs)
-    (seq set (bodies set 32) (seq set (single set 33 34) (seq set (optional set 34) (seq set (bodies set 35) (views set) (omega arith)) (omega arith)) (omega arith)) (omega arith))
+    (seq set (bodies set 32) (seq set (single set 33 34)
+    (seq set (optional set 34) (seq set (bodies set 35) (views set) (omega arith)) (omega arith)) (omega arith)) (omega arith))
     d d' (a, (b, (c, (g, vs)))) (a', (b', (c', (g', vs')))) r s
     (of-return set h) (of-return set h') (omega arith) (omega arith) e
 item-known set d d' ofCredit ofCredit vs vs' r s h h' l l' e =
@@ -155,13 +162,15 @@ item-known set d d' (ofReturn _ _ _ _) ofCredit vs vs' r s h h' l l' e = absurd 
 item-known set d d' ofCredit (ofCheck _ _ _) vs vs' r s h h' l l' e = absurd (two-types set 61 25 (omega arith) (h .detail) (h' .detail) e)
 item-known set d d' ofCredit (ofReturn _ _ _ _) vs vs' r s h h' l l' e = absurd (two-types set 61 31 (omega arith) (h .detail) (h' .detail) e)
 
-item-turn : (set : CharacterSet) (x : Addenda) (d : Body) → OfType set (layoutIn x .typeNumber) d → (60 ≤ turn (typeOf set d)) × (turn (typeOf set d) ≤ 60)
+item-turn : (set : CharacterSet) (x : Addenda) (d : Body) → OfType set (layoutIn x .typeNumber) d
+    → (60 ≤ turn (typeOf set d)) × (turn (typeOf set d) ≤ 60)
 item-turn set (ofCheck a b c) d h = at-turn set 25 d h
 item-turn set (ofReturn a b c d) e h = at-turn set 31 e h
 item-turn set ofCredit d h = at-turn set 61 d h
 
 items : (set : CharacterSet) → Unique set (All (TypedItem set)) itemsThen 60 61
-items set = many set (TypedItem set) itemThen itemsThen 60 60 (λ r. refl) (λ x xs r. refl) (λ x r h. item-turn set (x .addenda) (x .detail) (h .detail))
+items set =
+    many set (TypedItem set) itemThen itemsThen 60 60 (λ r. refl) (λ x xs r. refl) (λ x r h. item-turn set (x .addenda) (x .detail) (h .detail))
     (λ x y. item-known set (x .detail) (y .detail) (x .addenda) (y .addenda) (x .views) (y .views))
 
 content-known : (set : CharacterSet) → Known set (TypedContent set) contentThen 60
@@ -174,7 +183,8 @@ content-known set (direct x) (direct y) r s h g a b e =
 content-known set (bundled x) (direct y) r s h g a b e = absurd (two-types set 20 61 (omega arith) (h .header) (g .detail) e)
 content-known set (direct x) (bundled y) r s h g a b e = absurd (two-types set 61 20 (omega arith) (h .detail) (g .header) e)
 
-content-turn : (set : CharacterSet) (x : Content) (r : List Body) → TypedContent set x → (60 ≤ next set (contentThen x r)) × (next set (contentThen x r) ≤ 80)
+content-turn : (set : CharacterSet) (x : Content) (r : List Body) → TypedContent set x
+    → (60 ≤ next set (contentThen x r)) × (next set (contentThen x r) ≤ 80)
 content-turn set (bundled x) r h = omega (arith, at-turn set 20 (x .header) (h .header))
 content-turn set (direct x) r h = omega (arith, at-turn set 61 (x .detail) (h .detail))
 

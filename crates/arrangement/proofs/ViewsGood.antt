@@ -48,14 +48,16 @@ module _ (set : CharacterSet) (inside : Bool) (ends : List ℕ) (order : Ends in
       let now = in-step set inside letter o past b 54 (right .type) (search) within in
       let allowed : Allow set (54 ∷ 50 ∷ ends) past = allow-at set (54 ∷ 50 ∷ ends) (within .inside-is) last (order .behind-52) in
       record {
-        first = made-plain set imageViewAnalysis (known-54 set) refl refl past b right (allow-first set allowed) (settled-kept set 54 past refl settled) refl;
+        first =
+            made-plain set imageViewAnalysis (known-54 set) refl refl past b right (allow-first set allowed) (settled-kept set 54 past refl settled) refl;
         rest =
             on (settled-on set past b 54 (right .type) refl refl settled) (allow-at set (50 ∷ ends) (now .inside-is) (right .type) (order .behind-54));
       }
 
   view-good : (past : List Body) (v : View) (rest : List Body) → SoundView set o v → InItem set inside letter o past → (indicator set letter ≡ E → ⊥)
       → Settled set past → Allow set (50 ∷ ends) past
-      → (Settled set (afterView past v) → Allow set (50 ∷ ends) (afterView past v) → GoodAll set (afterView past v) rest) → GoodAll set past (viewThen v rest)
+      → (Settled set (afterView past v) → Allow set (50 ∷ ends) (afterView past v) → GoodAll set (afterView past v) rest)
+      → GoodAll set past (viewThen v rest)
   view-good past v rest sound within seen settled allowed on =
       let d = v .detail ∷ past in
       let typed = view-typed set o v sound in
@@ -89,7 +91,8 @@ module _ (set : CharacterSet) (inside : Bool) (ends : List ℕ) (order : Ends in
 
   pub views-good : (past : List Body) (vs : List View) (rest : List Body) → All (SoundView set o) vs → InItem set inside letter o past
       → (indicator set letter ≡ E → length vs ≡ 0) → Settled set past → Allow set (50 ∷ ends) past
-      → (Settled set (afterViews past vs) → Allow set (50 ∷ ends) (afterViews past vs) → GoodAll set (afterViews past vs) rest) → GoodAll set past (viewsThen vs rest)
+      → (Settled set (afterViews past vs) → Allow set (50 ∷ ends) (afterViews past vs) → GoodAll set (afterViews past vs) rest)
+      → GoodAll set past (viewsThen vs rest)
   views-good past [] rest sound within unseen settled allowed on = on settled allowed
   views-good past (v ∷ vs) rest sound within unseen settled allowed on =
       let seen : indicator set letter ≡ E → ⊥ = λ e. omega (arith, unseen e) in

@@ -31,7 +31,8 @@ pub record ViewsFound (set : CharacterSet) (letter : Body) (o : Owner) (vs : Lis
   pub unseen : indicator set letter ≡ E → length vs ≡ 0
   pub behind : GoodAll set (afterViews past vs) rest
 
-analysis-sound : (set : CharacterSet) (past : List Body) (o : Option Body) (rest : List Body) → IfAny (OfType set 54) o → GoodAll set past (optionalThen o rest)
+analysis-sound : (set : CharacterSet) (past : List Body) (o : Option Body) (rest : List Body) → IfAny (OfType set 54) o
+    → GoodAll set past (optionalThen o rest)
     → Found set (IfAny (Right set imageViewAnalysis) o) (afterOptional past o) rest
 analysis-sound set past none rest typed good = record { sound = tt; behind = good }
 analysis-sound set past (some b) rest typed good =
@@ -43,7 +44,8 @@ cycle-in true xs ys h = h refl
 cycle-in false xs ys h = tt
 
 module _ (set : CharacterSet) (inside : Bool) (letter : Body) (o : Owner) where
-  view-sound : (past : List Body) (v : View) (rest : List Body) → TypedView set v → InItem set inside letter o past → GoodAll set past (viewThen v rest)
+  view-sound : (past : List Body) (v : View) (rest : List Body) → TypedView set v → InItem set inside letter o past
+      → GoodAll set past (viewThen v rest)
       → ViewFound set letter o v past rest
   view-sound past v rest typed within good =
       let detail = as-type set 50 past (v .detail) (typed .detail) (good .first) in

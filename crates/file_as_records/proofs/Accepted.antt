@@ -71,7 +71,8 @@ record Found (set : CharacterSet) (file : List ℕ) (past : List Body) : Type 0 
   good : GoodAll set past bodies
 
 module _ (set : CharacterSet) (file : List ℕ) (hb : Bytes file) (t : Totals) where
-  next : (past : List Body) → Held set file past → AllOpened set past → (u size : ℕ) → stepOf set file (standing set file (entries set past)) (extent past) ≡ On u size
+  next : (past : List Body) → Held set file past → AllOpened set past → (u size : ℕ)
+      → stepOf set file (standing set file (entries set past)) (extent past) ≡ On u size
       → Next set file past u size
   unfolding stepOf
   next past older opened u size e =
@@ -99,7 +100,8 @@ module _ (set : CharacterSet) (file : List ℕ) (hb : Bytes file) (t : Totals) w
             (on-turn (eqb (over set past .last) 99) (turnOf set file (over set past) at b) size step);
       }
 
-  found-end : (n : ℕ) (past : List Body) → Held set file past → length file ≤ extent past → run set n file (extent past) (entries set past) ≡ Accepted t
+  found-end : (n : ℕ) (past : List Body) → Held set file past → length file ≤ extent past
+      → run set n file (extent past) (entries set past) ≡ Accepted t
       → Found set file past
   unfolding endedWith
   found-end n past older end e =
@@ -136,7 +138,8 @@ module _ (set : CharacterSet) (file : List ℕ) (hb : Bytes file) (t : Totals) w
             good = record { first = x .good; rest = y .good };
           }
 
-      at-step : (s : Step) → stepOf set file (standing set file (entries set past)) (extent past) ≡ s → extent past < length file → Others → Found set file past
+      at-step : (s : Step) → stepOf set file (standing set file (entries set past)) (extent past) ≡ s → extent past < length file → Others
+          → Found set file past
       at-step (Stop fault) q h others =
           let stopped = run-stop set file (extent past) (entries set past) (suc n) fault h (omega arith) q in
           let z : _≡_ {A = ℕ} 0 1 = cc in absurd (omega arith)

@@ -26,7 +26,8 @@ numberedAs set k past b =
     (cond (eqb k 35) (eqb (number set (fieldOf returnAddendumD 2 b)) (endorserIn set past + 1)) true)))
 
 abbrev pub institutionIn : CharacterSet → List Body → List ℕ
-institutionIn set past = cond (insideIn set past) (fieldOf bundleHeader 4 (newest set (is 20) past)) (fieldOf cashLetterHeader 4 (newest set (is 10) past))
+institutionIn set past =
+    cond (insideIn set past) (fieldOf bundleHeader 4 (newest set (is 20) past)) (fieldOf cashLetterHeader 4 (newest set (is 10) past))
 
 abbrev pub dateIn : CharacterSet → List Body → List ℕ
 dateIn set past = cond (insideIn set past) (fieldOf bundleHeader 5 (newest set (is 20) past)) (fieldOf cashLetterHeader 5 (newest set (is 10) past))

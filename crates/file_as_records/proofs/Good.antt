@@ -55,7 +55,8 @@ totalsAfter set past =
       items = measures.items (itemsSince set never past);
       sums =
           cappedSums
-          (sums (debitsSince set never past) (debitSince set never past) (creditsSince set never past) (creditSince set never past) (viewsSince set never past));
+          (sums (debitsSince set never past) (debitSince set never past)
+          (creditsSince set never past) (creditSince set never past) (viewsSince set never past));
     }
 
 abbrev pub amountAfter : CharacterSet → ℕ → List Body → Body → ℕ

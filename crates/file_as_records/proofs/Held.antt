@@ -76,7 +76,8 @@ module _ (set : CharacterSet) {file : List ℕ} {at : ℕ} {b : Body} (h : HeldA
   pub layout-long : (k : Layout) → ((c : Body) → judgedAs set (k .typeNumber) c ≡ alone set k c) → eqb (typeOf set b) (k .typeNumber) ≡ true
       → k .fixedLength ≤ length b
   layout-long k own e =
-      let judged : alone set k b ≡ Sound = sym (own b) ∙ ap (λ (t : ℕ). judgedAs set t b) (sym (eqb-true (typeOf set b) (k .typeNumber) e)) ∙ h .sound in
+      let judged : alone set k b ≡ Sound =
+      sym (own b) ∙ ap (λ (t : ℕ). judgedAs set t b) (sym (eqb-true (typeOf set b) (k .typeNumber) e)) ∙ h .sound in
       omega (arith, sound-fills set (k .fixedLength) (k .lines) (sizedParts k) b judged)
 
   pub fields-at : (k : Layout) → ((c : Body) → judgedAs set (k .typeNumber) c ≡ alone set k c) → within (k .fixedLength) (k .lines) ≡ true
@@ -103,7 +104,8 @@ module _ (set : CharacterSet) {file : List ℕ} {at : ℕ} {b : Body} (h : HeldA
       under-and (eqb (typeOf set b) 61) (λ e. ap (λ (x : List ℕ). not (eqb (number set x) 9)) (fields-at creditRecord (λ c. refl) refl e 2))
 
   adds-held : adds set file (typeOf set b) at
-      ≡ sums (one (isDebitAs set (typeOf set b) b)) (debitAs set (typeOf set b) b) (one (isCreditAs set (typeOf set b) b)) (creditAs set (typeOf set b) b) (one (eqb (typeOf set b) 50))
+      ≡ sums (one (isDebitAs set (typeOf set b) b)) (debitAs set (typeOf set b) b)
+      (one (isCreditAs set (typeOf set b) b)) (creditAs set (typeOf set b) b) (one (eqb (typeOf set b) 50))
   adds-held = rw (debit-held, credit-held, amount-held)
 
   stated-held : statedBy set file (typeOf set b) at ≡ statedAs set (typeOf set b) b
@@ -131,7 +133,8 @@ module _ (set : CharacterSet) {file : List ℕ} {at : ℕ} {b : Body} (h : HeldA
 -- the sums since a level began
 abbrev pub sumsOver : CharacterSet → (ℕ → Bool) → List Body → Sums
 sumsOver set begins past =
-    sums (debitsSince set begins past) (debitSince set begins past) (creditsSince set begins past) (creditSince set begins past) (viewsSince set begins past)
+    sums (debitsSince set begins past) (debitSince set begins past) (creditsSince set begins past)
+    (creditSince set begins past) (viewsSince set begins past)
 
 -- a figure that each entry moves on as its body does
 module _ (set : CharacterSet) (file : List ℕ) where
@@ -144,7 +147,8 @@ module _ (set : CharacterSet) (file : List ℕ) where
       moves (extent past) b (entries set past) (h .0) ∙ ap (next (typeOf set b) b) (figure-held figure first next e moves past (h .1))
 
   sum-held : (begins : ℕ → Bool) (measure : ℕ → ℕ → ℕ) (measureAs : ℕ → Body → ℕ)
-      → ((at : ℕ) (b : Body) → HeldAt set file at b → measure (typeOf set b) at ≡ measureAs (typeOf set b) b) → (past : List Body) → Held set file past
+      → ((at : ℕ) (b : Body) → HeldAt set file at b → measure (typeOf set b) at ≡ measureAs (typeOf set b) b) → (past : List Body)
+      → Held set file past
       → history.sumSince (λ r. begins (r .type)) (λ r. measure (r .type) (r .offset)) (entries set past) ≡ sumSince set begins measureAs past
   sum-held begins measure measureAs same =
       figure-held (λ es. history.sumSince (λ r. begins (r .type)) (λ r. measure (r .type) (r .offset)) es) 0
@@ -173,14 +177,16 @@ module _ (set : CharacterSet) (file : List ℕ) where
   pick-sums true s t = refl
   pick-sums false s t = refl
 
-  sums-held : (begins : ℕ → Bool) (past : List Body) → Held set file past → sumsSince set (λ r. begins (r .type)) file (entries set past) ≡ sumsOver set begins past
+  sums-held : (begins : ℕ → Bool) (past : List Body) → Held set file past
+      → sumsSince set (λ r. begins (r .type)) file (entries set past) ≡ sumsOver set begins past
   sums-held begins [] h = refl
   sums-held begins (b ∷ past) h =
       ap₂ (λ (here older : Sums). cond (begins (typeOf set b)) noSums (together here older)) (adds-held set (h .0)) (sums-held begins past (h .1))
       ∙ pick-sums (begins (typeOf set b)) _ (sumsOver set begins past)
 
 -- a figure of the types of the entries
-types-held : (set : CharacterSet) {X : Type 0} (figure : List ℕ → X) (next : ℕ → X → X) → ((t : ℕ) (ts : List ℕ) → figure (t ∷ ts) ≡ next t (figure ts))
+types-held : (set : CharacterSet) {X : Type 0} (figure : List ℕ → X) (next : ℕ → X → X)
+    → ((t : ℕ) (ts : List ℕ) → figure (t ∷ ts) ≡ next t (figure ts))
     → (past : List Body) → figure (map (λ (r : Entry). r .type) (entries set past)) ≡ value set (figure []) (λ t b x. next t x) past
 types-held set figure next moves [] = refl
 types-held set figure next moves (b ∷ past) =

@@ -89,7 +89,8 @@ inside-opened set (b ∷ past) e = cases (eqb (typeOf set b) 20) (eqb (typeOf se
 -- the type of the newest item, where it is known, is that item's
 pub holder-is : (set : CharacterSet) (past : List Body) → eqb (holderIn set past) 61 ≡ true → eqb (typeOf set (newest set isItem past)) 61 ≡ true
 holder-is set [] e = cc
-holder-is set (b ∷ past) e = cases (eqb (typeOf set b) 10 || (eqb (typeOf set b) 20 || eqb (typeOf set b) 70)) (isItem (typeOf set b)) (holder-is set past) e
+holder-is set (b ∷ past) e =
+    cases (eqb (typeOf set b) 10 || (eqb (typeOf set b) 20 || eqb (typeOf set b) 70)) (isItem (typeOf set b)) (holder-is set past) e
   where
     cases : (c d : Bool) → (eqb (holderIn set past) 61 ≡ true → eqb (typeOf set (newest set isItem past)) 61 ≡ true)
         → eqb (cond c 0 (cond d (typeOf set b) (holderIn set past))) 61 ≡ true → eqb (typeOf set (cond d b (newest set isItem past))) 61 ≡ true

@@ -47,7 +47,8 @@ module _ (file : List ℕ) (at : ℕ) (b rest : List ℕ) (e : drop at file ≡ 
       whole file at (omega (arith, long)) ∙ ap (Whole (at + 4)) n
 
 -- one record read: its step, and its row
-module _ (set : CharacterSet) (file : List ℕ) (past : List Body) (older : Held set file past) (opened : AllOpened set past) (small : length file ≤ 268_435_456) (b rest : List ℕ)
+module _ (set : CharacterSet) (file : List ℕ) (past : List Body) (older : Held set file past) (opened : AllOpened set past)
+    (small : length file ≤ 268_435_456) (b rest : List ℕ)
     (e : drop (extent past) file ≡ lengthField (length b) ++ (b ++ rest)) (g : Good set past b) where
   held : HeldAt set file (extent past) b
   held = record { rest = rest; body = body-is file (extent past) b rest e; sound = g .alone }
@@ -63,9 +64,11 @@ module _ (set : CharacterSet) (file : List ℕ) (past : List Body) (older : Held
       )
       (ap (ofTurn (length b)) (good-turn set file past older opened (extent past) b held g))
 
-  row-is : rowOf set file (standing set file (entries set (b ∷ past))) (typeOf set b) (extent past) (length b) ≡ rowAs set (typeOf set b) (extent past) (b ∷ past) b
+  row-is : rowOf set file (standing set file (entries set (b ∷ past))) (typeOf set b) (extent past) (length b)
+      ≡ rowAs set (typeOf set b) (extent past) (b ∷ past) b
   row-is =
-      ap (λ (s : Standing). rowOf set file s (typeOf set b) (extent past) (length b)) (stands set file (b ∷ past) (held, older)) ∙ rw (amount-held set held)
+      ap (λ (s : Standing). rowOf set file s (typeOf set b) (extent past) (length b)) (stands set file (b ∷ past) (held, older))
+      ∙ rw (amount-held set held)
 
   rows-step : (n : ℕ) → 0 < n → rowsFrom set n file (extent past) (entries set past)
       ≡ rowAs set (typeOf set b) (extent past) (b ∷ past) b ++ rowsFrom set (n - 1) file (extent (b ∷ past)) (entries set (b ∷ past))
@@ -79,7 +82,8 @@ record Reads (set : CharacterSet) (file : List ℕ) (n : ℕ) (past bodies : Lis
   answer : run set n file (extent past) (entries set past) ≡ Accepted (totalsAfter set (onto bodies past))
   rows : rowsFrom set n file (extent past) (entries set past) ≡ rowsAll set (extent past) past bodies
 
-reads : (set : CharacterSet) (file : List ℕ) → length file ≤ 268_435_456 → (bodies : List Body) (n : ℕ) (past : List Body) → Held set file past → AllOpened set past
+reads : (set : CharacterSet) (file : List ℕ) → length file ≤ 268_435_456 → (bodies : List Body) (n : ℕ) (past : List Body)
+    → Held set file past → AllOpened set past
     → drop (extent past) file ≡ framed bodies → GoodAll set past bodies → length file ≤ extent past + n → Reads set file n past bodies
 unfolding endedWith
 reads set file small [] n past older opened e g l =

@@ -91,7 +91,8 @@ module _ (set : CharacterSet) {file : List ℕ} {at : ℕ} {b : Body} (past : Li
       states value characters = eqb (number set characters) value
 
   -- a 52 stands behind an item, in a cash letter: their fields, and those of its bundle header, are where the file has them
-  bundle-same : insideIn set past ≡ true → (n : ℕ) → field bundleHeader n file (newestAt set (is 20) past) ≡ fieldOf bundleHeader n (newest set (is 20) past)
+  bundle-same : insideIn set past ≡ true → (n : ℕ)
+      → field bundleHeader n file (newestAt set (is 20) past) ≡ fieldOf bundleHeader n (newest set (is 20) past)
   unfolding judgedAs
   bundle-same inside =
       let header = newest-passes set file (is 20) past older (inside-opened set past inside) in
@@ -112,7 +113,8 @@ module _ (set : CharacterSet) {file : List ℕ} {at : ℕ} {b : Body} (past : Li
       let there = newest-passes set file isItem past older item in
       let long = item-long set (there .held) (there .passes) in
       under (eqb (holderIn set past) 61) (λ e. fields-at set (there .held) creditRecord (λ c. refl) refl (holder-is set past e) 8)
-      (ap₂ (cond (eqb (holderIn set past) 31)) (fields-held set (there .held) returnRecord refl long 7) (fields-held set (there .held) checkDetail refl long 7))
+      (ap₂ (cond (eqb (holderIn set past) 31)) (fields-held set (there .held) returnRecord refl long 7)
+      (fields-held set (there .held) checkDetail refl long 7))
 
   views-same : AllOpened set (b ∷ past) → eqb (typeOf set b) 52 ≡ true → viewLinks set file (over set past) at ≡ viewChecks set past b
   unfolding judgedAs
@@ -225,6 +227,10 @@ module _ (set : CharacterSet) (file : List ℕ) (past : List Body) (older : Held
         carried = g .carried;
         follows = g .follows;
         alone = g .alone;
-        linked = ap firstFailing (links-same set past older h now) ∙ none-fails (linkChecks set (typeOf set b) past b) (links-out set (typeOf set b) past b (g .linked));
-        totalled = ap firstFailing (totals-same set past older h) ∙ none-fails (totalChecks set (typeOf set b) past b) (totals-out set (typeOf set b) past b (g .totalled));
+        linked =
+            ap firstFailing (links-same set past older h now)
+            ∙ none-fails (linkChecks set (typeOf set b) past b) (links-out set (typeOf set b) past b (g .linked));
+        totalled =
+            ap firstFailing (totals-same set past older h)
+            ∙ none-fails (totalChecks set (typeOf set b) past b) (totals-out set (typeOf set b) past b (g .totalled));
       })
