@@ -1,1 +1,4 @@
 pub mod SameBytes
+pub mod Alike
+pub mod FiguresAlike
+pub mod AgreementAlike
