@@ -7,6 +7,7 @@ use text::CharacterSet;
 ghost use mathlib.Core.Path.{_≡_};
 ghost use Prim.Native.Nat.{_+_, _≤_};
 ghost use lib.ListN.{length};
+ghost use Rattle.ascii_copy.specs.AsciiCopy.{asciiCopy, Begins};
 ghost use Rattle.picture.specs.Picture.{numberOf, fieldOf, startOf, sizeOf, bytesOf, inBody, pictureAt};
 
 // What the picture call finds at an offset of a file.
@@ -98,8 +99,8 @@ fn in_body(set: CharacterSet, start: usize, body: &[u8]) -> Found
     }
 }
 
-// The companion call: what the picture call finds. Any file and any offset get their answer.
-pub fn find_picture(file: &[u8], offset: usize) -> Found
+// What stands at an offset. Any file and any offset get their answer.
+fn found_at(file: &[u8], offset: usize) -> Found
     ensures { λ r. ⌜ r ≡ pictureAt (now (file .entry)) offset ⌝ }
 {
     if file.len() < 1 {
@@ -115,10 +116,19 @@ pub fn find_picture(file: &[u8], offset: usize) -> Found
     }
 }
 
+// The companion call: what the picture call finds. At every offset where a record begins as the lengths frame the file, it is what is found in
+// the file's ASCII copy (request 5).
+pub fn find_picture(file: &[u8], offset: usize) -> Found
+    ensures found { λ r. ⌜ r ≡ pictureAt (now (file .entry)) offset ⌝ }
+    ensures copy { λ r. ⌜ (Begins (now (file .entry)) offset → r ≡ pictureAt (asciiCopy (now (file .entry))) offset) ⌝ }
+{
+    found_at(file, offset)
+}
+
 // The picture call: the Image Data part of the 52 whose length field stands at an offset, or an empty part.
 pub fn picture(file: &[u8], offset: usize) -> &[u8]
     ensures { λ r. ⌜ now r ≡ bytesOf (now (file .entry)) (pictureAt (now (file .entry)) offset) ⌝ }
 {
-    let found = find_picture(file, offset);
+    let found = found_at(file, offset);
     frame::part_of(file, found.start(), found.size())
 }

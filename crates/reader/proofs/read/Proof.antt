@@ -16,7 +16,7 @@ enum-known-answer c = search needs
 
 returns : tie.Need-returns
 returns c =
-    no-room SETHOLE (now (c .before .before .before .before .before .before .before .args .file)) (now (c .before .before .before .before .before .before .before .args .table)) (λ i. omega (arith, c .before .before .before .before .before .before .shared-slice-known .given i)) _ (sym (c .before .before .before .before .survey .ensures .0) ∙ c .before .before .answer .given .1) (c .if1 .taken)
+    no-room (now (c .before .before .before .before .before .before .before .args .file)) (now (c .before .before .before .before .before .before .before .args .table)) (λ i. omega (arith, c .before .before .before .before .before .before .shared-slice-known .given i)) _ (sym (c .before .before .before .before .survey .ensures .0) ∙ c .before .before .answer .given .1) (c .if1 .taken)
 
 fill-requires : tie.Need-fill-requires
 fill-requires c κs = let g = rw (c .before .before .before .answer .given .1) at (c .before .before .before .before .before .survey .ensures .1) in (accepted-small (now (c .before .before .before .before .before .before .before .before .args .file)) _ (sym (c .before .before .before .before .before .survey .ensures .0) ∙ c .before .before .before .answer .given .1), omega (arith, g))
@@ -29,11 +29,11 @@ same-length c = search needs
 
 returns-2 : tie.Need-returns-2
 returns-2 c =
-    rows-filled SETHOLE (now (c .before .before .before .before .before .before .before .before .before .before .before .args .file)) (now (c .before .before .before .before .before .before .before .before .before .before .before .args .table)) (λ i. omega (arith, c .before .before .before .before .before .before .before .before .before .before .shared-slice-known .given i)) _ _ (sym (c .before .before .before .before .before .before .before .before .survey .ensures .0) ∙ c .before .before .before .before .before .before .answer .given .1) (c .before .before .before .before .if1 .left) (c .before .before .fill .ensures)
+    rows-filled (now (c .before .before .before .before .before .before .before .before .before .before .before .args .file)) (now (c .before .before .before .before .before .before .before .before .before .before .before .args .table)) (λ i. omega (arith, c .before .before .before .before .before .before .before .before .before .before .shared-slice-known .given i)) _ _ (sym (c .before .before .before .before .before .before .before .before .survey .ensures .0) ∙ c .before .before .before .before .before .before .answer .given .1) (c .before .before .before .before .if1 .left) (c .before .before .fill .ensures)
 
 returns-3 : tie.Need-returns-3
 returns-3 c =
-    refused SETHOLE (now (c .before .before .before .before .before .args .file)) (now (c .before .before .before .before .before .args .table)) (λ i. omega (arith, c .before .before .before .before .shared-slice-known .given i)) _ _ _ _ (c .before .before .survey .ensures .0) (c .enum-told .given .1)
+    refused (now (c .before .before .before .before .before .args .file)) (now (c .before .before .before .before .before .args .table)) (λ i. omega (arith, c .before .before .before .before .shared-slice-known .given i)) _ _ _ _ (c .before .before .survey .ensures .0) (c .enum-told .given .1)
 
 pub read-spec : {M : Type 1} → statement M
 read-spec =

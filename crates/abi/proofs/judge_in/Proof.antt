@@ -1,7 +1,7 @@
 use mathlib.Core.Path.{_≡_, refl, sym, ap, _∙_}
 use borrow.Author.Needs.{needs}
-use Rattle.abi.proofs.x9_record.Statement.{statement}
-use Rattle.abi.proofs.x9_record.Tie as tie
+use Rattle.abi.proofs.judge_in.Statement.{statement}
+use Rattle.abi.proofs.judge_in.Tie as tie
 
 judge-record-requires : tie.Need-judge-record-requires
 judge-record-requires c κs = search needs
@@ -15,5 +15,5 @@ field-requires c κs = search needs
 returns : tie.Need-returns
 returns c = record { number = rw (sym (c .before .before .before .judge-record .ensures)) (c .before .before .number .ensures); answer = rw (sym (c .before .before .before .judge-record .ensures), c .before .before .number .ensures, c .before .field .ensures) }
 
-pub x9-record-spec : {M : Type 1} → statement M
-x9-record-spec = tie.close (tie.spec judge-record-requires number-requires field-requires returns)
+pub judge-in-spec : {M : Type 1} → statement M
+judge-in-spec = tie.close (tie.spec judge-record-requires number-requires field-requires returns)
