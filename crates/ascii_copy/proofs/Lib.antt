@@ -1,2 +1,5 @@
 pub mod Characters
 pub mod Fields
+pub mod Records
+pub mod Frames
+pub mod SoundCharacters
