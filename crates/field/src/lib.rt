@@ -165,7 +165,8 @@ pub fn is_hours_minutes_seconds(set: CharacterSet, s: &[u8]) -> bool
         return false;
     }
     let seconds = &s[4..6];
-    is_hours_minutes(set, &s[0..4]) & (text::all_numeric(set, seconds) & (text::number_in(set, seconds) <= 59))
+    is_hours_minutes(set, &s[0..4])
+        & (text::all_numeric(set, seconds) & (text::number_in(set, seconds) <= 59))
 }
 
 fn weighted_sum(set: CharacterSet, s: &[u8]) -> u64
@@ -197,7 +198,8 @@ fn is_dashed_at(set: CharacterSet, place: usize, s: &[u8]) -> bool
         return false;
     }
     let behind = place + 1;
-    text::all_numeric(set, &s[0..place]) & (text::is_dash(set, s[place]) & text::all_numeric(set, &s[behind..9]))
+    text::all_numeric(set, &s[0..place])
+        & (text::is_dash(set, s[place]) & text::all_numeric(set, &s[behind..9]))
 }
 
 // A blank and eight digits.
@@ -226,7 +228,8 @@ fn fits_rarer(set: CharacterSet, forms: Forms, s: &[u8]) -> bool
 {
     (forms.canadian & is_dashed_at(set, 5, s))
         | ((forms.dashed & is_dashed_at(set, 4, s))
-            | ((forms.blanked & is_blanked(set, s)) | (forms.nonfinancial & is_nonfinancial(set, s))))
+            | ((forms.blanked & is_blanked(set, s))
+                | (forms.nonfinancial & is_nonfinancial(set, s))))
 }
 
 // One of the forms that are listed. Nearly all are nine digits with their check digit, so that form is tried first.
@@ -248,7 +251,12 @@ fn byte_at(s: &[u8], at: usize) -> u8
     0
 }
 
-fn is_clipping_coordinate<'a>(set: CharacterSet, origin: usize, part: &'a [u8], body: &'a [u8]) -> bool
+fn is_clipping_coordinate<'a>(
+    set: CharacterSet,
+    origin: usize,
+    part: &'a [u8],
+    body: &'a [u8],
+) -> bool
     ensures { λ r. ⌜ r ≡ clippingCoordinate set origin (now (part .entry)) (now (body .entry)) ⌝ }
 {
     let clipped = !(text::capital_of(set, byte_at(body, origin)) == b'0');
@@ -263,12 +271,15 @@ pub fn follows_rule<'a>(set: CharacterSet, rule: Rule, part: &'a [u8], body: &'a
         Rule::Numbers(low, high) => number_within(set, low, high, part),
         Rule::AllDigits => text::all_numeric(set, part),
         Rule::OneOrTwoDigits => one_or_two_digits(set, part),
-        Rule::StandardLevel => text::all_numeric(set, part) & is_standard_level(text::number_in(set, part)),
-        Rule::CollectionType => text::all_numeric(set, part) & is_collection_type(text::number_in(set, part)),
+        Rule::StandardLevel => text::all_numeric(set, part)
+            & is_standard_level(text::number_in(set, part)),
+        Rule::CollectionType => text::all_numeric(set, part)
+            & is_collection_type(text::number_in(set, part)),
         Rule::BundleCollectionType => {
             text::all_numeric(set, part) & is_bundle_collection_type(text::number_in(set, part))
         }
-        Rule::SourceOfWork => text::all_numeric(set, part) & is_source_of_work(text::number_in(set, part)),
+        Rule::SourceOfWork => text::all_numeric(set, part)
+            & is_source_of_work(text::number_in(set, part)),
         Rule::Code(list) => holds_code(set, list, part),
         Rule::Date => is_date(set, part),
         Rule::HoursMinutes => is_hours_minutes(set, part),
@@ -289,7 +300,13 @@ pub fn is_left_blank(set: CharacterSet, usage: Usage, part: &[u8]) -> bool
 }
 
 // What is asked of a field of its data type: its rule, or a mark that leaves the data type alone to judge.
-pub fn rule_holds<'a>(set: CharacterSet, t: DataType, rule: Rule, part: &'a [u8], body: &'a [u8]) -> bool
+pub fn rule_holds<'a>(
+    set: CharacterSet,
+    t: DataType,
+    rule: Rule,
+    part: &'a [u8],
+    body: &'a [u8],
+) -> bool
     ensures { λ r. ⌜ r ≡ follows set rule (now (part .entry)) (now (body .entry)) || some (isMark set t) (now (part .entry)) ⌝ }
 {
     if follows_rule(set, rule, part, body) {

@@ -131,7 +131,13 @@ fn past(at: usize, size: u64, end: usize) -> usize
 
 // The number of the first part that is not of its data type, or 0. The parts stand one after the other from a start on, and their
 // fields are numbered from `first` on.
-fn first_wrong_part<'a>(set: CharacterSet, first: usize, parts: &'a [u64], start: usize, body: &'a [u8]) -> usize
+fn first_wrong_part<'a>(
+    set: CharacterSet,
+    first: usize,
+    parts: &'a [u64],
+    start: usize,
+    body: &'a [u8],
+) -> usize
     requires { ⌜ first + length (now parts) ≤ 0x2_0000 ⌝ }
     ensures { λ r. ⌜ r ≡ firstWrongPart set (sizedFrom first (now (parts .entry))) (now (body .entry)) (drop start (now (body .entry))) ⌝ }
 {
@@ -165,7 +171,13 @@ fn sizes_before<'a>(set: CharacterSet, count: usize, parts: &'a [u64], body: &'a
 }
 
 // The checks of one record alone, in document 01's order.
-fn judge_body<'a>(set: CharacterSet, fixed: usize, lines: &'a [u64], parts: &'a [u64], body: &'a [u8]) -> Judged
+fn judge_body<'a>(
+    set: CharacterSet,
+    fixed: usize,
+    lines: &'a [u64],
+    parts: &'a [u64],
+    body: &'a [u8],
+) -> Judged
     requires { ⌜ (length (now lines) + length (now parts) ≤ 0x1_0000) × (every (liesWithin fixed) (now lines) ≡ true) ⌝ }
     ensures { λ r. ⌜ r ≡ judged set fixed (linesFrom 1 (now (lines .entry))) (sizedFrom (length (now (lines .entry)) + 1) (now (parts .entry))) (now (body .entry)) ⌝ }
 {

@@ -11,10 +11,10 @@ pub record Tells (set : CharacterSet) (x : ℕ) (c : Told) : Type 0 where
   pub blank : c .blank ≡ isBlank set x
   pub alphabetic : c .alphabetic ≡ isAlphabetic set x
   pub numeric : c .numeric ≡ isNumeric set x
-  pub alphanumeric-special : c .«alphanumeric_special» ≡ admits set ANS x
+  pub printable : c .printable ≡ admits set ANS x
   pub questionable : c .questionable ≡ isQuestionable set x
-  pub cannot-read : c .«cannot_read» ≡ isCannotRead set x
+  pub unread : c .unread ≡ isCannotRead set x
   pub dash : c .dash ≡ isDash set x
-  pub on-us : c .«on_us» ≡ isOnUsSymbol set x
+  pub slash : c .slash ≡ isOnUsSymbol set x
   pub amount : c .amount ≡ isAmountSymbol set x
   pub transit : c .transit ≡ isTransitSymbol set x

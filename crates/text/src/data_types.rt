@@ -40,11 +40,11 @@ pub struct Told {
     pub blank: bool,
     pub alphabetic: bool,
     pub numeric: bool,
-    pub alphanumeric_special: bool,
+    pub printable: bool,
     pub questionable: bool,
-    pub cannot_read: bool,
+    pub unread: bool,
     pub dash: bool,
-    pub on_us: bool,
+    pub slash: bool,
     pub amount: bool,
     pub transit: bool,
 }
@@ -71,11 +71,11 @@ fn told_in_ascii(x: u8) -> Told
         blank: is_blank(CharacterSet::Ascii, x),
         alphabetic: is_alphabetic(CharacterSet::Ascii, x),
         numeric: is_numeric(CharacterSet::Ascii, x),
-        alphanumeric_special: is_printable(x),
+        printable: is_printable(x),
         questionable: is_questionable(CharacterSet::Ascii, x),
-        cannot_read: is_cannot_read(CharacterSet::Ascii, x),
+        unread: is_cannot_read(CharacterSet::Ascii, x),
         dash: is_dash(CharacterSet::Ascii, x),
-        on_us: is_on_us_symbol(CharacterSet::Ascii, x),
+        slash: is_on_us_symbol(CharacterSet::Ascii, x),
         amount: is_amount_symbol(CharacterSet::Ascii, x),
         transit: is_transit_symbol(CharacterSet::Ascii, x),
     }
@@ -88,11 +88,11 @@ fn told_in_ebcdic(x: u8) -> Told
         blank: is_blank(CharacterSet::Ebcdic, x),
         alphabetic: is_alphabetic(CharacterSet::Ebcdic, x),
         numeric: is_numeric(CharacterSet::Ebcdic, x),
-        alphanumeric_special: is_alphanumeric_special(CharacterSet::Ebcdic, x),
+        printable: is_alphanumeric_special(CharacterSet::Ebcdic, x),
         questionable: is_questionable(CharacterSet::Ebcdic, x),
-        cannot_read: is_cannot_read(CharacterSet::Ebcdic, x),
+        unread: is_cannot_read(CharacterSet::Ebcdic, x),
         dash: is_dash(CharacterSet::Ebcdic, x),
-        on_us: is_on_us_symbol(CharacterSet::Ebcdic, x),
+        slash: is_on_us_symbol(CharacterSet::Ebcdic, x),
         amount: is_amount_symbol(CharacterSet::Ebcdic, x),
         transit: is_transit_symbol(CharacterSet::Ebcdic, x),
     }
@@ -110,7 +110,7 @@ fn limits_to(t: DataType, c: Told) -> bool
         // 5.3.3
         DataType::AN => c.alphabetic | c.numeric,
         // 5.3.5
-        DataType::ANS => c.alphanumeric_special,
+        DataType::ANS => c.printable,
         // 5.3.6
         DataType::Binary => true,
         // 5.3.7
@@ -122,14 +122,14 @@ fn limits_to(t: DataType, c: Told) -> bool
         // 5.3.10
         DataType::NBQ => c.numeric | (c.blank | c.questionable),
         // 5.3.11
-        DataType::NBMc => c.numeric | (c.blank | c.cannot_read),
+        DataType::NBMc => c.numeric | (c.blank | c.unread),
         // 5.3.12
-        DataType::NBMcd => c.numeric | (c.blank | (c.cannot_read | c.dash)),
+        DataType::NBMcd => c.numeric | (c.blank | (c.unread | c.dash)),
         // 5.3.13
-        DataType::NBMcdo => c.numeric | (c.blank | (c.cannot_read | (c.dash | c.on_us))),
+        DataType::NBMcdo => c.numeric | (c.blank | (c.unread | (c.dash | c.slash))),
         // 5.3.14
         DataType::NBMU => {
-            c.numeric | (c.blank | (c.amount | (c.cannot_read | (c.dash | (c.on_us | c.transit)))))
+            c.numeric | (c.blank | (c.amount | (c.unread | (c.dash | (c.slash | c.transit)))))
         }
     }
 }

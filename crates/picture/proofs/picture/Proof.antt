@@ -14,8 +14,8 @@ use borrow.Author.Needs.{needs}
 use Rattle.picture.proofs.picture.Statement.{statement}
 use Rattle.picture.proofs.picture.Tie as tie
 
-find-picture-requires : tie.Need-find-picture-requires
-find-picture-requires c κs = search needs
+found-at-requires : tie.Need-found-at-requires
+found-at-requires c κs = search needs
 
 start-requires : tie.Need-start-requires
 start-requires c κs = search needs
@@ -27,9 +27,9 @@ part-of-requires : tie.Need-part-of-requires
 part-of-requires c κs = search needs
 
 returns : tie.Need-returns
-returns c = rw (sym (c .before .before .before .find-picture .ensures), sym (part-found (now (c .before .before .before .before .before .args .file)) (c .before .before .before .find-picture .result)), sym (c .before .before .start .ensures), sym (c .before .size .ensures)) (c .part-of .ensures)
+returns c = rw (sym (c .before .before .before .found-at .ensures), sym (part-found (now (c .before .before .before .before .before .args .file)) (c .before .before .before .found-at .result)), sym (c .before .before .start .ensures), sym (c .before .size .ensures)) (c .part-of .ensures)
 
 pub picture-spec : {M : Type 1} → statement M
 picture-spec =
     tie.close
-    (tie.spec find-picture-requires start-requires size-requires part-of-requires returns)
+    (tie.spec found-at-requires start-requires size-requires part-of-requires returns)

@@ -51,7 +51,7 @@ returns-3 : tie.Need-returns-3
 returns-3 c set x h = rw (c .before .enum-told3 .given .1, h .alphabetic, h .numeric)
 
 returns-4 : tie.Need-returns-4
-returns-4 c set x h = rw (c .enum-told4 .given .1) (h .alphanumeric-special)
+returns-4 c set x h = rw (c .enum-told4 .given .1) (h .printable)
 
 returns-5 : tie.Need-returns-5
 returns-5 c set x h = rw (c .enum-told5 .given .1)
@@ -69,16 +69,16 @@ returns-9 : tie.Need-returns-9
 returns-9 c set x h = rw (c .before .before .enum-told9 .given .1, h .numeric, h .blank, h .questionable)
 
 returns-10 : tie.Need-returns-10
-returns-10 c set x h = rw (c .before .before .enum-told10 .given .1, h .numeric, h .blank, h .cannot-read)
+returns-10 c set x h = rw (c .before .before .enum-told10 .given .1, h .numeric, h .blank, h .unread)
 
 returns-11 : tie.Need-returns-11
-returns-11 c set x h = rw (c .before .before .before .enum-told11 .given .1, h .numeric, h .blank, h .cannot-read, h .dash)
+returns-11 c set x h = rw (c .before .before .before .enum-told11 .given .1, h .numeric, h .blank, h .unread, h .dash)
 
 returns-12 : tie.Need-returns-12
-returns-12 c set x h = rw (c .before .before .before .before .enum-told12 .given .1, h .numeric, h .blank, h .cannot-read, h .dash, h .on-us)
+returns-12 c set x h = rw (c .before .before .before .before .enum-told12 .given .1, h .numeric, h .blank, h .unread, h .dash, h .slash)
 
 returns-13 : tie.Need-returns-13
-returns-13 c set x h = rw (c .before .before .before .before .before .before .enum-told13 .given .1, h .numeric, h .blank, h .amount, h .cannot-read, h .dash, h .on-us, h .transit)
+returns-13 c set x h = rw (c .before .before .before .before .before .before .enum-told13 .given .1, h .numeric, h .blank, h .amount, h .unread, h .dash, h .slash, h .transit)
 
 pub limits-to-spec : {M : Type 1} → statement M
 limits-to-spec =
