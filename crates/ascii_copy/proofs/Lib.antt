@@ -3,3 +3,4 @@ pub mod Fields
 pub mod Records
 pub mod Frames
 pub mod SoundCharacters
+pub mod Copies

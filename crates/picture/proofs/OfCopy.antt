@@ -1,7 +1,7 @@
 -- Request 5: where a record begins, a file and its ASCII copy hand out the same picture, or refuse alike. Assumes nothing.
 use Prim.Native.Nat.{ℕ, _+_}
 use mathlib.Core.Bool.{Bool, true, false}
-use mathlib.Core.Path.{_≡_, refl, ap, ap₂}
+use mathlib.Core.Path.{_≡_, refl, ap}
 use mathlib.Core.List.{List}
 use lib.Dec.{leb, eqb}
 use lib.ListN.{length}
@@ -13,34 +13,28 @@ use Rattle.frame.specs.declared.Frame.the-variants.{Cut, Whole}
 use Rattle.frame.specs.Frames.{part, frameAt}
 use Rattle.frame.specs.Unless.{unless}
 use Rattle.layout.specs.Layouts.{imageViewData}
-use Rattle.judge.specs.declared.Judged.{Judged}
-use Rattle.judge.specs.declared.Judged.the-variants.{Sound, WrongLength, UnknownType, WrongField}
 use Rattle.judge.specs.Alone.{typeOf, alone}
 use Rattle.judge.specs.Image.{imageStart, imageSize}
 use Rattle.ascii_copy.specs.AsciiCopy.{copiedBody, asciiCopy, Begins}
+use Rattle.ascii_copy.proofs.Records.{length-copied, type-copied, alone-copied, image-start-copied, image-size-copied}
+use Rattle.ascii_copy.proofs.Frames.{Ahead, ahead-frame, ahead-body}
+use Rattle.ascii_copy.proofs.Copies.{CopyOf, itself, unread, translates, copy-of}
+use Rattle.picture.specs.declared.Found.{Found}
 use Rattle.picture.specs.declared.Found.the-variants.{At, SizeRefused, LengthRefused, TypeRefused}
 use Rattle.picture.specs.Picture.{sizeAllowed, whenSound, inBody, inFrame, pictureAt}
-use Rattle.picture.proofs.Assumed.{length-copied, type-copied, alone-copied, image-start-copied, image-size-copied, Ahead, ahead-frame, ahead-body, CopyOf, itself, unread, translates, copy-of}
-
--- the picture of a 52's copy starts where its own does
-whole-52 : (start : ℕ) (b : List ℕ) → typeOf Ebcdic b ≡ 52 → (j : Judged) → alone Ebcdic imageViewData b ≡ j
-    → whenSound j (At (start + imageStart Ascii (copiedBody b)) (imageSize Ascii (copiedBody b))) ≡ whenSound j (At (start + imageStart Ebcdic b) (imageSize Ebcdic b))
-whole-52 start b t Sound e = ap₂ (λ (from size : ℕ). At (start + from) size) (image-start-copied b t e) (image-size-copied b t e)
-whole-52 start b t WrongLength e = refl
-whole-52 start b t UnknownType e = refl
-whole-52 start b t (WrongField n) e = refl
 
 body-of-copy : (start : ℕ) (b : List ℕ) → inBody Ascii start (copiedBody b) ≡ inBody Ebcdic start b
 unfolding inBody
 body-of-copy start b =
-    rw (length-copied b, type-copied b) (ap (unless (leb 2 (length b)) LengthRefused) (cases (eqb (typeOf Ebcdic b) 52) refl))
+    rw (length-copied b, type-copied b, image-start-copied b, image-size-copied b)
+    (ap (unless (leb 2 (length b)) LengthRefused) (cases (eqb (typeOf Ebcdic b) 52) refl))
   where
+    picture : Found
+    picture = At (start + imageStart Ebcdic b) (imageSize Ebcdic b)
+
     cases : (c : Bool) → eqb (typeOf Ebcdic b) 52 ≡ c
-        → unless c TypeRefused (whenSound (alone Ascii imageViewData (copiedBody b)) (At (start + imageStart Ascii (copiedBody b)) (imageSize Ascii (copiedBody b))))
-        ≡ unless c TypeRefused (whenSound (alone Ebcdic imageViewData b) (At (start + imageStart Ebcdic b) (imageSize Ebcdic b)))
-    cases true e =
-        let t = eqb-true (typeOf Ebcdic b) 52 e in
-        rw (alone-copied b t) (whole-52 start b t (alone Ebcdic imageViewData b) refl)
+        → unless c TypeRefused (whenSound (alone Ascii imageViewData (copiedBody b)) picture) ≡ unless c TypeRefused (whenSound (alone Ebcdic imageViewData b) picture)
+    cases true e = rw (alone-copied b (eqb-true (typeOf Ebcdic b) 52 e))
     cases false e = refl
 
 module _ (file copy : List ℕ) (at : ℕ) (a : Ahead file copy at) where
