@@ -9,7 +9,7 @@ found-at-requires : tie.Need-found-at-requires
 found-at-requires c κs = search needs
 
 returns : tie.Need-returns
-returns c = (c .found-at .ensures, λ begins. c .found-at .ensures ∙ sym (picture-of-copy (now (c .before .args .file)) (c .before .args .offset) begins))
+returns c = (c .found-at .ensures, λ begins. c .found-at .ensures ∙ sym (picture-of-copy (now (c .before .before .args .file)) (c .before .before .args .offset) begins))
 
 pub find-picture-spec : {M : Type 1} → statement M
 find-picture-spec = tie.close (tie.spec found-at-requires returns)
