@@ -36,8 +36,8 @@ present-after-requires c κs = search needs
 holder-after-requires : tie.Need-holder-after-requires
 holder-after-requires c κs = search needs
 
-add-t13 : tie.Need-add-t13
-add-t13 c = omega (arith, c .before .before .before .before .before .before .before .before .pre .records)
+add-t14 : tie.Need-add-t14
+add-t14 c = omega (arith, c .before .before .before .before .before .before .before .before .pre .records)
 
 one-if-requires : tie.Need-one-if-requires
 one-if-requires c κs = search needs
@@ -167,7 +167,7 @@ moved-in-full-spec =
     inside-after-requires
     present-after-requires
     holder-after-requires
-    add-t13
+    add-t14
     one-if-requires
     since-requires
     one-if-requires-2
