@@ -59,7 +59,14 @@ pub fn annex_b_kept(kind: u64, indicator: u8, opened: u64, holder: u64, shown: u
 }
 
 // Record numbers run from 1 in each item (26 and 32: position 3; 28 and 35: positions 3 and 4).
-pub fn numbered_on(set: CharacterSet, file: &[u8], bofd: u64, endorser: u64, kind: u64, offset: usize) -> bool
+pub fn numbered_on(
+    set: CharacterSet,
+    file: &[u8],
+    bofd: u64,
+    endorser: u64,
+    kind: u64,
+    offset: usize,
+) -> bool
     requires { ⌜ (bofd < 0x4000_0000_0000_0000) × (endorser < 0x4000_0000_0000_0000) ⌝ }
     ensures { λ r. ⌜ r ≡ numberedOn set (now (file .entry)) bofd endorser kind offset ⌝ }
 {
@@ -160,7 +167,14 @@ pub fn link_fault(set: CharacterSet, file: &[u8], s: Standing, kind: u64, offset
 }
 
 // A control field states a number.
-fn states_number(set: CharacterSet, file: &[u8], offset: usize, first: usize, size: usize, value: u64) -> bool
+fn states_number(
+    set: CharacterSet,
+    file: &[u8],
+    offset: usize,
+    first: usize,
+    size: usize,
+    value: u64,
+) -> bool
     ensures { λ r. ⌜ r ≡ eqb (number set (characters (now (file .entry)) offset first size)) value ⌝ }
 {
     number_at(set, file, offset, first, size) == value

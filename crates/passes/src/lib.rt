@@ -149,7 +149,13 @@ fn judge_next<'a>(
     }
 }
 
-fn record_at<'a>(set: CharacterSet, layouts: &'a [u64], file: &'a [u8], s: Standing, at: usize) -> Step
+fn record_at<'a>(
+    set: CharacterSet,
+    layouts: &'a [u64],
+    file: &'a [u8],
+    s: Standing,
+    at: usize,
+) -> Step
     requires { ⌜ Packed (now layouts) × Roomy s ⌝ }
     ensures { λ r. ⌜ r ≡ stepOf set (now (file .entry)) s at ⌝ }
 {

@@ -1,7 +1,4 @@
-use mathlib.Core.Path.{subst}
-use denote.Ref.{now}
-use Rattle.text.specs.declared.character_set.CharacterSet.{CharacterSet}
-use Rattle.abi.specs.Outcomes.{Judging}
+use mathlib.Core.Path.{sym}
 use borrow.Author.Needs.{needs}
 use Rattle.abi.proofs.x9_record_in.Statement.{statement}
 use Rattle.abi.proofs.x9_record_in.Tie as tie
@@ -13,8 +10,7 @@ judge-in-requires : tie.Need-judge-in-requires
 judge-in-requires c κs = search needs
 
 returns : tie.Need-returns
-returns c =
-    subst (λ (set : CharacterSet). Judging set (now (c .before .before .args .body)) _ _) (c .before .set-numbered .ensures) (c .judge-in .ensures)
+returns c = rw (sym (c .before .before .set-numbered .ensures)) (c .judge-in .ensures)
 
 pub x9-record-in-spec : {M : Type 1} → statement M
 x9-record-in-spec = tie.close (tie.spec set-numbered-requires judge-in-requires returns)
