@@ -290,8 +290,8 @@ mod tests {
         let seeds = concat!(env!("CARGO_MANIFEST_DIR"), "/../../fuzz/seeds");
         let mut compared = 0;
         for folder in [samples, seeds] {
-            for entry in std::fs::read_dir(folder).unwrap() {
-                let path = entry.unwrap().path();
+            let paths = std::fs::read_dir(folder).unwrap().map(|entry| entry.unwrap().path());
+            for path in paths.filter(|path| path.is_file()) {
                 compared += compare(&std::fs::read(&path).unwrap(), &path.display().to_string());
             }
         }

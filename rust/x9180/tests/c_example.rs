@@ -11,7 +11,7 @@ fn root() -> PathBuf {
 fn compiled(folder: &Path) -> PathBuf {
     let library = std::env::var_os("X9180_LIB_DIR").map_or_else(|| root().join("target/staticlib"), PathBuf::from);
     let program = folder.join("read");
-    let status = Command::new("cc")
+    let status = Command::new(std::env::var("CC").unwrap_or("cc".to_string()))
         .args(["-std=c99", "-Wall", "-Wextra", "-Werror", "-pedantic", "-I"])
         .args([root().join("include"), root().join("examples/read.c"), library.join("libabi.a")])
         .arg("-o")

@@ -334,9 +334,8 @@ fn sizes() {
 fn no_panic_on_damage() {
     let mut files = Vec::new();
     for name in ["peer/samples", "fuzz/seeds"] {
-        for entry in std::fs::read_dir(folder(name)).unwrap() {
-            files.push(std::fs::read(entry.unwrap().path()).unwrap());
-        }
+        let paths = std::fs::read_dir(folder(name)).unwrap().map(|entry| entry.unwrap().path());
+        files.extend(paths.filter(|path| path.is_file()).map(|path| std::fs::read(path).unwrap()));
     }
     assert!(files.len() > 50);
     let look = |file: &[u8]| {
