@@ -6,6 +6,7 @@ use mathlib.Core.Path.{_≡_, refl}
 use lib.Dec.{eqb}
 use lib.ListN.{length, replicate}
 use Rattle.text.specs.declared.character_set.CharacterSet.the-variants.{Ascii}
+use Rattle.text.specs.Capitals.{capital}
 use Rattle.text.specs.DataTypes.{ofType}
 use Rattle.text.specs.Number.{number}
 use Rattle.field.specs.Values.{isCode}
@@ -121,5 +122,5 @@ allHold (s ∷ ss) = s .holds && allHold ss
 
 -- every sample of the table is as the documents say
 pub samples-hold : allHold samples ≡ true
-unfolding ofType number isCode isDate isTTTTAAAAC partedBy isNNNNNNNNN fitsSome isHoursMinutes isHoursMinutesSeconds follows meets holds judged lineHolds firstWrong firstWrongPart statedSizes follows-last mayFollow
+unfolding ofType number isCode isDate isTTTTAAAAC partedBy isNNNNNNNNN fitsSome isHoursMinutes isHoursMinutesSeconds follows meets holds judged lineHolds firstWrong firstWrongPart statedSizes follows-last mayFollow capital
 samples-hold = refl
