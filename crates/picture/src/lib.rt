@@ -92,7 +92,10 @@ fn in_body(set: CharacterSet, start: usize, body: &[u8]) -> Found
         return Found::TypeRefused;
     }
     match judge::judge_image(set, body) {
-        Judged::Sound => Found::At(start + judge::image_start(set, body), judge::image_size(set, body)),
+        Judged::Sound => Found::At(
+            start + judge::image_start(set, body),
+            judge::image_size(set, body),
+        ),
         Judged::WrongLength => Found::LengthRefused,
         Judged::UnknownType => Found::TypeRefused,
         Judged::WrongField(n) => Found::FieldRefused(n),

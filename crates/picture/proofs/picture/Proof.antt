@@ -25,8 +25,8 @@ returns c =
     let offset = c .before .before .before .before .before .args .offset in
     let found = c .before .before .before .found-at in
     let bytes : now (c .part-of .result) ≡ bytesOf file (pictureAt file offset) =
-        rw (sym (found .ensures), sym (part-found file (found .result)), sym (c .before .before .start .ensures), sym (c .before .size .ensures))
-        (c .part-of .ensures) in
+    rw (sym (found .ensures), sym (part-found file (found .result)), sym (c .before .before .start .ensures), sym (c .before .size .ensures))
+    (c .part-of .ensures) in
     (bytes, λ begins. bytes ∙ sym (bytes-of-copy file offset begins))
 
 pub picture-spec : {M : Type 1} → statement M
