@@ -1,9 +1,10 @@
 -- A field of code page 037 and its translation are one: the same number, the same data type, the same answer from every rule. Assumes nothing.
-use mathlib.Core.Path.{_≡_, refl, ap, _∙_}
+use mathlib.Core.Path.{_≡_, refl, ap, sym, _∙_}
 use mathlib.Core.Bool.{Bool, true, false, _||_}
 use mathlib.Core.List.{List, [], _∷_}
 use Prim.Native.Nat.{ℕ, zero, suc, _+_, _*_}
 use lib.ListN.{length, getD, take, drop, length-map, List·getD-map}
+use Rattle.text.specs.declared.character_set.CharacterSet.{CharacterSet}
 use Rattle.text.specs.declared.character_set.CharacterSet.the-variants.{Ascii, Ebcdic}
 use Rattle.text.specs.declared.data_types.DataType.{DataType}
 use Rattle.text.specs.declared.data_types.DataType.the-variants.{AB, A, AN, ANS, Binary, N, NB, NBD, NBQ, NBMc, NBMcd, NBMcdo, NBMU}
@@ -81,13 +82,21 @@ pub type-alike : (t : DataType) (xs : List ℕ) → ofType Ascii t (translated x
 unfolding ofType
 type-alike t xs = rw (every-alike (admits Ascii t) (admits Ebcdic t) (admits-alike t) xs, gaps-alike false xs)
 
-pub as-alike : (t : DataType) (xs : List ℕ) → ofType Ascii t (copiedAs t xs) ≡ ofType Ebcdic t xs
+-- any bytes are Binary
+any-bytes : (set : CharacterSet) (xs : List ℕ) → ofType set Binary xs ≡ true
 unfolding ofType
+any-bytes set xs = rw (every-byte xs)
+  where
+    every-byte : (ys : List ℕ) → every (admits set Binary) ys ≡ true
+    every-byte [] = refl
+    every-byte (y ∷ ys) = every-byte ys
+
+pub as-alike : (t : DataType) (xs : List ℕ) → ofType Ascii t (copiedAs t xs) ≡ ofType Ebcdic t xs
 as-alike AB xs = type-alike AB xs
 as-alike A xs = type-alike A xs
 as-alike AN xs = type-alike AN xs
 as-alike ANS xs = type-alike ANS xs
-as-alike Binary xs = refl
+as-alike Binary xs = any-bytes Ascii (copiedAs Binary xs) ∙ sym (any-bytes Ebcdic xs)
 as-alike N xs = type-alike N xs
 as-alike NB xs = type-alike NB xs
 as-alike NBD xs = type-alike NBD xs

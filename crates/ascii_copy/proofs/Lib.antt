@@ -4,3 +4,4 @@ pub mod Records
 pub mod Frames
 pub mod SoundCharacters
 pub mod Copies
+pub mod ImageKept

@@ -31,7 +31,7 @@ length-as AB xs = length-translated xs
 length-as A xs = length-translated xs
 length-as AN xs = length-translated xs
 length-as ANS xs = length-translated xs
-length-as Binary xs = refl
+length-as Binary xs = omega (arith, length-translated xs)
 length-as N xs = length-translated xs
 length-as NB xs = length-translated xs
 length-as NBD xs = length-translated xs
@@ -74,7 +74,7 @@ seam (suc n) (z ∷ zs) (x ∷ xs) ys e f =
     (ap (λ (l : List ℕ). x ∷ l) (both .0), both .1)
 
 module _ (b : List ℕ) (e : eqb (typeOf Ebcdic b) 52 ≡ true) where
-  halves : (take 139 (copiedBody b) ≡ translated (take 139 b)) × (drop 139 (copiedBody b) ≡ copiedParts (sizedParts imageViewData) b (drop 139 b))
+  pub halves : (take 139 (copiedBody b) ≡ translated (take 139 b)) × (drop 139 (copiedBody b) ≡ copiedParts (sizedParts imageViewData) b (drop 139 b))
   halves =
       rw (parted b e)
       (seam 139 b (translated (take 139 b)) (copiedParts (sizedParts imageViewData) b (drop 139 b))
@@ -105,7 +105,7 @@ front-copied w b h = by (eqb (typeOf Ebcdic b) 52) refl
     by false e = rw (other-copied b e) (take-translated w b)
 
 -- a part of a list is that of its front
-part-front : (first size : ℕ) (xs : List ℕ) → part first size xs ≡ drop first (take (first + size) xs)
+pub part-front : (first size : ℕ) (xs : List ℕ) → part first size xs ≡ drop first (take (first + size) xs)
 part-front zero size xs = rw zero-add
 part-front (suc first) size [] = rw suc-add (take-nil size)
 part-front (suc first) size (x ∷ xs) = rw suc-add (part-front first size xs)
@@ -184,17 +184,29 @@ module _ (b : List ℕ) where
       rw (size-copied s (both .0), sizes-copied ss (both .1))
 
   -- the parts are walked in step, however far their sizes reach
+  pub apart : (s : Sized) (ss : List Sized) (rest : List ℕ)
+      → (take (statedSize Ebcdic s b) (copiedParts (s ∷ ss) b rest) ≡ copiedAs (s .dataType) (take (statedSize Ebcdic s b) rest))
+      × (drop (statedSize Ebcdic s b) (copiedParts (s ∷ ss) b rest) ≡ copiedParts ss b (drop (statedSize Ebcdic s b) rest))
+  unfolding copiedParts
+  apart s ss rest =
+      let n = statedSize Ebcdic s b in
+      seam n rest (copiedAs (s .dataType) (take n rest)) (copiedParts ss b (drop n rest))
+      (length-as (s .dataType) (take n rest)) (length-parts ss b (drop n rest))
+
   parts-copied : (ss : List Sized) (rest : List ℕ) → sizesWithin ss ≡ true
       → firstWrongPart Ascii ss (copiedBody b) (copiedParts ss b rest) ≡ firstWrongPart Ebcdic ss b rest
-  unfolding firstWrongPart copiedParts
+  unfolding firstWrongPart
   parts-copied [] rest e = refl
   parts-copied (s ∷ ss) rest e =
       let both = both-true (leb (s .first - 1 + s .size) 139) (sizesWithin ss) e in
       let n = statedSize Ebcdic s b in
-      let part = copiedAs (s .dataType) (take n rest) in
-      let later = copiedParts ss b (drop n rest) in
-      let apart = seam n rest part later (length-as (s .dataType) (take n rest)) (length-parts ss b (drop n rest)) in
-      rw (size-copied s (both .0), apart .0, apart .1, as-alike (s .dataType) (take n rest), parts-copied ss (drop n rest) (both .1))
+      rw (
+        size-copied s (both .0),
+        apart s ss rest .0,
+        apart s ss rest .1,
+        as-alike (s .dataType) (take n rest),
+        parts-copied ss (drop n rest) (both .1),
+      )
 
   parts-translated : (ss : List Sized) (rest : List ℕ) → sizesWithin ss ≡ true
       → firstWrongPart Ascii ss (copiedBody b) (translated rest) ≡ firstWrongPart Ebcdic ss b rest

@@ -92,7 +92,10 @@ fn in_body(set: CharacterSet, start: usize, body: &[u8]) -> Found
         return Found::TypeRefused;
     }
     match judge::judge_image(set, body) {
-        Judged::Sound => Found::At(start + judge::image_start(set, body), judge::image_size(set, body)),
+        Judged::Sound => Found::At(
+            start + judge::image_start(set, body),
+            judge::image_size(set, body),
+        ),
         Judged::WrongLength => Found::LengthRefused,
         Judged::UnknownType => Found::TypeRefused,
         Judged::WrongField(n) => Found::FieldRefused(n),
@@ -125,9 +128,11 @@ pub fn find_picture(file: &[u8], offset: usize) -> Found
     found_at(file, offset)
 }
 
-// The picture call: the Image Data part of the 52 whose length field stands at an offset, or an empty part.
+// The picture call: the Image Data part of the 52 whose length field stands at an offset, or an empty part. Image Data is Binary and never
+// translated: where a record begins, the part is that of the file's ASCII copy (request 5).
 pub fn picture(file: &[u8], offset: usize) -> &[u8]
-    ensures { λ r. ⌜ now r ≡ bytesOf (now (file .entry)) (pictureAt (now (file .entry)) offset) ⌝ }
+    ensures bytes { λ r. ⌜ now r ≡ bytesOf (now (file .entry)) (pictureAt (now (file .entry)) offset) ⌝ }
+    ensures copy { λ r. ⌜ (Begins (now (file .entry)) offset → now r ≡ bytesOf (asciiCopy (now (file .entry))) (pictureAt (asciiCopy (now (file .entry))) offset)) ⌝ }
 {
     let found = found_at(file, offset);
     frame::part_of(file, found.start(), found.size())
