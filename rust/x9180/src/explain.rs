@@ -122,9 +122,8 @@ fn describe(words: &mut Words, fault: &Fault<'_>, name: &str) {
         Number::LENGTH => words.lines.extend(wrong_length(words.kind, fault)),
         Number::TYPE => wrong_type(words, fault),
         Number::AFTER => {
-            words.find(fault.rest, &format!("{}: ", counted(fault.rest.len(), "more byte")), |bytes| {
-                shown(fault.set, bytes)
-            });
+            let what = format!("{}: ", counted(fault.rest.len(), "more byte"));
+            words.find(fault.rest, &what, |bytes| shown(fault.set, bytes));
         }
         Number::FIELD | Number::LINK | Number::TOTAL if fault.field != 0 => found_field(words, fault),
         _ => {}
@@ -165,7 +164,8 @@ fn wrong_check_digit(set: CharacterSet, field: &Field, bytes: &[u8]) -> Option<S
     (found != right).then(|| format!("the check digit is wrong: it is {found} and should be {right}"))
 }
 
-/// Request 5: a byte of an EBCDIC file that is none of the characters of clause 5 is in no data type. Which one it is, since text cannot show it.
+/// Request 5: a byte of an EBCDIC file that is none of the characters of clause 5 is in no data type. Says which one and where, since text
+/// cannot show it.
 fn without_character(fault: &Fault<'_>, start: usize, bytes: &[u8]) -> Option<String> {
     let is_none = |(_, byte): &(usize, &u8)| fault.set == CharacterSet::Ebcdic && fault.set.character(**byte).is_none();
     let mut strangers = (start..).zip(bytes).filter(is_none);

@@ -3,7 +3,7 @@
 
 use peer_reader::copy::{copy, to_ebcdic};
 use x9180::CharacterSet::{Ascii, Ebcdic};
-use x9180::{picture, read, record, CharacterSet, DataType, ItemKind, Number, Reading, Refusal, Row};
+use x9180::{picture, read, record, CharacterSet, DataType, ItemKind, Number, Reading, Refusal, Row, Totals};
 
 fn folder(name: &str) -> std::path::PathBuf {
     std::path::Path::new(env!("CARGO_MANIFEST_DIR")).join("../..").join(name)
@@ -109,10 +109,10 @@ fn compare_fields(file: &[u8], copy: &[u8], rows: &[Row]) -> u64 {
 }
 
 /// What a file and its copy have in common: rows and totals, or the numbers of the refusal.
-fn outcome(read: &Result<Reading, Refusal>) -> Result<(&[Row], x9180::Totals), (Number, u64, u64, u64)> {
+fn outcome(read: &Result<Reading, Refusal>) -> (String, Vec<Row>, Totals) {
     match read {
-        Ok(reading) => Ok((reading.rows(), reading.totals())),
-        Err(refusal) => Err((refusal.number(), refusal.record(), refusal.field(), refusal.offset())),
+        Ok(reading) => (reading.line(), reading.rows().to_vec(), reading.totals()),
+        Err(refusal) => (refusal.line(), Vec::new(), Totals::default()),
     }
 }
 
