@@ -1,6 +1,6 @@
 -- One turn of each loop, on plain lists. Assumes nothing.
 use mathlib.Core.Path.{_≡_, refl, ap, sym, _∙_}
-use mathlib.Core.Bool.{Bool, true, false, _&&_, _||_, cond}
+use mathlib.Core.Bool.{Bool, true, false, _&&_, _||_, not, cond}
 use mathlib.Core.List.{List, [], _∷_}
 use Prim.Native.Nat.{ℕ, suc, _+_, _-_, _*_, _^_, _≤_, _<_}
 use native.Mathlib.Numerals.{add-one}
@@ -14,8 +14,9 @@ use Rattle.text.specs.declared.character_set.CharacterSet.{CharacterSet}
 use Rattle.text.specs.declared.character_set.CharacterSet.the-variants.{Ascii, Ebcdic}
 use Rattle.text.specs.Ranges.{within}
 use Rattle.text.specs.Characters.{isBlank, isNumeric}
+use Rattle.text.specs.declared.data_types.DataType.{DataType}
 use Rattle.text.specs.declared.data_types.DataType.the-variants.{Binary}
-use Rattle.text.specs.DataTypes.{every, some, blankAfter, admits}
+use Rattle.text.specs.DataTypes.{every, some, blankAfter, blankEmbedded, admits, keepsDigitsTogether, ofType}
 use Rattle.text.specs.Number.{codeOfZero, digit, valueAfter, number}
 
 -- what is left at i is the element there and what is left after it
@@ -104,10 +105,21 @@ ten-more i = rw add-one (pow-suc 10 i)
 pub ten-top : (i : ℕ) → i ≤ 18 → 10 ^ i ≤ 10 ^ 18
 ten-top i h = pow-le-pow-right (omega arith) h
 
--- binary data is limited to nothing
-pub binary-passes : (set : CharacterSet) (xs : List ℕ) → true ≡ every (admits set Binary) xs
+-- binary data is of its type, whatever it is
+pub binary-passes : (set : CharacterSet) (xs : List ℕ) → true ≡ ofType set Binary xs
+unfolding ofType
 binary-passes set [] = refl
 binary-passes set (x ∷ xs) = binary-passes set xs
+
+-- the type of a field by what its loops find, at a type that is known
+module _ (set : CharacterSet) (t known : DataType) (xs : List ℕ) (e : t ≡ known) where
+  pub together : keepsDigitsTogether known ≡ true → every (admits set known) xs && not (blankEmbedded set xs) ≡ ofType set t xs
+  unfolding ofType
+  together k = rw (e, k)
+
+  pub apart : keepsDigitsTogether known ≡ false → every (admits set known) xs ≡ ofType set t xs
+  unfolding ofType
+  apart k = rw (e, k) (sym (and-true (every (admits set known) xs)))
 
 -- a character is a digit by its place after the zero of its set
 pub digit-told : (set : CharacterSet) (x : ℕ) → digit set x ≡ cond (within (codeOfZero set) (codeOfZero set + 9) x) (x - codeOfZero set) 0

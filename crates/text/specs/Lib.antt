@@ -3,5 +3,4 @@ pub mod CharacterSet
 pub mod Characters
 pub mod Capitals
 pub mod DataTypes
-pub mod Told
 pub mod Number

@@ -16,7 +16,6 @@ pub use characters::is_questionable;
 pub use characters::is_special;
 pub use characters::is_transit_symbol;
 pub use data_types::DataType;
-pub use data_types::Told;
 pub use data_types::admits_in_ascii;
 pub use data_types::admits_in_ebcdic;
 pub use data_types::is_alphanumeric_special;
@@ -28,7 +27,7 @@ ghost use Rattle.text.specs.declared.character_set.CharacterSet.the-vari
 ghost use Rattle.text.specs.Characters.{isBlank, isNumeric};
 ghost use Rattle.text.specs.Ranges.{within};
 ghost use Rattle.text.specs.Capitals.{capital};
-ghost use Rattle.text.specs.DataTypes.{every, some, admits, keepsDigitsTogether, blankEmbedded, ofType, isMark};
+ghost use Rattle.text.specs.DataTypes.{every, some, admits, blankEmbedded, ofType, isMark};
 ghost use Rattle.text.specs.Number.{codeOfZero, digit, valueAfter, number};
 
 fn is_within(low: u8, high: u8, x: u8) -> bool
@@ -166,10 +165,10 @@ pub fn blank_embedded(set: CharacterSet, s: &[u8]) -> bool
     blank_between_digits(set, s)
 }
 
-// The characters of a field, each type named at its call, so that the compiler makes a loop of its own for each. Binary data is passed
-// unread.
-fn limited_in_ascii(t: DataType, s: &[u8]) -> bool
-    ensures { λ r. ⌜ r ≡ every (admits Ascii t) (now (s .entry)) ⌝ }
+// Whether a field is of its data type. Binary data is passed unread. Each type is named at its call, so that the compiler makes a loop of its own
+// for each (and it does so only while some arms differ in form: else it makes one call of them all).
+fn of_type_in_ascii(t: DataType, s: &[u8]) -> bool
+    ensures { λ r. ⌜ r ≡ ofType Ascii t (now (s .entry)) ⌝ }
 {
     match t {
         DataType::AB => all_in_ascii(DataType::AB, s),
@@ -178,9 +177,9 @@ fn limited_in_ascii(t: DataType, s: &[u8]) -> bool
         DataType::ANS => all_in_ascii(DataType::ANS, s),
         DataType::Binary => true,
         DataType::N => all_in_ascii(DataType::N, s),
-        DataType::NB => all_in_ascii(DataType::NB, s),
-        DataType::NBD => all_in_ascii(DataType::NBD, s),
-        DataType::NBQ => all_in_ascii(DataType::NBQ, s),
+        DataType::NB => all_in_ascii(DataType::NB, s) & !blank_embedded(CharacterSet::Ascii, s),
+        DataType::NBD => all_in_ascii(DataType::NBD, s) & !blank_embedded(CharacterSet::Ascii, s),
+        DataType::NBQ => all_in_ascii(DataType::NBQ, s) & !blank_embedded(CharacterSet::Ascii, s),
         DataType::NBMc => all_in_ascii(DataType::NBMc, s),
         DataType::NBMcd => all_in_ascii(DataType::NBMcd, s),
         DataType::NBMcdo => all_in_ascii(DataType::NBMcdo, s),
@@ -188,8 +187,8 @@ fn limited_in_ascii(t: DataType, s: &[u8]) -> bool
     }
 }
 
-fn limited_in_ebcdic(t: DataType, s: &[u8]) -> bool
-    ensures { λ r. ⌜ r ≡ every (admits Ebcdic t) (now (s .entry)) ⌝ }
+fn of_type_in_ebcdic(t: DataType, s: &[u8]) -> bool
+    ensures { λ r. ⌜ r ≡ ofType Ebcdic t (now (s .entry)) ⌝ }
 {
     match t {
         DataType::AB => all_in_ebcdic(DataType::AB, s),
@@ -198,9 +197,9 @@ fn limited_in_ebcdic(t: DataType, s: &[u8]) -> bool
         DataType::ANS => all_in_ebcdic(DataType::ANS, s),
         DataType::Binary => true,
         DataType::N => all_in_ebcdic(DataType::N, s),
-        DataType::NB => all_in_ebcdic(DataType::NB, s),
-        DataType::NBD => all_in_ebcdic(DataType::NBD, s),
-        DataType::NBQ => all_in_ebcdic(DataType::NBQ, s),
+        DataType::NB => all_in_ebcdic(DataType::NB, s) & !blank_embedded(CharacterSet::Ebcdic, s),
+        DataType::NBD => all_in_ebcdic(DataType::NBD, s) & !blank_embedded(CharacterSet::Ebcdic, s),
+        DataType::NBQ => all_in_ebcdic(DataType::NBQ, s) & !blank_embedded(CharacterSet::Ebcdic, s),
         DataType::NBMc => all_in_ebcdic(DataType::NBMc, s),
         DataType::NBMcd => all_in_ebcdic(DataType::NBMcd, s),
         DataType::NBMcdo => all_in_ebcdic(DataType::NBMcdo, s),
@@ -208,47 +207,13 @@ fn limited_in_ebcdic(t: DataType, s: &[u8]) -> bool
     }
 }
 
-fn is_limited(set: CharacterSet, t: DataType, s: &[u8]) -> bool
-    ensures { λ r. ⌜ r ≡ every (admits set t) (now (s .entry)) ⌝ }
-{
-    match set {
-        CharacterSet::Ascii => limited_in_ascii(t, s),
-        CharacterSet::Ebcdic => limited_in_ebcdic(t, s),
-    }
-}
-
-// Clauses 5.3.8 to 5.3.10.
-fn keeps_digits_together(t: DataType) -> bool
-    ensures { λ r. ⌜ r ≡ keepsDigitsTogether t ⌝ }
-{
-    match t {
-        DataType::AB => false,
-        DataType::A => false,
-        DataType::AN => false,
-        DataType::ANS => false,
-        DataType::Binary => false,
-        DataType::N => false,
-        DataType::NB => true,
-        DataType::NBD => true,
-        DataType::NBQ => true,
-        DataType::NBMc => false,
-        DataType::NBMcd => false,
-        DataType::NBMcdo => false,
-        DataType::NBMU => false,
-    }
-}
-
-// Whether a field is of its data type.
 pub fn of_type(set: CharacterSet, t: DataType, s: &[u8]) -> bool
     ensures { λ r. ⌜ r ≡ ofType set t (now (s .entry)) ⌝ }
 {
-    if !is_limited(set, t, s) {
-        return false;
+    match set {
+        CharacterSet::Ascii => of_type_in_ascii(t, s),
+        CharacterSet::Ebcdic => of_type_in_ebcdic(t, s),
     }
-    if keeps_digits_together(t) {
-        return !blank_embedded(set, s);
-    }
-    true
 }
 
 pub fn all_blank(set: CharacterSet, s: &[u8]) -> bool
