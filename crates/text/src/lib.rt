@@ -21,7 +21,8 @@ pub use data_types::admits_in_ebcdic;
 pub use data_types::is_alphanumeric_special;
 pub use data_types::is_mark;
 ghost use mathlib.Core.Path.{_≡_};
-ghost use Prim.Native.Nat.{_<_, _≤_, _^_};
+ghost use Prim.Native.Nat.{ℕ, _<_, _≤_, _^_};
+ghost use lib.Dec.{eqb};
 ghost use lib.ListN.{length, take};
 ghost use Rattle.text.specs.declared.character_set.CharacterSet.the-variants.{Ascii, Ebcdic};
 ghost use Rattle.text.specs.Characters.{isBlank, isNumeric};
@@ -216,16 +217,51 @@ pub fn of_type(set: CharacterSet, t: DataType, s: &[u8]) -> bool
     }
 }
 
+// The code of the blank, for a loop that serves both sets.
+fn code_of_blank(set: CharacterSet) -> u8
+    ensures { λ r. ⌜ ((x : ℕ) → isBlank set x ≡ eqb x r) ⌝ }
+{
+    match set {
+        CharacterSet::Ascii => b' ',
+        CharacterSet::Ebcdic => 0x40,
+    }
+}
+
 pub fn all_blank(set: CharacterSet, s: &[u8]) -> bool
     ensures { λ r. ⌜ r ≡ every (isBlank set) (now (s .entry)) ⌝ }
 {
-    all_admitted(set, DataType::AB, s)
+    let blank = code_of_blank(set);
+    let mut all = true;
+    let mut i = 0;
+    while i < s.len() {
+        all = all & (s[i] == blank);
+        i += 1;
+    }
+    all
+}
+
+// The digits stand in a row in either set.
+fn code_of_zero(set: CharacterSet) -> u8
+    ensures { λ r. ⌜ (r ≡ codeOfZero set) × (r ≤ 0xF0) ⌝ }
+{
+    match set {
+        CharacterSet::Ascii => b'0',
+        CharacterSet::Ebcdic => 0xF0,
+    }
 }
 
 pub fn all_numeric(set: CharacterSet, s: &[u8]) -> bool
     ensures { λ r. ⌜ r ≡ every (isNumeric set) (now (s .entry)) ⌝ }
 {
-    all_admitted(set, DataType::N, s)
+    let zero = code_of_zero(set);
+    let nine = zero + 9;
+    let mut all = true;
+    let mut i = 0;
+    while i < s.len() {
+        all = all & is_within(zero, nine, s[i]);
+        i += 1;
+    }
+    all
 }
 
 pub fn some_numeric(set: CharacterSet, s: &[u8]) -> bool
@@ -241,24 +277,16 @@ pub fn some_numeric(set: CharacterSet, s: &[u8]) -> bool
     false
 }
 
-fn code_of_zero(set: CharacterSet) -> u8
-    ensures { λ r. ⌜ (r ≡ codeOfZero set) × (r ≤ 0xF0) ⌝ }
-{
-    match set {
-        CharacterSet::Ascii => b'0',
-        CharacterSet::Ebcdic => 0xF0,
-    }
-}
-
-// The digits stand in a row in either set.
 pub fn digit_of(set: CharacterSet, x: u8) -> u64
     ensures { λ r. ⌜ (r ≡ digit set x) × (r ≤ 9) ⌝ }
 {
     let zero = code_of_zero(set);
-    if zero <= x {
-        if x <= zero + 9 {
-            return (x - zero) as u64;
-        }
+    if x < zero {
+        return 0;
+    }
+    let digit = x - zero;
+    if digit <= 9 {
+        return digit as u64;
     }
     0
 }
