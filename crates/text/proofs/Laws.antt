@@ -105,11 +105,6 @@ ten-more i = rw add-one (pow-suc 10 i)
 pub ten-top : (i : ℕ) → i ≤ 18 → 10 ^ i ≤ 10 ^ 18
 ten-top i h = pow-le-pow-right (omega arith) h
 
--- tests that agree at every number agree on every list
-pub every-same : (test other : ℕ → Bool) → ((x : ℕ) → test x ≡ other x) → (xs : List ℕ) → every test xs ≡ every other xs
-every-same test other e [] = refl
-every-same test other e (x ∷ xs) = rw (e x, every-same test other e xs)
-
 -- binary data is of its type, whatever it is
 pub binary-passes : (set : CharacterSet) (xs : List ℕ) → true ≡ ofType set Binary xs
 unfolding ofType
@@ -127,10 +122,6 @@ module _ (set : CharacterSet) (t known : DataType) (xs : List ℕ) (e : t ≡ kn
   apart k = rw (e, k) (sym (and-true (every (admits set known) xs)))
 
 -- a character is a digit by its place after the zero of its set
-pub numeric-told : (set : CharacterSet) (x : ℕ) → isNumeric set x ≡ within (codeOfZero set) (codeOfZero set + 9) x
-numeric-told Ascii x = refl
-numeric-told Ebcdic x = refl
-
 pub digit-told : (set : CharacterSet) (x : ℕ) → digit set x ≡ cond (within (codeOfZero set) (codeOfZero set + 9) x) (x - codeOfZero set) 0
 digit-told Ascii x = refl
 digit-told Ebcdic x = refl

@@ -21,8 +21,7 @@ pub use data_types::admits_in_ebcdic;
 pub use data_types::is_alphanumeric_special;
 pub use data_types::is_mark;
 ghost use mathlib.Core.Path.{_≡_};
-ghost use Prim.Native.Nat.{ℕ, _<_, _≤_, _^_};
-ghost use lib.Dec.{eqb};
+ghost use Prim.Native.Nat.{_<_, _≤_, _^_};
 ghost use lib.ListN.{length, take};
 ghost use Rattle.text.specs.declared.character_set.CharacterSet.the-variants.{Ascii, Ebcdic};
 ghost use Rattle.text.specs.Characters.{isBlank, isNumeric};
@@ -217,27 +216,16 @@ pub fn of_type(set: CharacterSet, t: DataType, s: &[u8]) -> bool
     }
 }
 
-// The code of the blank, for a loop that serves both sets.
-fn code_of_blank(set: CharacterSet) -> u8
-    ensures { λ r. ⌜ ((x : ℕ) → isBlank set x ≡ eqb x r) ⌝ }
-{
-    match set {
-        CharacterSet::Ascii => b' ',
-        CharacterSet::Ebcdic => 0x40,
-    }
-}
-
 pub fn all_blank(set: CharacterSet, s: &[u8]) -> bool
     ensures { λ r. ⌜ r ≡ every (isBlank set) (now (s .entry)) ⌝ }
 {
-    let blank = code_of_blank(set);
-    let mut all = true;
-    let mut i = 0;
-    while i < s.len() {
-        all = all & (s[i] == blank);
-        i += 1;
-    }
-    all
+    all_admitted(set, DataType::AB, s)
+}
+
+pub fn all_numeric(set: CharacterSet, s: &[u8]) -> bool
+    ensures { λ r. ⌜ r ≡ every (isNumeric set) (now (s .entry)) ⌝ }
+{
+    all_admitted(set, DataType::N, s)
 }
 
 // The digits stand in a row in either set.
@@ -248,20 +236,6 @@ fn code_of_zero(set: CharacterSet) -> u8
         CharacterSet::Ascii => b'0',
         CharacterSet::Ebcdic => 0xF0,
     }
-}
-
-pub fn all_numeric(set: CharacterSet, s: &[u8]) -> bool
-    ensures { λ r. ⌜ r ≡ every (isNumeric set) (now (s .entry)) ⌝ }
-{
-    let zero = code_of_zero(set);
-    let nine = zero + 9;
-    let mut all = true;
-    let mut i = 0;
-    while i < s.len() {
-        all = all & is_within(zero, nine, s[i]);
-        i += 1;
-    }
-    all
 }
 
 pub fn some_numeric(set: CharacterSet, s: &[u8]) -> bool
