@@ -40,6 +40,13 @@ uint64_t x9_picture(const uint8_t *file, size_t file_len, uint64_t offset, uint6
  *   [0] the number   [1] the field at fault, 0 unless FIELD */
 uint64_t x9_record(const uint8_t *body, size_t body_len, uint64_t answer[2]);
 
+/* The same in the character set that is told: 1 is EBCDIC (code page 037), any other number ASCII. A body does not tell its set, and
+ * x9_record judges it as ASCII. A file does: x9_read and x9_picture take it as EBCDIC where its bytes 5 and 6, the first two characters
+ * after the first length, are F0 F1, and as ASCII otherwise. An EBCDIC file gets the answer and the rows of its copy in ASCII, in which
+ * the Binary parts of a 52 are as they were. A byte for which code page 037 has none of the 95 printable characters of clause 5 is in no
+ * data type. */
+uint64_t x9_record_in(const uint8_t *body, size_t body_len, uint64_t set, uint64_t answer[2]);
+
 #ifdef __cplusplus
 }
 #endif

@@ -111,18 +111,25 @@ fn growth(name: &str, seed: u64, shape: Shape, table: &mut [u64], other: &mut [u
     }
 }
 
-/// The proved calls alone on files without pictures, for a profiler: so many MiB, so many times.
-fn profile(seed: u64, size: usize, times: usize) {
-    let batch = Batch::one(file(seed, Shape::NoPictures, size * MIB));
+/// One contender alone on files without pictures, for a profiler: so many MiB, so many times. 0 is the proved library, 1 that in EBCDIC, 2 the
+/// independent reader, 3 that in EBCDIC.
+fn profile(seed: u64, size: usize, times: usize, which: usize) {
+    let ascii = Batch::one(file(seed, Shape::NoPictures, size * MIB));
+    let batch = if which % 2 == 1 { ascii.in_ebcdic() } else { ascii };
     let mut table = vec![1; size * MIB / 80 * 7];
-    (0..times).for_each(|_| run(proved, &batch, &mut table));
+    for _ in 0..times {
+        match which {
+            0 | 1 => run(proved, &batch, &mut table),
+            _ => run(independent, &batch, &mut table),
+        }
+    }
 }
 
 fn main() {
     let given: Vec<usize> = env::args().skip(1).map(|word| word.parse().expect("the arguments are numbers")).collect();
     let seed = given.first().copied().unwrap_or(180) as u64;
-    if let [_, size, times] = given[..] {
-        return profile(seed, size, times);
+    if let [_, size, times, ref which @ ..] = given[..] {
+        return profile(seed, size, times, which.first().copied().unwrap_or(0));
     }
     eprintln!("seed {seed}");
     // Lent tables, touched throughout before anything is timed.

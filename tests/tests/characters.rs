@@ -1,6 +1,8 @@
-//! Request 3: the character rules can be laid beside clause 5.
+//! Request 3: the character rules can be laid beside clause 5; request 5: in ASCII and in EBCDIC.
+use peer_reader::charset;
 use record_tests::characters::expected_lines;
 use record_tests::characters::page;
+use record_tests::ebcdic::Set;
 use std::fs;
 use std::path::Path;
 use std::path::PathBuf;
@@ -21,11 +23,29 @@ fn answers() -> String {
     String::from_utf8(output.stdout).expect("lines of text")
 }
 
-/// The program's expected output, which the gate holds against it, comes from Tables 1 and 2 and not from the program.
+/// The program's expected output, which the gate holds against it, comes from Tables 1 and 2 and code page 037 and not from the program.
 #[test]
 fn the_lines_expected_of_the_program_are_those_of_tables_1_and_2() {
-    assert!(text("crates/characters/stdout") == expected_lines(), "crates/characters/stdout is not Tables 1 and 2");
+    assert!(
+        text("crates/characters/stdout") == expected_lines(),
+        "crates/characters/stdout is not Tables 1 and 2: the program characters_expected of this package makes it"
+    );
     assert!(answers() == expected_lines(), "the proved code does not answer as Tables 1 and 2");
+}
+
+/// Code page 037 was typed twice, here and for the independent reader.
+#[test]
+fn the_code_page_is_that_of_the_independent_reader() {
+    for byte in 0..=255 {
+        assert_eq!(Set::Ebcdic.to_ascii(&[byte]), [charset::Set::Ebcdic.character(byte)], "{byte:02X}");
+    }
+}
+
+/// The five characters at which Table 1's own EBCDIC column differs from the code page, as the page for staff has them.
+#[test]
+fn the_code_page_decides_the_five_characters_of_table_1() {
+    assert_eq!(Set::Ebcdic.from_ascii(b"[]^`|"), [0xBA, 0xBB, 0xB0, 0x79, 0x4F]);
+    assert_eq!(Set::Ebcdic.to_ascii(&[0x4A, 0x4F, 0x5F, 0xB9, 0x6A]), *b"\0|\0\0\0");
 }
 
 #[test]
@@ -96,13 +116,13 @@ fn the_search_for_lookups_finds_them() {
     assert!(!holds_a_lookup("x[256]"));
 }
 
-/// A file that holds the functions of one clause holds nothing else, in the order of the clause.
+/// A file that holds the functions of one clause holds nothing else, in the order of the clause, and each answers in both sets.
 #[test]
 fn the_basic_types_stand_alone_in_the_order_of_the_clause() {
     let clauses = ["5.1.1", "5.1.2", "5.1.3", "5.1.4", "5.1.5", "5.2.1", "5.2.2", "5.2.3", "5.2.4", "5.2.5"];
-    for (path, comment, opening) in [
-        ("crates/text/src/characters.rt", "// ", "pub fn "),
-        ("crates/text/specs/Characters.antt", "-- ", "abbrev pub "),
+    for (path, comment, opening, sets) in [
+        ("crates/text/src/characters.rt", "// ", "pub fn ", ["CharacterSet::Ascii =>", "CharacterSet::Ebcdic =>"]),
+        ("crates/text/specs/Characters.antt", "-- ", "abbrev pub ", [" Ascii x =", " Ebcdic x ="]),
     ] {
         let text = text(path);
         let said: Vec<&str> = text
@@ -112,6 +132,10 @@ fn the_basic_types_stand_alone_in_the_order_of_the_clause() {
             .filter(|word| word.starts_with("5."))
             .collect();
         assert_eq!(said, clauses, "{path}: the clauses in their order");
-        assert_eq!(text.matches(opening).count(), clauses.len(), "{path}: a function for each clause and no other");
+        let functions: Vec<&str> = text.split(opening).skip(1).collect();
+        assert_eq!(functions.len(), clauses.len(), "{path}: a function for each clause and no other");
+        for function in functions {
+            assert_eq!(sets.map(|set| function.matches(set).count()), [1, 1], "{path}: once in each set: {function}");
+        }
     }
 }

@@ -3,6 +3,7 @@ use Prim.Native.Nat.{ℕ}
 use mathlib.Core.List.{List}
 use mathlib.Core.Path.{_≡_, sym, _∙_}
 use lib.ListN.{length}
+use Rattle.text.specs.declared.character_set.CharacterSet.{CharacterSet}
 use Rattle.picture.specs.Picture.{pictureAt, bytesOf}
 use Rattle.picture.specs.declared.Found.{Found}
 use Rattle.passes.specs.Answers.{answerNumber, numbersOf}
@@ -37,13 +38,14 @@ pub one-picturing : (file : List ℕ) (offset : ℕ) {n m : ℕ} {place other : 
     → Picturing file offset n place → Picturing file offset m other → (n ≡ m) × (place ≡ other)
 one-picturing file offset r s = (one (r .number) (s .number), one (r .place) (s .place))
 
--- x9_record: the number and the two numbers
-pub record Judging (body : List ℕ) (n : ℕ) (numbers : List ℕ) : Type 0 where
-  pub number : n ≡ alone.numberOf (alone.judgedRecord body)
-  pub answer : numbers ≡ judgementOf (alone.judgedRecord body)
+-- x9_record, which judges a body as ASCII, and x9_record_in, which is told the set: the number and the two numbers
+pub record Judging (set : CharacterSet) (body : List ℕ) (n : ℕ) (numbers : List ℕ) : Type 0 where
+  pub number : n ≡ alone.numberOf (alone.judgedRecord set body)
+  pub answer : numbers ≡ judgementOf (alone.judgedRecord set body)
 
-pub one-judging : (body : List ℕ) {n m : ℕ} {answer other : List ℕ} → Judging body n answer → Judging body m other → (n ≡ m) × (answer ≡ other)
-one-judging body r s = (one (r .number) (s .number), one (r .answer) (s .answer))
+pub one-judging : (set : CharacterSet) (body : List ℕ) {n m : ℕ} {answer other : List ℕ}
+    → Judging set body n answer → Judging set body m other → (n ≡ m) × (answer ≡ other)
+one-judging set body r s = (one (r .number) (s .number), one (r .answer) (s .answer))
 
 -- the calls of the Rattle crates: reader::read, picture::picture and picture::find_picture
 pub one-answer : (file table : List ℕ) {a b : Answer} {after later : List ℕ}

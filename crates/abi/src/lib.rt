@@ -1,5 +1,9 @@
 // The calls for C and Rust (include/x9180.h).
 use passes::Answer;
+use text::CharacterSet;
+ghost use mathlib.Core.Path.{_≡_};
+ghost use Rattle.text.specs.declared.character_set.CharacterSet.the-variants.{Ascii};
+ghost use Rattle.abi.specs.Filled.{setNumbered};
 ghost use Rattle.abi.specs.Outcomes.{Reading, Picturing, Judging};
 
 // The reading of a whole file: the number, in `table` the rows of an accepted file, and in `answer` number, record, field, offset, and
@@ -59,14 +63,38 @@ pub extern "C" fn x9_picture(file: &[u8], offset: u64, place: &mut [u64; 4]) -> 
     number
 }
 
-// One record judged alone, from its body: the number, and in `answer` number and field.
-#[no_mangle]
-pub extern "C" fn x9_record(body: &[u8], answer: &mut [u64; 2]) -> u64
-    ensures { λ r. ⌜ Judging (now (body .entry)) r (now (answer .exit)) ⌝ }
+// One record judged alone, from its body in a set.
+fn judge_in(set: CharacterSet, body: &[u8], answer: &mut [u64; 2]) -> u64
+    ensures { λ r. ⌜ Judging set (now (body .entry)) r (now (answer .exit)) ⌝ }
 {
-    let judged = judge::judge_record(body);
+    let judged = judge::judge_record(set, body);
     let number = judged.number();
     let field = judged.field() as u64;
     *answer = [number, field];
     number
+}
+
+// One record judged alone as ASCII: the number, and in `answer` number and field.
+#[no_mangle]
+pub extern "C" fn x9_record(body: &[u8], answer: &mut [u64; 2]) -> u64
+    ensures { λ r. ⌜ Judging Ascii (now (body .entry)) r (now (answer .exit)) ⌝ }
+{
+    judge_in(CharacterSet::Ascii, body, answer)
+}
+
+fn set_numbered(n: u64) -> CharacterSet
+    ensures { λ r. ⌜ r ≡ setNumbered n ⌝ }
+{
+    if n == 1 {
+        return CharacterSet::Ebcdic;
+    }
+    CharacterSet::Ascii
+}
+
+// The same of a record whose set the caller tells: 1 is EBCDIC, any other number ASCII.
+#[no_mangle]
+pub extern "C" fn x9_record_in(body: &[u8], set: u64, answer: &mut [u64; 2]) -> u64
+    ensures { λ r. ⌜ Judging (setNumbered set) (now (body .entry)) r (now (answer .exit)) ⌝ }
+{
+    judge_in(set_numbered(set), body, answer)
 }

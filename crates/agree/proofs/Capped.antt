@@ -6,6 +6,7 @@ use mathlib.Core.List.{List}
 use mathlib.Core.Path.{_≡_, refl}
 use lib.Dec.{eqb}
 use lib.ListN.{drop, length-take}
+use Rattle.text.specs.declared.character_set.CharacterSet.{CharacterSet}
 use Rattle.text.specs.Number.{number}
 use Rattle.text.proofs.Laws.{number-below}
 use Rattle.measure.specs.Measures.{capped}
@@ -17,26 +18,26 @@ use Rattle.agree.specs.Links.{linkFault}
 use Rattle.agree.specs.Totals.{totalFault}
 
 -- a control field has 16 digits at most
-stated-capped : (file : List ℕ) (offset first size n : ℕ) → size ≤ 16
-    → eqb (number (characters file offset first size)) (capped n) ≡ eqb (number (characters file offset first size)) n
-stated-capped file offset first size n h =
-    capped-stated (number (characters file offset first size)) n
-    (number-below (characters file offset first size) 16 (omega (arith, length-take size (drop (offset + 4 + (first - 1)) file))))
+stated-capped : (set : CharacterSet) (file : List ℕ) (offset first size n : ℕ) → size ≤ 16
+    → eqb (number set (characters file offset first size)) (capped n) ≡ eqb (number set (characters file offset first size)) n
+stated-capped set file offset first size n h =
+    capped-stated (number set (characters file offset first size)) n
+    (number-below set (characters file offset first size) 16 (omega (arith, length-take size (drop (offset + 4 + (first - 1)) file))))
 
-module _ (file : List ℕ) (s : Standing) (k offset : ℕ) where
-  pub link-capped : linkFault file (cappedFigures s) k offset ≡ linkFault file s k offset
+module _ (set : CharacterSet) (file : List ℕ) (s : Standing) (k offset : ℕ) where
+  pub link-capped : linkFault set file (cappedFigures s) k offset ≡ linkFault set file s k offset
   unfolding linkFault
   link-capped = refl
 
   -- the cents of the 70's fields 3 and 7, the 90's 4 and 9, the 99's 5 and 8
-  pub total-capped : totalFault file (cappedFigures s) k offset ≡ totalFault file s k offset
+  pub total-capped : totalFault set file (cappedFigures s) k offset ≡ totalFault set file s k offset
   unfolding totalFault
   total-capped =
       rw (
-        stated-capped file offset 7 12 (s .bundle .debit .0) (omega arith),
-        stated-capped file offset 40 12 (s .bundle .credit .0) (omega arith),
-        stated-capped file offset 17 14 (s .letter .debit .0) (omega arith),
-        stated-capped file offset 72 14 (s .letter .credit .0) (omega arith),
-        stated-capped file offset 25 16 (s .whole .debit .0) (omega arith),
-        stated-capped file offset 65 16 (s .whole .credit .0) (omega arith),
+        stated-capped set file offset 7 12 (s .bundle .debit .0) (omega arith),
+        stated-capped set file offset 40 12 (s .bundle .credit .0) (omega arith),
+        stated-capped set file offset 17 14 (s .letter .debit .0) (omega arith),
+        stated-capped set file offset 72 14 (s .letter .credit .0) (omega arith),
+        stated-capped set file offset 25 16 (s .whole .debit .0) (omega arith),
+        stated-capped set file offset 65 16 (s .whole .credit .0) (omega arith),
       )

@@ -6,6 +6,7 @@ use Prim.Native.Nat.{ℕ, suc, _+_, _≤_, _<_}
 use native.Mathlib.Omega.{arith}
 use lib.Dec.{eqb}
 use lib.ListN.{length, getD, drop, drop-of-length-le}
+use Rattle.text.specs.declared.character_set.CharacterSet.{CharacterSet}
 use Rattle.text.proofs.Laws.{rest}
 use Rattle.standing.specs.History.{characters}
 use Rattle.standing.specs.declared.Standing.{Standing}
@@ -48,19 +49,19 @@ sequence-at false true file item = refl
 sequence-at false false file item = refl
 
 -- the links of a 52, by the header over it and by the place of the sequence number in its item
-abbrev pub linksBy : List ℕ → Standing → ℕ → ℕ → ℕ → List Check
-linksBy file s over place offset =
+abbrev pub linksBy : CharacterSet → List ℕ → Standing → ℕ → ℕ → ℕ → List Check
+linksBy set file s over place offset =
     check 2 (same (characters file offset 3 9) (characters file over 14 9)) ∷
     check 3 (same (characters file offset 12 8) (characters file over 23 8)) ∷
     check 4 (not (s .inside) || same (characters file offset 20 2) (characters file (s .header) 53 2)) ∷
     check 5 (same (characters file offset 22 15) (characters file (s .item) place 15)) ∷
-    check 7 (signed (s .signature) (characters file offset 53 16)) ∷
-    check 8 (signed (s .signature) (characters file offset 69 16)) ∷
+    check 7 (signed set (s .signature) (characters file offset 53 16)) ∷
+    check 8 (signed set (s .signature) (characters file offset 69 16)) ∷
     []
 
-pub links-by : (file : List ℕ) (s : Standing) (over place offset : ℕ) → over ≡ cond (s .inside) (s .header) (s .heading)
-    → place ≡ cond (eqb (s .holder) 61) 63 58 → viewLinks file s offset ≡ linksBy file s over place offset
-links-by file s over place offset e q =
+pub links-by : (set : CharacterSet) (file : List ℕ) (s : Standing) (over place offset : ℕ) → over ≡ cond (s .inside) (s .header) (s .heading)
+    → place ≡ cond (eqb (s .holder) 61) 63 58 → viewLinks set file s offset ≡ linksBy set file s over place offset
+links-by set file s over place offset e q =
     rw (
       e,
       q,

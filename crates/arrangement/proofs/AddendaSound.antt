@@ -6,6 +6,7 @@ use mathlib.Core.Path.{_≡_, refl, sym, _∙_}
 use mathlib.Core.List.{List, [], _∷_, _++_}
 use lib.Dec.{eqb}
 use borrow.Author.Tests.{eqb-true}
+use Rattle.text.specs.declared.character_set.CharacterSet.{CharacterSet}
 use Rattle.layout.specs.Layout.{Layout}
 use Rattle.layout.specs.Layouts.{checkDetailAddendumA, checkDetailAddendumB, checkDetailAddendumC, returnAddendumA, returnAddendumB, returnAddendumC, returnAddendumD}
 use Rattle.judge.specs.Alone.{typeOf}
@@ -25,40 +26,40 @@ use Rattle.arrangement.proofs.Turns.{as-type, short-in}
 use Rattle.arrangement.proofs.OwnAddenda.{nextAddenda, nextStated, nextBofd, nextEndorser, Short, Adds, adds-26, adds-27, adds-28, adds-32, adds-33, adds-34, adds-35, endorser-check, endorser-return}
 
 -- addenda found sound, no more of them so far than the item states, and the records behind them good
-pub record AddendaFound (Part : Type 0) (past rest : List Body) : Type 0 where
+pub record AddendaFound (set : CharacterSet) (Part : Type 0) (past rest : List Body) : Type 0 where
   pub sound : Part
-  pub short : Short past
-  pub behind : GoodAll past rest
+  pub short : Short set past
+  pub behind : GoodAll set past rest
 
-module _ (k : Layout) (adds : Adds k) where
-  short-on : (past : List Body) (b : Body) → typeOf b ≡ k .typeNumber → Good past b → Short (b ∷ past)
+module _ (set : CharacterSet) (k : Layout) (adds : Adds set k) where
+  short-on : (past : List Body) (b : Body) → typeOf set b ≡ k .typeNumber → Good set past b → Short set (b ∷ past)
   short-on past b typed good =
       omega (
         arith,
-        short-in (k .typeNumber) past b (as-type (k .typeNumber) past b typed good) (adds .addendum),
-        step 0 nextAddenda past b (k .typeNumber) typed ∙ adds .more b (addendaIn past),
-        quiet-step 0 nextStated past b (k .typeNumber) typed (adds .same-stated),
+        short-in set (k .typeNumber) past b (as-type set (k .typeNumber) past b typed good) (adds .addendum),
+        step set 0 nextAddenda past b (k .typeNumber) typed ∙ adds .more b (addendaIn set past),
+        quiet-step set 0 (nextStated set) past b (k .typeNumber) typed (adds .same-stated),
       )
 
-  adds-right : (past : List Body) (b : Body) → typeOf b ≡ k .typeNumber → Good past b → Right k b
-  adds-right past b typed good = right-in k b (adds .known) typed (as-type (k .typeNumber) past b typed good .alone)
+  adds-right : (past : List Body) (b : Body) → typeOf set b ≡ k .typeNumber → Good set past b → Right set k b
+  adds-right past b typed good = right-in set k b (adds .known) typed (as-type set (k .typeNumber) past b typed good .alone)
 
-  optional-sound : (past : List Body) (o : Option Body) (rest : List Body) → IfAny (OfType (k .typeNumber)) o → Short past
-      → GoodAll past (optionalThen o rest) → AddendaFound (IfAny (Right k) o) (afterOptional past o) rest
+  optional-sound : (past : List Body) (o : Option Body) (rest : List Body) → IfAny (OfType set (k .typeNumber)) o → Short set past
+      → GoodAll set past (optionalThen o rest) → AddendaFound set (IfAny (Right set k) o) (afterOptional past o) rest
   optional-sound past none rest typed short good = record { sound = tt; short = short; behind = good }
   optional-sound past (some b) rest typed short good =
       record { sound = adds-right past b typed (good .first); short = short-on past b typed (good .first); behind = good .rest }
 
   -- a run of them, numbered on from a figure
   module _ (next : ℕ → Body → ℕ → ℕ) (counts : Counts next (k .typeNumber))
-      (numbered : (past : List Body) (b : Body) → numberedAs (k .typeNumber) past b ≡ eqb (stated k 2 b) (value 0 next past + 1)) where
-    run-sound : (past bs rest : List Body) (n : ℕ) → All (OfType (k .typeNumber)) bs → value 0 next past + 1 ≡ n → Short past
-        → GoodAll past (bs ++ rest) → AddendaFound (Numbered k n bs) (onto bs past) rest
+      (numbered : (past : List Body) (b : Body) → numberedAs set (k .typeNumber) past b ≡ eqb (stated set k 2 b) (value set 0 next past + 1)) where
+    run-sound : (past bs rest : List Body) (n : ℕ) → All (OfType set (k .typeNumber)) bs → value set 0 next past + 1 ≡ n → Short set past
+        → GoodAll set past (bs ++ rest) → AddendaFound set (Numbered set k n bs) (onto bs past) rest
     run-sound past [] rest n typed e short good = record { sound = tt; short = short; behind = good }
     run-sound past (b ∷ bs) rest n typed e short good =
-        let here = as-type (k .typeNumber) past b (typed .0) (good .first) in
-        let number = eqb-true (stated k 2 b) (value 0 next past + 1) (sym (numbered past b) ∙ here .linked .numbered) in
-        let more = step 0 next past b (k .typeNumber) (typed .0) ∙ counts b (value 0 next past) in
+        let here = as-type set (k .typeNumber) past b (typed .0) (good .first) in
+        let number = eqb-true (stated set k 2 b) (value set 0 next past + 1) (sym (numbered past b) ∙ here .linked .numbered) in
+        let more = step set 0 next past b (k .typeNumber) (typed .0) ∙ counts b (value set 0 next past) in
         let others =
         run-sound (b ∷ past) bs rest (n + 1) (typed .1) (omega (arith, more, e)) (short-on past b (typed .0) (good .first)) (good .rest) in
         record {
@@ -68,33 +69,35 @@ module _ (k : Layout) (adds : Adds k) where
         }
 
 -- the addenda of an item, behind its first record
-pub addenda-sound : (past : List Body) (a : Addenda) (rest : List Body) → TypedAddenda a → bofdIn past ≡ 0 → endorserIn past ≡ 0 → Short past
-    → GoodAll past (addendaThen a rest) → AddendaFound (SoundAddenda a) (afterAddenda past a) rest
-addenda-sound past (ofCheck a b c) rest typed bofd endorser short good =
+pub addenda-sound : (set : CharacterSet) (past : List Body) (a : Addenda) (rest : List Body) → TypedAddenda set a → bofdIn set past ≡ 0
+    → endorserIn set past ≡ 0 → Short set past
+    → GoodAll set past (addendaThen a rest) → AddendaFound set (SoundAddenda set a) (afterAddenda past a) rest
+addenda-sound set past (ofCheck a b c) rest typed bofd endorser short good =
     let x =
-    run-sound checkDetailAddendumA adds-26 nextBofd (λ d y. refl) (λ p d. refl)
+    run-sound set checkDetailAddendumA (adds-26 set) nextBofd (λ d y. refl) (λ p d. refl)
     past a (optionalThen b (c ++ rest)) 1 (typed .addenda-a) (omega (arith, bofd)) short good in
-    let y = optional-sound checkDetailAddendumB adds-27 (onto a past) b (c ++ rest) (typed .addendum-b) (x .short) (x .behind) in
+    let y = optional-sound set checkDetailAddendumB (adds-27 set) (onto a past) b (c ++ rest) (typed .addendum-b) (x .short) (x .behind) in
     let z =
-    run-sound checkDetailAddendumC adds-28 nextEndorser (λ d y. refl) (λ p d. refl)
-    (afterOptional (onto a past) b) c rest 1 (typed .addenda-c) (omega (arith, endorser-check past a b c typed, endorser)) (y .short) (y .behind) in
+    run-sound set checkDetailAddendumC (adds-28 set) nextEndorser (λ d y. refl) (λ p d. refl)
+    (afterOptional (onto a past) b) c rest 1 (typed .addenda-c) (omega (arith, endorser-check set past a b c typed, endorser)) (y .short) (y .behind) in
     record {
       sound = record { addenda-a = x .sound; addendum-b = y .sound; addenda-c = z .sound };
       short = z .short;
       behind = z .behind;
     }
-addenda-sound past (ofReturn a b c d) rest typed bofd endorser short good =
+addenda-sound set past (ofReturn a b c d) rest typed bofd endorser short good =
     let x =
-    run-sound returnAddendumA adds-32 nextBofd (λ d y. refl) (λ p d. refl)
+    run-sound set returnAddendumA (adds-32 set) nextBofd (λ d y. refl) (λ p d. refl)
     past a (b ∷ optionalThen c (d ++ rest)) 1 (typed .addenda-a) (omega (arith, bofd)) short good in
-    let w = optional-sound returnAddendumB adds-33 (onto a past) (some b) (optionalThen c (d ++ rest)) (typed .addendum-b) (x .short) (x .behind) in
-    let y = optional-sound returnAddendumC adds-34 (b ∷ onto a past) c (d ++ rest) (typed .addendum-c) (w .short) (w .behind) in
+    let w =
+    optional-sound set returnAddendumB (adds-33 set) (onto a past) (some b) (optionalThen c (d ++ rest)) (typed .addendum-b) (x .short) (x .behind) in
+    let y = optional-sound set returnAddendumC (adds-34 set) (b ∷ onto a past) c (d ++ rest) (typed .addendum-c) (w .short) (w .behind) in
     let z =
-    run-sound returnAddendumD adds-35 nextEndorser (λ d y. refl) (λ p d. refl)
-    (afterOptional (b ∷ onto a past) c) d rest 1 (typed .addenda-d) (omega (arith, endorser-return past a b c d typed, endorser)) (y .short) (y .behind) in
+    run-sound set returnAddendumD (adds-35 set) nextEndorser (λ d y. refl) (λ p d. refl)
+    (afterOptional (b ∷ onto a past) c) d rest 1 (typed .addenda-d) (omega (arith, endorser-return set past a b c d typed, endorser)) (y .short) (y .behind) in
     record {
       sound = record { addenda-a = x .sound; addendum-b = w .sound; addendum-c = y .sound; addenda-d = z .sound };
       short = z .short;
       behind = z .behind;
     }
-addenda-sound past ofCredit rest typed bofd endorser short good = record { sound = tt; short = short; behind = good }
+addenda-sound set past ofCredit rest typed bofd endorser short good = record { sound = tt; short = short; behind = good }

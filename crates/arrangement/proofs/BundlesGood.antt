@@ -3,6 +3,7 @@ use native.Mathlib.Omega.{arith}
 use mathlib.Core.Bool.{true, false}
 use mathlib.Core.Path.{_≡_, refl, sym, ap, _∙_}
 use mathlib.Core.List.{List, [], _∷_}
+use Rattle.text.specs.declared.character_set.CharacterSet.{CharacterSet}
 use Rattle.judge.specs.Alone.{typeOf}
 use Rattle.order.specs.MayFollow.{isCheckOrReturn, isOneOf, follows}
 use Rattle.file_as_records.specs.Framed.{Body}
@@ -26,14 +27,14 @@ use Rattle.arrangement.proofs.ViewsGood.{Ends, views-good}
 use Rattle.arrangement.proofs.ItemsGood.{Between, items-good}
 
 -- before what a cash letter holds, and behind it: no view is owed, since no check or return comes before in the same bundle
-pub record Holding (letter : Body) (past : List Body) : Type 0 where
-  pub here : InLetter letter past
-  pub settled : Settled past
-  pub unheld : isCheckOrReturn (holderIn past) ≡ false
-  pub next : Allow (20 ∷ 61 ∷ 90 ∷ []) past
+pub record Holding (set : CharacterSet) (letter : Body) (past : List Body) : Type 0 where
+  pub here : InLetter set letter past
+  pub settled : Settled set past
+  pub unheld : isCheckOrReturn (holderIn set past) ≡ false
+  pub next : Allow set (20 ∷ 61 ∷ 90 ∷ []) past
 
-none-owed : (past : List Body) → isCheckOrReturn (holderIn past) ≡ false → Viewed past
-none-owed past e = λ k h. refuted (isCheckOrReturn (holderIn past)) e k
+none-owed : (set : CharacterSet) (past : List Body) → isCheckOrReturn (holderIn set past) ≡ false → Viewed set past
+none-owed set past e = λ k h. refuted (isCheckOrReturn (holderIn set past)) e k
 
 -- before a bundle's first item, whatever its type
 first-item : (a : Addenda) → isOneOf (layoutIn a .typeNumber) (25 ∷ 31 ∷ 61 ∷ []) ≡ true
@@ -41,15 +42,15 @@ first-item (ofCheck a b c) = refl
 first-item (ofReturn a b c d) = refl
 first-item ofCredit = refl
 
-started : (letter b : Body) (past : List Body) → typeOf b ≡ 20 → Holding letter past → Between letter b (b ∷ past)
+started : (set : CharacterSet) (letter b : Body) (past : List Body) → typeOf set b ≡ 20 → Holding set letter past → Between set letter b (b ∷ past)
 unfolding follows
-started letter b past e h =
-    let around = bundle-begun letter b past e (h .here) in
-    let behind-20 : Allow (25 ∷ 31 ∷ 61 ∷ []) (b ∷ past) = allow-at (25 ∷ 31 ∷ 61 ∷ []) (around .inside-is) e refl in
+started set letter b past e h =
+    let around = bundle-begun set letter b past e (h .here) in
+    let behind-20 : Allow set (25 ∷ 31 ∷ 61 ∷ []) (b ∷ past) = allow-at set (25 ∷ 31 ∷ 61 ∷ []) (around .inside-is) e refl in
     record {
       around = around;
-      settled = settled-on past b 20 e refl refl (h .settled);
-      viewed = none-owed (b ∷ past) (ap isCheckOrReturn (step 0 nextHolder past b 20 e));
+      settled = settled-on set past b 20 e refl refl (h .settled);
+      viewed = none-owed set (b ∷ past) (ap isCheckOrReturn (step set 0 nextHolder past b 20 e));
       next = λ a same. behind-20 .may (layoutIn a .typeNumber) (first-item a);
     }
 
@@ -58,18 +59,18 @@ views-end : Ends false (20 ∷ 61 ∷ 90 ∷ [])
 unfolding follows
 views-end = record { behind-50 = refl; behind-52 = refl; behind-54 = refl }
 
-module _ (letter : Body) where
-  bundle-good : (b : Bundle) (past rest : List Body) → SoundBundle letter b → Holding letter past
-      → (Holding letter (afterBundle past b) → GoodAll (afterBundle past b) rest) → GoodAll past (bundleThen b rest)
+module _ (set : CharacterSet) (letter : Body) where
+  bundle-good : (b : Bundle) (past rest : List Body) → SoundBundle set letter b → Holding set letter past
+      → (Holding set letter (afterBundle past b) → GoodAll set (afterBundle past b) rest) → GoodAll set past (bundleThen b rest)
   unfolding follows
   bundle-good b past rest sound h on =
-      let typed = bundle-typed letter b sound in
-      let f = bundle-figures b past typed in
+      let typed = bundle-typed set letter b sound in
+      let f = bundle-figures set b past typed in
       let before = afterItems (b .header ∷ past) (b .items) in
       let c = b .control in
-      let here = behind-content letter (bundled b) past typed (h .here) in
-      let none-yet = step 0 nextPresent past (b .header) 20 (typed .header) in
-      let totals : BundleTotals before c =
+      let here = behind-content set letter (bundled b) past typed (h .here) in
+      let none-yet = step set 0 nextPresent past (b .header) 20 (typed .header) in
+      let totals : BundleTotals set before c =
       record {
         debit-count = sound .debit-count ∙ sym (f .debits);
         debit-cents = sound .debit-cents ∙ sym (f .debit);
@@ -80,53 +81,53 @@ module _ (letter : Body) where
       } in
       record {
         first =
-            made-20 past (b .header) (sound .header) (h .next .may 20 refl) (h .settled)
-            (λ e. sound .allowed (sym (indicator-is past (h .here .letter-is)) ∙ e));
+            made-20 set past (b .header) (sound .header) (h .next .may 20 refl) (h .settled)
+            (λ e. sound .allowed (sym (indicator-is set past (h .here .letter-is)) ∙ e));
         rest =
-            items-good letter (b .header) (b .items) (b .header ∷ past) (c ∷ rest) (sound .items) (rw none-yet (sound .one-item-type))
-            (started letter (b .header) past (typed .header) h) (λ e. absurd (omega (arith, sound .filled, e)))
+            items-good set letter (b .header) (b .items) (b .header ∷ past) (c ∷ rest) (sound .items) (rw none-yet (sound .one-item-type))
+            (started set letter (b .header) past (typed .header) h) (λ e. absurd (omega (arith, sound .filled, e)))
             (λ w ends. record {
-              first = made-70 before c (sound .control) ends (w .settled) (w .viewed) totals;
+              first = made-70 set before c (sound .control) ends (w .settled) (w .viewed) totals;
               rest =
                   on
                   (record {
                     here = here;
-                    settled = settled-on before c 70 (typed .control) refl refl (w .settled);
-                    unheld = ap isCheckOrReturn (step 0 nextHolder before c 70 (typed .control));
-                    next = allow-at (20 ∷ 61 ∷ 90 ∷ []) (here .outside) (typed .control) refl;
+                    settled = settled-on set before c 70 (typed .control) refl refl (w .settled);
+                    unheld = ap isCheckOrReturn (step set 0 nextHolder before c 70 (typed .control));
+                    next = allow-at set (20 ∷ 61 ∷ 90 ∷ []) (here .outside) (typed .control) refl;
                   });
             });
       }
 
-  credit-good : (c : Credit) (past rest : List Body) → SoundCredit letter c → Holding letter past
-      → (Holding letter (afterCredit past c) → GoodAll (afterCredit past c) rest) → GoodAll past (creditThen c rest)
+  credit-good : (c : Credit) (past rest : List Body) → SoundCredit set letter c → Holding set letter past
+      → (Holding set letter (afterCredit past c) → GoodAll set (afterCredit past c) rest) → GoodAll set past (creditThen c rest)
   unfolding follows
   credit-good c past rest sound h on =
-      let typed = credit-typed letter c sound in
-      let new = fresh ofCredit (c .detail) past (typed .detail) in
-      let within = in-letter letter (newest (is 20) past) c past typed (around-credit letter past (h .here)) in
+      let typed = credit-typed set letter c sound in
+      let new = fresh set ofCredit (c .detail) past (typed .detail) in
+      let within = in-letter set letter (newest set (is 20) past) c past typed (around-credit set letter past (h .here)) in
       record {
         first =
-            made-item ofCredit (c .detail) past (sound .detail) (h .next .may 61 refl) (h .settled) (none-owed past (h .unheld)) refl;
+            made-item set ofCredit (c .detail) past (sound .detail) (h .next .may 61 refl) (h .settled) (none-owed set past (h .unheld)) refl;
         rest =
-            views-good false (20 ∷ 61 ∷ 90 ∷ []) views-end letter (inLetter letter c) (c .detail ∷ past) (c .views) rest (sound .views) within
-            (sound .unseen) (omega (arith, new .stated-is)) (allow-at (50 ∷ 20 ∷ 61 ∷ 90 ∷ []) (within .inside-is) (typed .detail) refl)
+            views-good set false (20 ∷ 61 ∷ 90 ∷ []) views-end letter (inLetter letter c) (c .detail ∷ past) (c .views) rest (sound .views) within
+            (sound .unseen) (omega (arith, new .stated-is)) (allow-at set (50 ∷ 20 ∷ 61 ∷ 90 ∷ []) (within .inside-is) (typed .detail) refl)
             (λ settled ends. on
             (record {
-              here = behind-content letter (direct c) past typed (h .here);
+              here = behind-content set letter (direct c) past typed (h .here);
               settled = settled;
-              unheld = item-figures (asItem c) past (item-of c typed) .demands;
-              next = allow-rest ends;
+              unheld = item-figures set (asItem c) past (item-of set c typed) .demands;
+              next = allow-rest set ends;
             }));
       }
 
-  content-good : (c : Content) (past rest : List Body) → SoundContent letter c → Holding letter past
-      → (Holding letter (afterContent past c) → GoodAll (afterContent past c) rest) → GoodAll past (contentThen c rest)
+  content-good : (c : Content) (past rest : List Body) → SoundContent set letter c → Holding set letter past
+      → (Holding set letter (afterContent past c) → GoodAll set (afterContent past c) rest) → GoodAll set past (contentThen c rest)
   content-good (bundled b) past rest sound h on = bundle-good b past rest sound h on
   content-good (direct c) past rest sound h on = credit-good c past rest sound h on
 
-  pub contents-good : (cs : List Content) (past rest : List Body) → All (SoundContent letter) cs → Holding letter past
-      → (Holding letter (afterContents past cs) → GoodAll (afterContents past cs) rest) → GoodAll past (contentsThen cs rest)
+  pub contents-good : (cs : List Content) (past rest : List Body) → All (SoundContent set letter) cs → Holding set letter past
+      → (Holding set letter (afterContents past cs) → GoodAll set (afterContents past cs) rest) → GoodAll set past (contentsThen cs rest)
   contents-good [] past rest sound h on = on h
   contents-good (c ∷ cs) past rest sound h on =
       content-good c past (contentsThen cs rest) (sound .0) h (λ h₁. contents-good cs (afterContent past c) rest (sound .1) h₁ on)

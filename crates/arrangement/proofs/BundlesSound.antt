@@ -5,6 +5,7 @@ use mathlib.Core.Bool.{Bool, true, false}
 use mathlib.Core.Path.{_≡_, refl, _∙_}
 use mathlib.Core.List.{List, [], _∷_}
 use lib.ListN.{length}
+use Rattle.text.specs.declared.character_set.CharacterSet.{CharacterSet}
 use Rattle.layout.specs.Layouts.{bundleControl, bundleHeader}
 use Rattle.judge.specs.Alone.{typeOf}
 use Rattle.order.specs.MayFollow.{follows}
@@ -31,31 +32,32 @@ unfolding follows
 never-70 true = refl
 never-70 false = refl
 
-some-item : (its : List Item) (header c : Body) (past rest : List Body) → typeOf header ≡ 20 → typeOf c ≡ 70
-    → GoodAll (header ∷ past) (itemsThen its (c ∷ rest)) → 1 ≤ length its
-some-item [] header c past rest begins ends good = absurd (not-after 70 20 past header c begins ends never-70 (good .first))
-some-item (i ∷ its) header c past rest begins ends good = omega arith
+some-item : (set : CharacterSet) (its : List Item) (header c : Body) (past rest : List Body) → typeOf set header ≡ 20 → typeOf set c ≡ 70
+    → GoodAll set (header ∷ past) (itemsThen its (c ∷ rest)) → 1 ≤ length its
+some-item set [] header c past rest begins ends good = absurd (not-after set 70 20 past header c begins ends never-70 (good .first))
+some-item set (i ∷ its) header c past rest begins ends good = omega arith
 
-module _ (letter : Body) where
-  bundle-sound : (b : Bundle) (past rest : List Body) → TypedBundle b → InLetter letter past → GoodAll past (bundleThen b rest)
-      → Found (SoundBundle letter b) (afterBundle past b) rest
+module _ (set : CharacterSet) (letter : Body) where
+  bundle-sound : (b : Bundle) (past rest : List Body) → TypedBundle set b → InLetter set letter past → GoodAll set past (bundleThen b rest)
+      → Found set (SoundBundle set letter b) (afterBundle past b) rest
   bundle-sound b past rest typed here good =
-      let header = as-type 20 past (b .header) (typed .header) (good .first) in
-      let around = bundle-begun letter (b .header) past (typed .header) here in
-      let its = items-sound letter (b .header) (b .items) (b .header ∷ past) (b .control) rest (typed .items) (typed .control) around (good .rest) in
+      let header = as-type set 20 past (b .header) (typed .header) (good .first) in
+      let around = bundle-begun set letter (b .header) past (typed .header) here in
+      let its =
+      items-sound set letter (b .header) (b .items) (b .header ∷ past) (b .control) rest (typed .items) (typed .control) around (good .rest) in
       let before = afterItems (b .header ∷ past) (b .items) in
-      let control = as-type 70 before (b .control) (typed .control) (its .behind .first) in
+      let control = as-type set 70 before (b .control) (typed .control) (its .behind .first) in
       let totals = control .totalled .bundle refl in
-      let f = bundle-figures b past typed in
+      let f = bundle-figures set b past typed in
       record {
         sound =
             record {
-              header = right-in bundleHeader (b .header) known-20 (typed .header) (header .alone);
-              allowed = λ e. bundle-in past (b .header) header (indicator-is past (here .letter-is) ∙ e);
-              filled = some-item (b .items) (b .header) (b .control) past rest (typed .header) (typed .control) (good .rest);
+              header = right-in set bundleHeader (b .header) (known-20 set) (typed .header) (header .alone);
+              allowed = λ e. bundle-in set past (b .header) header (indicator-is set past (here .letter-is) ∙ e);
+              filled = some-item set (b .items) (b .header) (b .control) past rest (typed .header) (typed .control) (good .rest);
               items = its .items;
-              one-item-type = rw (step 0 nextPresent past (b .header) 20 (typed .header)) at (its .one-item-type);
-              control = right-in bundleControl (b .control) known-70 (typed .control) (control .alone);
+              one-item-type = rw (step set 0 nextPresent past (b .header) 20 (typed .header)) at (its .one-item-type);
+              control = right-in set bundleControl (b .control) (known-70 set) (typed .control) (control .alone);
               debit-count = totals .debit-count ∙ f .debits;
               debit-cents = totals .debit-cents ∙ f .debit;
               valid = rw (f .valid) at (totals .valid);
@@ -66,22 +68,23 @@ module _ (letter : Body) where
         behind = its .behind .rest;
       }
 
-  credit-sound : (c : Credit) (past rest : List Body) → TypedCredit c → InLetter letter past → GoodAll past (creditThen c rest)
-      → Found (SoundCredit letter c) (afterCredit past c) rest
+  credit-sound : (c : Credit) (past rest : List Body) → TypedCredit set c → InLetter set letter past → GoodAll set past (creditThen c rest)
+      → Found set (SoundCredit set letter c) (afterCredit past c) rest
   credit-sound c past rest typed here good =
-      let within = in-letter letter (newest (is 20) past) c past typed (around-credit letter past here) in
-      let found = item-sound false letter (inLetter letter c) (asItem c) past rest (item-of c typed) within good in
+      let within = in-letter set letter (newest set (is 20) past) c past typed (around-credit set letter past here) in
+      let found = item-sound set false letter (inLetter letter c) (asItem c) past rest (item-of set c typed) within good in
       record { sound = record { detail = found .first .right; views = found .views; unseen = found .unseen }; behind = found .behind }
 
-  content-sound : (c : Content) (past rest : List Body) → TypedContent c → InLetter letter past → GoodAll past (contentThen c rest)
-      → Found (SoundContent letter c) (afterContent past c) rest
+  content-sound : (c : Content) (past rest : List Body) → TypedContent set c → InLetter set letter past → GoodAll set past (contentThen c rest)
+      → Found set (SoundContent set letter c) (afterContent past c) rest
   content-sound (bundled b) past rest typed here good = bundle-sound b past rest typed here good
   content-sound (direct c) past rest typed here good = credit-sound c past rest typed here good
 
-  pub contents-sound : (cs : List Content) (past rest : List Body) → All TypedContent cs → InLetter letter past → GoodAll past (contentsThen cs rest)
-      → Found (All (SoundContent letter) cs) (afterContents past cs) rest
+  pub contents-sound : (cs : List Content) (past rest : List Body) → All (TypedContent set) cs → InLetter set letter past
+      → GoodAll set past (contentsThen cs rest)
+      → Found set (All (SoundContent set letter) cs) (afterContents past cs) rest
   contents-sound [] past rest typed here good = record { sound = tt; behind = good }
   contents-sound (c ∷ cs) past rest typed here good =
       let first = content-sound c past (contentsThen cs rest) (typed .0) here good in
-      let others = contents-sound cs (afterContent past c) rest (typed .1) (behind-content letter c past (typed .0) here) (first .behind) in
+      let others = contents-sound cs (afterContent past c) rest (typed .1) (behind-content set letter c past (typed .0) here) (first .behind) in
       record { sound = (first .sound, others .sound); behind = others .behind }

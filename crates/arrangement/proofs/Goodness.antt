@@ -6,6 +6,7 @@ use mathlib.Core.Logic.{_⊎_, inl, inr}
 use mathlib.Core.Path.{_≡_, refl, sym, ap, _∙_}
 use mathlib.Core.List.{List, [], _∷_}
 use lib.ListN.{length}
+use Rattle.text.specs.declared.character_set.CharacterSet.{CharacterSet}
 use Rattle.layout.specs.Layouts.{fileHeader, cashLetterHeader}
 use Rattle.order.specs.MayFollow.{isCheckOrReturn, isCarried, follows}
 use Rattle.file_as_records.specs.Framed.{Body}
@@ -31,21 +32,22 @@ filled-letter e d (inl h) = inl (e ∙ h)
 filled-letter e d (inr h) = inr (omega (arith, d, h))
 
 -- before a cash letter, and behind one
-record Filing (past : List Body) : Type 0 where
-  outside : insideIn past ≡ false
-  settled : Settled past
-  next : Follows past 10
+record Filing (set : CharacterSet) (past : List Body) : Type 0 where
+  outside : insideIn set past ≡ false
+  settled : Settled set past
+  next : Follows set past 10
 
-letter-good : (l : CashLetter) (past rest : List Body) → SoundLetter l → Filing past
-    → (Filing (afterLetter past l) → Follows (afterLetter past l) 99 → GoodAll (afterLetter past l) rest) → GoodAll past (letterThen l rest)
+letter-good : (set : CharacterSet) (l : CashLetter) (past rest : List Body) → SoundLetter set l → Filing set past
+    → (Filing set (afterLetter past l) → Follows set (afterLetter past l) 99 → GoodAll set (afterLetter past l) rest)
+    → GoodAll set past (letterThen l rest)
 unfolding follows isCarried
-letter-good l past rest sound h on =
-    let typed = letter-typed l sound in
-    let f = letter-figures l past typed in
-    let begun = letter-begun (l .header) past (typed .header) (h .outside) in
+letter-good set l past rest sound h on =
+    let typed = letter-typed set l sound in
+    let f = letter-figures set l past typed in
+    let begun = letter-begun set (l .header) past (typed .header) (h .outside) in
     let before = afterContents (l .header ∷ past) (l .contents) in
     let c = l .control in
-    let totals : LetterTotals before c =
+    let totals : LetterTotals set before c =
     record {
       bundle-count = sound .bundle-count ∙ sym (f .bundles);
       debit-count = sound .debit-count ∙ sym (f .debits);
@@ -55,26 +57,29 @@ letter-good l past rest sound h on =
       credit-cents = sound .credit-cents ∙ sym (f .credit);
     } in
     record {
-      first = made-plain cashLetterHeader known-10 refl refl past (l .header) (sound .header) (h .next) (settled-kept 10 past refl (h .settled)) refl;
+      first =
+          made-plain set cashLetterHeader (known-10 set) refl refl past (l .header) (sound .header)
+          (h .next) (settled-kept set 10 past refl (h .settled)) refl;
       rest =
-          contents-good (l .header) (l .contents) (l .header ∷ past) (c ∷ rest) (sound .contents)
+          contents-good set (l .header) (l .contents) (l .header ∷ past) (c ∷ rest) (sound .contents)
           (record {
             here = begun;
-            settled = settled-on past (l .header) 10 (typed .header) refl refl (h .settled);
-            unheld = ap isCheckOrReturn (step 0 nextHolder past (l .header) 10 (typed .header));
-            next = allow-at (20 ∷ 61 ∷ 90 ∷ []) (begun .outside) (typed .header) refl;
+            settled = settled-on set past (l .header) 10 (typed .header) refl refl (h .settled);
+            unheld = ap isCheckOrReturn (step set 0 nextHolder past (l .header) 10 (typed .header));
+            next = allow-at set (20 ∷ 61 ∷ 90 ∷ []) (begun .outside) (typed .header) refl;
           })
           (λ w.
-          let outside : insideIn (c ∷ before) ≡ false = step false nextInside before c 90 (typed .control) ∙ w .here .outside in
-          let behind-90 : Allow (10 ∷ 99 ∷ []) (c ∷ before) = allow-at (10 ∷ 99 ∷ []) outside (typed .control) refl in
-          let letter-is = indicator-is before (w .here .letter-is) in
+          let outside : insideIn set (c ∷ before) ≡ false = step set false nextInside before c 90 (typed .control) ∙ w .here .outside in
+          let behind-90 : Allow set (10 ∷ 99 ∷ []) (c ∷ before) = allow-at set (10 ∷ 99 ∷ []) outside (typed .control) refl in
+          let letter-is = indicator-is set before (w .here .letter-is) in
           record {
-            first = made-90 before c (sound .control) (w .next .may 90 refl) (w .settled) (filled-letter letter-is (f .bundles) (sound .filled)) totals;
+            first =
+                made-90 set before c (sound .control) (w .next .may 90 refl) (w .settled) (filled-letter letter-is (f .bundles) (sound .filled)) totals;
             rest =
                 on
                 (record {
                   outside = outside;
-                  settled = settled-on before c 90 (typed .control) refl refl (w .settled);
+                  settled = settled-on set before c 90 (typed .control) refl refl (w .settled);
                   next = behind-90 .may 10 refl;
                 })
                 (behind-90 .may 99 refl);
@@ -82,24 +87,26 @@ letter-good l past rest sound h on =
     }
 
 -- the 99 may come behind a cash letter: where there is none, that it may come is asked for
-letters-good : (ls : List CashLetter) (past rest : List Body) → All SoundLetter ls → Filing past → (length ls ≡ 0 → Follows past 99)
-    → (Filing (afterLetters past ls) → Follows (afterLetters past ls) 99 → GoodAll (afterLetters past ls) rest) → GoodAll past (lettersThen ls rest)
-letters-good [] past rest sound h ends on = on h (ends refl)
-letters-good (l ∷ ls) past rest sound h ends on =
-    letter-good l past (lettersThen ls rest) (sound .0) h (λ h₁ ends₁. letters-good ls (afterLetter past l) rest (sound .1) h₁ (λ e. ends₁) on)
+letters-good : (set : CharacterSet) (ls : List CashLetter) (past rest : List Body) → All (SoundLetter set) ls → Filing set past
+    → (length ls ≡ 0 → Follows set past 99)
+    → (Filing set (afterLetters past ls) → Follows set (afterLetters past ls) 99 → GoodAll set (afterLetters past ls) rest)
+    → GoodAll set past (lettersThen ls rest)
+letters-good set [] past rest sound h ends on = on h (ends refl)
+letters-good set (l ∷ ls) past rest sound h ends on =
+    letter-good set l past (lettersThen ls rest) (sound .0) h (λ h₁ ends₁. letters-good set ls (afterLetter past l) rest (sound .1) h₁ (λ e. ends₁) on)
 
-pub sound-good : (f : File) → Sound f → GoodAll [] (records f)
+pub sound-good : (set : CharacterSet) (f : File) → Sound set f → GoodAll set [] (records f)
 unfolding follows isCarried
-sound-good f sound =
-    let typed = sound-typed f sound in
-    let g = file-figures f typed in
+sound-good set f sound =
+    let typed = sound-typed set f sound in
+    let g = file-figures set f typed in
     let h = f .header in
     let c = f .control in
     let before = afterLetters (h ∷ []) (f .letters) in
-    let begun : Settled [] = omega arith in
-    let outside : insideIn (h ∷ []) ≡ false = step false nextInside [] h 1 (typed .header) in
-    let behind-1 : Allow (10 ∷ []) (h ∷ []) = allow-at (10 ∷ []) outside (typed .header) refl in
-    let totals : FileTotals before c =
+    let begun : Settled set [] = omega arith in
+    let outside : insideIn set (h ∷ []) ≡ false = step set false nextInside [] h 1 (typed .header) in
+    let behind-1 : Allow set (10 ∷ []) (h ∷ []) = allow-at set (10 ∷ []) outside (typed .header) refl in
+    let totals : FileTotals set before c =
     record {
       letter-count = sound .letter-count ∙ sym (g .letters);
       record-count = sound .record-count ∙ sym (g .all);
@@ -108,10 +115,10 @@ sound-good f sound =
       credit-cents = sound .credit-cents ∙ sym (g .credit);
     } in
     record {
-      first = made-plain fileHeader known-01 refl refl [] h (sound .header) refl (settled-kept 1 [] refl begun) refl;
+      first = made-plain set fileHeader (known-01 set) refl refl [] h (sound .header) refl (settled-kept set 1 [] refl begun) refl;
       rest =
-          letters-good (f .letters) (h ∷ []) (c ∷ []) (sound .letters)
-          (record { outside = outside; settled = settled-on [] h 1 (typed .header) refl refl begun; next = behind-1 .may 10 refl })
+          letters-good set (f .letters) (h ∷ []) (c ∷ []) (sound .letters)
+          (record { outside = outside; settled = settled-on set [] h 1 (typed .header) refl refl begun; next = behind-1 .may 10 refl })
           (λ e. absurd (omega (arith, sound .filled, e)))
-          (λ w ends. record { first = made-99 before c (sound .control) ends (w .settled) totals; rest = sound .control .type });
+          (λ w ends. record { first = made-99 set before c (sound .control) ends (w .settled) totals; rest = sound .control .type });
     }

@@ -6,6 +6,7 @@ use mathlib.Core.Logic.{_⊎_}
 use mathlib.Core.Path.{_≡_, refl, sym, _∙_, subst}
 use mathlib.Core.List.{List, [], _∷_}
 use lib.ListN.{length}
+use Rattle.text.specs.declared.character_set.CharacterSet.{CharacterSet}
 use Rattle.order.specs.MayFollow.{isOneOf, follows, oneItemType}
 use Rattle.file_as_records.specs.Framed.{Body}
 use Rattle.file_as_records.proofs.Figures.{presentIn}
@@ -24,11 +25,11 @@ use Rattle.arrangement.proofs.SoundTyped.{item-typed}
 use Rattle.arrangement.proofs.ViewsGood.{Ends, views-good}
 
 -- before an item of a bundle, and behind one: one may come whose type goes with those before it
-pub record Between (letter header : Body) (past : List Body) : Type 0 where
-  pub around : Around true letter header past
-  pub settled : Settled past
-  pub viewed : Viewed past
-  pub next : (a : Addenda) → oneItemType (presentIn past) (layoutIn a .typeNumber) ≡ true → Follows past (layoutIn a .typeNumber)
+pub record Between (set : CharacterSet) (letter header : Body) (past : List Body) : Type 0 where
+  pub around : Around set true letter header past
+  pub settled : Settled set past
+  pub viewed : Viewed set past
+  pub next : (a : Addenda) → oneItemType (presentIn set past) (layoutIn a .typeNumber) ≡ true → Follows set past (layoutIn a .typeNumber)
 
 views-end : (a : Addenda) → Ends true (endsOf a)
 unfolding follows
@@ -54,48 +55,49 @@ item-ends ofCredit (ofCheck d e f) present h = refl
 item-ends ofCredit (ofReturn d e f g) present h = refl
 item-ends ofCredit ofCredit present h = refl
 
-module _ (letter header : Body) where
-  item-good : (i : Item) (past rest : List Body) → SoundItem letter header i → Between letter header past
-      → oneItemType (presentIn past) (layoutOf i .typeNumber) ≡ true
-      → (Between letter header (afterItem past i) → Follows (afterItem past i) 70 → GoodAll (afterItem past i) rest) → GoodAll past (itemThen i rest)
+module _ (set : CharacterSet) (letter header : Body) where
+  item-good : (i : Item) (past rest : List Body) → SoundItem set letter header i → Between set letter header past
+      → oneItemType (presentIn set past) (layoutOf i .typeNumber) ≡ true
+      → (Between set letter header (afterItem past i) → Follows set (afterItem past i) 70 → GoodAll set (afterItem past i) rest)
+      → GoodAll set past (itemThen i rest)
   item-good i past rest sound b same on =
       let d = i .detail ∷ past in
       let before = afterAddenda d (i .addenda) in
       let after = afterItem past i in
-      let typed = item-typed letter header i sound in
-      let new = fresh (i .addenda) (i .detail) past (typed .detail) in
-      let f = item-figures i past typed in
-      let within = in-bundle letter header i past typed (b .around) in
-      let inside = in-addenda true letter (inBundle header i) d (i .addenda) (typed .addenda) within in
-      let around = around-item true letter header i past typed (b .around) in
-      let letter-is = indicator-is after (around .letter-is) in
-      let seen : Viewed after =
+      let typed = item-typed set letter header i sound in
+      let new = fresh set (i .addenda) (i .detail) past (typed .detail) in
+      let f = item-figures set i past typed in
+      let within = in-bundle set letter header i past typed (b .around) in
+      let inside = in-addenda set true letter (inBundle header i) d (i .addenda) (typed .addenda) within in
+      let around = around-item set true letter header i past typed (b .around) in
+      let letter-is = indicator-is set after (around .letter-is) in
+      let seen : Viewed set after =
       λ k h. omega (arith, f .shown, sound .seen (sym (f .demands) ∙ k) (subst (λ (y : ℕ). (y ≡ I) ⊎ (y ≡ F)) letter-is h)) in
       record {
-        first = made-item (i .addenda) (i .detail) past (sound .detail) (b .next (i .addenda) same) (b .settled) (b .viewed) same;
+        first = made-item set (i .addenda) (i .detail) past (sound .detail) (b .next (i .addenda) same) (b .settled) (b .viewed) same;
         rest =
-            addenda-good d (i .addenda) (viewsThen (i .views) rest) (sound .addenda) (typed .detail) (new .bofd) (new .endorser)
+            addenda-good set d (i .addenda) (viewsThen (i .views) rest) (sound .addenda) (typed .detail) (new .bofd) (new .endorser)
             (record { count = omega (arith, sound .number, new .addenda, new .stated-is); inside = within .inside-is })
-            (λ begins owes. views-good true (endsOf (i .addenda)) (views-end (i .addenda)) letter (inBundle header i) before (i .views) rest
+            (λ begins owes. views-good set true (endsOf (i .addenda)) (views-end (i .addenda)) letter (inBundle header i) before (i .views) rest
             (sound .views) inside (sound .unseen) (omega (arith, owes .count)) begins
             (λ settled ends. on
             (record {
               around = around;
               settled = settled;
               viewed = seen;
-              next = λ a h. allow-rest ends .may (layoutIn a .typeNumber) (item-ends (i .addenda) a (presentIn past) (rw (f .present) at h));
+              next = λ a h. allow-rest set ends .may (layoutIn a .typeNumber) (item-ends (i .addenda) a (presentIn set past) (rw (f .present) at h));
             })
-            (allow-rest ends .may 70 (control-ends (i .addenda)))));
+            (allow-rest set ends .may 70 (control-ends (i .addenda)))));
       }
 
   -- the 70 may come behind an item: where there is none, that it may come is asked for
-  pub items-good : (its : List Item) (past rest : List Body) → All (SoundItem letter header) its
-      → AllTheFirst (typesFrom (presentIn past) (itemTypes its)) → Between letter header past → (length its ≡ 0 → Follows past 70)
-      → (Between letter header (afterItems past its) → Follows (afterItems past its) 70 → GoodAll (afterItems past its) rest)
-      → GoodAll past (itemsThen its rest)
+  pub items-good : (its : List Item) (past rest : List Body) → All (SoundItem set letter header) its
+      → AllTheFirst (typesFrom (presentIn set past) (itemTypes its)) → Between set letter header past → (length its ≡ 0 → Follows set past 70)
+      → (Between set letter header (afterItems past its) → Follows set (afterItems past its) 70 → GoodAll set (afterItems past its) rest)
+      → GoodAll set past (itemsThen its rest)
   items-good [] past rest sound same b ends on = on b (ends refl)
   items-good (i ∷ its) past rest sound same b ends on =
-      let kinds = one-type-out (i .addenda) (presentIn past) (itemTypes its) same in
-      let present = item-figures i past (item-typed letter header i (sound .0)) .present in
+      let kinds = one-type-out (i .addenda) (presentIn set past) (itemTypes its) same in
+      let present = item-figures set i past (item-typed set letter header i (sound .0)) .present in
       item-good i past (itemsThen its rest) (sound .0) b (kinds .0)
       (λ b₁ ends₁. items-good its (afterItem past i) rest (sound .1) (rw present (kinds .1)) b₁ (λ e. ends₁) on)

@@ -7,6 +7,7 @@ use mathlib.Core.List.{List, [], _∷_}
 use mathlib.Core.Bool.{Bool, true, false, _||_}
 use lib.Dec.{eqb}
 use lib.ListN.{length}
+use Rattle.text.specs.declared.character_set.CharacterSet.{CharacterSet}
 use Rattle.layout.specs.Layout.{Layout}
 use Rattle.judge.specs.Alone.{typeOf}
 use Rattle.order.specs.MayFollow.{isItem, isAddendum, oneItemType}
@@ -29,60 +30,62 @@ use Rattle.arrangement.proofs.AddendaSound.{addenda-sound}
 use Rattle.arrangement.proofs.ViewsSound.{views-sound}
 
 -- an item's first record: what it says of itself, and of the item before it
-pub record First (a : Addenda) (d : Body) (past : List Body) : Type 0 where
-  pub right : Right (layoutIn a) d
-  pub settled : Settled past
-  pub viewed : Viewed past
-  pub item-type : oneItemType (presentIn past) (layoutIn a .typeNumber) ≡ true
+pub record First (set : CharacterSet) (a : Addenda) (d : Body) (past : List Body) : Type 0 where
+  pub right : Right set (layoutIn a) d
+  pub settled : Settled set past
+  pub viewed : Viewed set past
+  pub item-type : oneItemType (presentIn set past) (layoutIn a .typeNumber) ≡ true
 
 -- what the law below asks of the layout of a first record; at a layout written out each fact but the first is `refl`
-record Begins (k : Layout) : Type 0 where
-  known : Known k
+record Begins (set : CharacterSet) (k : Layout) : Type 0 where
+  known : Known set k
   no-addendum : isAddendum (k .typeNumber) ≡ false
   no-bundle : eqb (k .typeNumber) 20 ≡ false
   no-view : eqb (k .typeNumber) 50 ≡ false
   closes : isItem (k .typeNumber) || eqb (k .typeNumber) 70 ≡ true
 
-begins : (a : Addenda) → Begins (layoutIn a)
-begins (ofCheck a b c) = record { known = known-25; no-addendum = refl; no-bundle = refl; no-view = refl; closes = refl }
-begins (ofReturn a b c d) = record { known = known-31; no-addendum = refl; no-bundle = refl; no-view = refl; closes = refl }
-begins ofCredit = record { known = known-61; no-addendum = refl; no-bundle = refl; no-view = refl; closes = refl }
+begins : (set : CharacterSet) (a : Addenda) → Begins set (layoutIn a)
+begins set (ofCheck a b c) = record { known = known-25 set; no-addendum = refl; no-bundle = refl; no-view = refl; closes = refl }
+begins set (ofReturn a b c d) = record { known = known-31 set; no-addendum = refl; no-bundle = refl; no-view = refl; closes = refl }
+begins set ofCredit = record { known = known-61 set; no-addendum = refl; no-bundle = refl; no-view = refl; closes = refl }
 
-first-sound : (a : Addenda) (d : Body) (past : List Body) → OfType (layoutIn a .typeNumber) d → Good past d → First a d past
-first-sound a d past typed good =
+first-sound : (set : CharacterSet) (a : Addenda) (d : Body) (past : List Body) → OfType set (layoutIn a .typeNumber) d → Good set past d
+    → First set a d past
+first-sound set a d past typed good =
     let t = layoutIn a .typeNumber in
-    let g = as-type t past d typed good in
-    let own = begins a in
+    let g = as-type set t past d typed good in
+    let own = begins set a in
     record {
-      right = right-in (layoutIn a) d (own .known) typed (g .alone);
-      settled = settled-in t past d g (own .no-addendum);
-      viewed = viewed-in past d t (own .no-bundle) (own .no-view) (own .closes) g;
-      item-type = item-type-in t past d g;
+      right = right-in set (layoutIn a) d (own .known) typed (g .alone);
+      settled = settled-in set t past d g (own .no-addendum);
+      viewed = viewed-in set past d t (own .no-bundle) (own .no-view) (own .closes) g;
+      item-type = item-type-in set t past d g;
     }
 
 -- an item: all of it but what only the record behind it shows
-pub record ItemFound (letter : Body) (o : Owner) (i : Item) (past rest : List Body) : Type 0 where
-  pub first : First (i .addenda) (i .detail) past
-  pub addenda : SoundAddenda (i .addenda)
-  pub short : Short (afterItem past i)
-  pub views : All (SoundView o) (i .views)
-  pub unseen : indicator letter ≡ E → length (i .views) ≡ 0
-  pub behind : GoodAll (afterItem past i) rest
+pub record ItemFound (set : CharacterSet) (letter : Body) (o : Owner) (i : Item) (past rest : List Body) : Type 0 where
+  pub first : First set (i .addenda) (i .detail) past
+  pub addenda : SoundAddenda set (i .addenda)
+  pub short : Short set (afterItem past i)
+  pub views : All (SoundView set o) (i .views)
+  pub unseen : indicator set letter ≡ E → length (i .views) ≡ 0
+  pub behind : GoodAll set (afterItem past i) rest
 
-pub item-sound : (inside : Bool) (letter : Body) (o : Owner) (i : Item) (past rest : List Body) → TypedItem i
-    → InItem inside letter o (i .detail ∷ past) → GoodAll past (itemThen i rest) → ItemFound letter o i past rest
-item-sound inside letter o i past rest typed within good =
+pub item-sound : (set : CharacterSet) (inside : Bool) (letter : Body) (o : Owner) (i : Item) (past rest : List Body) → TypedItem set i
+    → InItem set inside letter o (i .detail ∷ past) → GoodAll set past (itemThen i rest) → ItemFound set letter o i past rest
+item-sound set inside letter o i past rest typed within good =
     let d = i .detail ∷ past in
-    let new = fresh (i .addenda) (i .detail) past (typed .detail) in
+    let new = fresh set (i .addenda) (i .detail) past (typed .detail) in
     let a =
-    addenda-sound d (i .addenda) (viewsThen (i .views) rest) (typed .addenda) (new .bofd) (new .endorser) (omega (arith, new .addenda)) (good .rest) in
+    addenda-sound set d (i .addenda) (viewsThen (i .views) rest) (typed .addenda) (new .bofd) (new .endorser) (omega (arith, new .addenda)) (good .rest) in
     let before = afterAddenda d (i .addenda) in
     let v =
-    views-sound inside letter o before (i .views) rest (typed .views) (in-addenda inside letter o d (i .addenda) (typed .addenda) within) (a .behind) in
-    let still-addenda = quiet-views 0 nextAddenda (omega arith) before (i .views) (typed .views) in
-    let still-stated = quiet-views 0 nextStated (search) before (i .views) (typed .views) in
+    views-sound set inside letter o before (i .views) rest (typed .views)
+    (in-addenda set inside letter o d (i .addenda) (typed .addenda) within) (a .behind) in
+    let still-addenda = quiet-views set 0 nextAddenda (omega arith) before (i .views) (typed .views) in
+    let still-stated = quiet-views set 0 (nextStated set) (search) before (i .views) (typed .views) in
     record {
-      first = first-sound (i .addenda) (i .detail) past (typed .detail) (good .first);
+      first = first-sound set (i .addenda) (i .detail) past (typed .detail) (good .first);
       addenda = a .sound;
       short = omega (arith, still-addenda, still-stated, a .short);
       views = v .sound;
@@ -91,20 +94,21 @@ item-sound inside letter o i past rest typed within good =
     }
 
 -- items of a bundle, up to its control, behind those of `past`
-pub record ItemsFound (letter header : Body) (its : List Item) (past rest : List Body) : Type 0 where
-  pub settled : Settled past
-  pub viewed : Viewed past
-  pub items : All (SoundItem letter header) its
-  pub one-item-type : AllTheFirst (typesFrom (presentIn past) (itemTypes its))
-  pub behind : GoodAll (afterItems past its) rest
+pub record ItemsFound (set : CharacterSet) (letter header : Body) (its : List Item) (past rest : List Body) : Type 0 where
+  pub settled : Settled set past
+  pub viewed : Viewed set past
+  pub items : All (SoundItem set letter header) its
+  pub one-item-type : AllTheFirst (typesFrom (presentIn set past) (itemTypes its))
+  pub behind : GoodAll set (afterItems past its) rest
 
-module _ (letter header : Body) where
+module _ (set : CharacterSet) (letter header : Body) where
   -- and with that
-  item-whole : (i : Item) (past rest : List Body) → TypedItem i → Around true letter header (afterItem past i)
-      → ItemFound letter (inBundle header i) i past rest → Settled (afterItem past i) → Viewed (afterItem past i) → SoundItem letter header i
+  item-whole : (i : Item) (past rest : List Body) → TypedItem set i → Around set true letter header (afterItem past i)
+      → ItemFound set letter (inBundle header i) i past rest → Settled set (afterItem past i) → Viewed set (afterItem past i)
+      → SoundItem set letter header i
   item-whole i past rest typed behind found settled viewed =
-      let f = item-figures i past typed in
-      let letter-is = indicator-is (afterItem past i) (behind .letter-is) in
+      let f = item-figures set i past typed in
+      let letter-is = indicator-is set (afterItem past i) (behind .letter-is) in
       record {
         detail = found .first .right;
         addenda = found .addenda;
@@ -114,23 +118,23 @@ module _ (letter header : Body) where
         seen = λ d e. omega (arith, f .shown, viewed (f .demands ∙ d) (subst (λ (n : ℕ). (n ≡ I) ⊎ (n ≡ F)) (sym letter-is) e));
       }
 
-  pub items-sound : (its : List Item) (past : List Body) (c : Body) (rest : List Body) → All TypedItem its → typeOf c ≡ 70
-      → Around true letter header past → GoodAll past (itemsThen its (c ∷ rest)) → ItemsFound letter header its past (c ∷ rest)
+  pub items-sound : (its : List Item) (past : List Body) (c : Body) (rest : List Body) → All (TypedItem set) its → typeOf set c ≡ 70
+      → Around set true letter header past → GoodAll set past (itemsThen its (c ∷ rest)) → ItemsFound set letter header its past (c ∷ rest)
   items-sound [] past c rest typed ends around good =
-      let g = as-type 70 past c ends (good .first) in
+      let g = as-type set 70 past c ends (good .first) in
       record {
-        settled = settled-in 70 past c g refl;
-        viewed = viewed-in past c 70 refl refl refl g;
+        settled = settled-in set 70 past c g refl;
+        viewed = viewed-in set past c 70 refl refl refl g;
         items = tt;
-        one-item-type = none-to-come (presentIn past);
+        one-item-type = none-to-come (presentIn set past);
         behind = good;
       }
   items-sound (i ∷ its) past c rest typed ends around good =
-      let within = in-bundle letter header i past (typed .0) around in
-      let here = item-sound true letter (inBundle header i) i past (itemsThen its (c ∷ rest)) (typed .0) within good in
-      let behind = around-item true letter header i past (typed .0) around in
+      let within = in-bundle set letter header i past (typed .0) around in
+      let here = item-sound set true letter (inBundle header i) i past (itemsThen its (c ∷ rest)) (typed .0) within good in
+      let behind = around-item set true letter header i past (typed .0) around in
       let others = items-sound its (afterItem past i) c rest (typed .1) ends behind (here .behind) in
-      let same = rw (item-figures i past (typed .0) .present) at (others .one-item-type) in
+      let same = rw (item-figures set i past (typed .0) .present) at (others .one-item-type) in
       record {
         settled = here .first .settled;
         viewed = here .first .viewed;
@@ -138,6 +142,6 @@ module _ (letter header : Body) where
           item-whole i past (itemsThen its (c ∷ rest)) (typed .0) behind here (others .settled) (others .viewed),
           others .items,
         );
-        one-item-type = one-type-in (i .addenda) (presentIn past) (itemTypes its) (here .first .item-type) same;
+        one-item-type = one-type-in (i .addenda) (presentIn set past) (itemTypes its) (here .first .item-type) same;
         behind = others .behind;
       }

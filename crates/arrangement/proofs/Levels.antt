@@ -4,6 +4,7 @@ use native.Mathlib.Omega.{arith}
 use mathlib.Core.Path.{_≡_, ap}
 use mathlib.Core.List.{List, [], _∷_}
 use lib.ListN.{length}
+use Rattle.text.specs.declared.character_set.CharacterSet.{CharacterSet}
 use Rattle.order.specs.MayFollow.{isItem}
 use Rattle.standing.specs.History.{one}
 use Rattle.file_as_records.specs.Framed.{Body}
@@ -18,77 +19,84 @@ use Rattle.arrangement.proofs.After.{afterItems, afterContents, afterLe
 use Rattle.arrangement.proofs.Sums.{by-details, by-views, by-credits, by-items, by-count, by-contents, bundle-sum, letter-sum, file-sum}
 
 -- what each record adds to the debits, and to the credits
-abbrev pub debitOne : ℕ → Body → ℕ
-debitOne t b = one (isDebitAs t b)
+abbrev pub debitOne : CharacterSet → ℕ → Body → ℕ
+debitOne set t b = one (isDebitAs set t b)
 
-abbrev pub creditOne : ℕ → Body → ℕ
-creditOne t b = one (isCreditAs t b)
+abbrev pub creditOne : CharacterSet → ℕ → Body → ℕ
+creditOne set t b = one (isCreditAs set t b)
 
-pub record BundleFigures (b : Bundle) (past : List Body) : Type 0 where
-  pub debits : debitsSince (is 20) (afterItems (b .header ∷ past) (b .items)) ≡ ofBundle debits b
-  pub debit : debitSince (is 20) (afterItems (b .header ∷ past) (b .items)) ≡ ofBundle debitCents b
-  pub credits : creditsSince (is 20) (afterItems (b .header ∷ past) (b .items)) ≡ ofBundle credits b
-  pub credit : creditSince (is 20) (afterItems (b .header ∷ past) (b .items)) ≡ ofBundle creditCents b
-  pub views : viewsSince (is 20) (afterItems (b .header ∷ past) (b .items)) ≡ ofBundle viewCount b
-  pub valid : micrIn (afterItems (b .header ∷ past) (b .items)) ≡ ofBundle micr b
+pub record BundleFigures (set : CharacterSet) (b : Bundle) (past : List Body) : Type 0 where
+  pub debits : debitsSince set (is 20) (afterItems (b .header ∷ past) (b .items)) ≡ ofBundle (debits set) b
+  pub debit : debitSince set (is 20) (afterItems (b .header ∷ past) (b .items)) ≡ ofBundle (debitCents set) b
+  pub credits : creditsSince set (is 20) (afterItems (b .header ∷ past) (b .items)) ≡ ofBundle (credits set) b
+  pub credit : creditSince set (is 20) (afterItems (b .header ∷ past) (b .items)) ≡ ofBundle (creditCents set) b
+  pub views : viewsSince set (is 20) (afterItems (b .header ∷ past) (b .items)) ≡ ofBundle viewCount b
+  pub valid : micrIn set (afterItems (b .header ∷ past) (b .items)) ≡ ofBundle (micr set) b
 
-pub bundle-figures : (b : Bundle) (past : List Body) → TypedBundle b → BundleFigures b past
-bundle-figures b past k =
+pub bundle-figures : (set : CharacterSet) (b : Bundle) (past : List Body) → TypedBundle set b → BundleFigures set b past
+bundle-figures set b past k =
     record {
-      debits = bundle-sum debitOne (by-details (omega arith)) past b k;
-      debit = bundle-sum debitAs (by-details (omega arith)) past b k;
-      credits = bundle-sum creditOne (by-details (omega arith)) past b k;
-      credit = bundle-sum creditAs (by-credits (omega arith)) past b k;
-      views = bundle-sum (count (is 50)) (by-views (omega arith)) past b k;
-      valid = bundle-sum micrAs (by-details (omega arith)) past b k;
+      debits = bundle-sum set (debitOne set) (by-details set (omega arith)) past b k;
+      debit = bundle-sum set (debitAs set) (by-details set (omega arith)) past b k;
+      credits = bundle-sum set (creditOne set) (by-details set (omega arith)) past b k;
+      credit = bundle-sum set (creditAs set) (by-credits set (omega arith)) past b k;
+      views = bundle-sum set (count (is 50)) (by-views set (omega arith)) past b k;
+      valid = bundle-sum set (micrAs set) (by-details set (omega arith)) past b k;
     }
 
-pub record LetterFigures (l : CashLetter) (past : List Body) : Type 0 where
-  pub bundles : openedIn (afterContents (l .header ∷ past) (l .contents)) ≡ bundleCount l
-  pub debits : debitsSince (is 10) (afterContents (l .header ∷ past) (l .contents)) ≡ ofLetter debits l
-  pub debit : debitSince (is 10) (afterContents (l .header ∷ past) (l .contents)) ≡ ofLetter debitCents l
-  pub credits : creditsSince (is 10) (afterContents (l .header ∷ past) (l .contents)) ≡ ofLetter credits l
-  pub credit : creditSince (is 10) (afterContents (l .header ∷ past) (l .contents)) ≡ ofLetter creditCents l
-  pub views : viewsSince (is 10) (afterContents (l .header ∷ past) (l .contents)) ≡ ofLetter viewCount l
+pub record LetterFigures (set : CharacterSet) (l : CashLetter) (past : List Body) : Type 0 where
+  pub bundles : openedIn set (afterContents (l .header ∷ past) (l .contents)) ≡ bundleCount l
+  pub debits : debitsSince set (is 10) (afterContents (l .header ∷ past) (l .contents)) ≡ ofLetter (debits set) l
+  pub debit : debitSince set (is 10) (afterContents (l .header ∷ past) (l .contents)) ≡ ofLetter (debitCents set) l
+  pub credits : creditsSince set (is 10) (afterContents (l .header ∷ past) (l .contents)) ≡ ofLetter (credits set) l
+  pub credit : creditSince set (is 10) (afterContents (l .header ∷ past) (l .contents)) ≡ ofLetter (creditCents set) l
+  pub views : viewsSince set (is 10) (afterContents (l .header ∷ past) (l .contents)) ≡ ofLetter viewCount l
 
-pub letter-figures : (l : CashLetter) (past : List Body) → TypedLetter l → LetterFigures l past
-letter-figures l past k =
+pub letter-figures : (set : CharacterSet) (l : CashLetter) (past : List Body) → TypedLetter set l → LetterFigures set l past
+letter-figures set l past k =
     record {
-      bundles = letter-sum (count (is 20)) (by-count (omega arith) (omega arith) (omega arith)) past l k;
-      debits = letter-sum debitOne (by-items (omega arith) (by-details (omega arith))) past l k;
-      debit = letter-sum debitAs (by-items (omega arith) (by-details (omega arith))) past l k;
-      credits = letter-sum creditOne (by-items (omega arith) (by-details (omega arith))) past l k;
-      credit = letter-sum creditAs (by-items (omega arith) (by-credits (omega arith))) past l k;
-      views = letter-sum (count (is 50)) (by-items (omega arith) (by-views (omega arith))) past l k;
+      bundles = letter-sum set (count (is 20)) (by-count set (omega arith) (omega arith) (omega arith)) past l k;
+      debits = letter-sum set (debitOne set) (by-items set (omega arith) (by-details set (omega arith))) past l k;
+      debit = letter-sum set (debitAs set) (by-items set (omega arith) (by-details set (omega arith))) past l k;
+      credits = letter-sum set (creditOne set) (by-items set (omega arith) (by-details set (omega arith))) past l k;
+      credit = letter-sum set (creditAs set) (by-items set (omega arith) (by-credits set (omega arith))) past l k;
+      views = letter-sum set (count (is 50)) (by-items set (omega arith) (by-views set (omega arith))) past l k;
     }
 
-pub record FileFigures (f : File) : Type 0 where
-  pub letters : lettersIn (afterLetters (f .header ∷ []) (f .letters)) ≡ length (f .letters)
+pub record FileFigures (set : CharacterSet) (f : File) : Type 0 where
+  pub letters : lettersIn set (afterLetters (f .header ∷ []) (f .letters)) ≡ length (f .letters)
   pub all : length (afterLetters (f .header ∷ []) (f .letters)) + 1 ≡ length (records f)
-  pub bundles : bundlesIn (afterLetters (f .header ∷ []) (f .letters)) ≡ total bundleCount (f .letters)
-  pub items : itemsSince never (afterLetters (f .header ∷ []) (f .letters)) ≡ ofFile everyItem f
-  pub debits : debitsSince never (afterLetters (f .header ∷ []) (f .letters)) ≡ ofFile debits f
-  pub debit : debitSince never (afterLetters (f .header ∷ []) (f .letters)) ≡ ofFile debitCents f
-  pub credits : creditsSince never (afterLetters (f .header ∷ []) (f .letters)) ≡ ofFile credits f
-  pub credit : creditSince never (afterLetters (f .header ∷ []) (f .letters)) ≡ ofFile creditCents f
-  pub views : viewsSince never (afterLetters (f .header ∷ []) (f .letters)) ≡ ofFile viewCount f
+  pub bundles : bundlesIn set (afterLetters (f .header ∷ []) (f .letters)) ≡ total bundleCount (f .letters)
+  pub items : itemsSince set never (afterLetters (f .header ∷ []) (f .letters)) ≡ ofFile everyItem f
+  pub debits : debitsSince set never (afterLetters (f .header ∷ []) (f .letters)) ≡ ofFile (debits set) f
+  pub debit : debitSince set never (afterLetters (f .header ∷ []) (f .letters)) ≡ ofFile (debitCents set) f
+  pub credits : creditsSince set never (afterLetters (f .header ∷ []) (f .letters)) ≡ ofFile (credits set) f
+  pub credit : creditSince set never (afterLetters (f .header ∷ []) (f .letters)) ≡ ofFile (creditCents set) f
+  pub views : viewsSince set never (afterLetters (f .header ∷ []) (f .letters)) ≡ ofFile viewCount f
 
-letters-counted : (f : File) → Typed f → lettersIn (afterLetters (f .header ∷ []) (f .letters)) ≡ length (f .letters)
-letters-counted f k =
+letters-counted : (set : CharacterSet) (f : File) → Typed set f → lettersIn set (afterLetters (f .header ∷ []) (f .letters)) ≡ length (f .letters)
+letters-counted set f k =
     let next : ℕ → Body → ℕ → ℕ = adding never (count (is 10)) in
-    let each = count-each afterLetter TypedLetter lettersIn (count-letter 0 next (omega arith) (omega arith) (omega arith)) in
-    omega (arith, each (f .header ∷ []) (f .letters) (k .letters), quiet-step 0 next [] (f .header) 1 (k .header) (omega arith))
+    let each = count-each afterLetter (TypedLetter set) (lettersIn set) (count-letter set 0 next (omega arith) (omega arith) (omega arith)) in
+    omega (arith, each (f .header ∷ []) (f .letters) (k .letters), quiet-step set 0 next [] (f .header) 1 (k .header) (omega arith))
 
-pub file-figures : (f : File) → Typed f → FileFigures f
-file-figures f k =
+pub file-figures : (set : CharacterSet) (f : File) → Typed set f → FileFigures set f
+file-figures set f k =
     record {
-      letters = letters-counted f k;
+      letters = letters-counted set f k;
       all = omega (arith, ap length (onto-letters (f .header ∷ []) (f .letters) (f .control ∷ [])), length-onto [] (records f));
-      bundles = file-sum (count (is 20)) (omega arith) (by-contents (omega arith) (by-count (omega arith) (omega arith) (omega arith))) f k;
-      items = file-sum (count isItem) (omega arith) (by-contents (omega arith) (by-items (omega arith) (by-details (omega arith)))) f k;
-      debits = file-sum debitOne (omega arith) (by-contents (omega arith) (by-items (omega arith) (by-details (omega arith)))) f k;
-      debit = file-sum debitAs (omega arith) (by-contents (omega arith) (by-items (omega arith) (by-details (omega arith)))) f k;
-      credits = file-sum creditOne (omega arith) (by-contents (omega arith) (by-items (omega arith) (by-details (omega arith)))) f k;
-      credit = file-sum creditAs (omega arith) (by-contents (omega arith) (by-items (omega arith) (by-credits (omega arith)))) f k;
-      views = file-sum (count (is 50)) (omega arith) (by-contents (omega arith) (by-items (omega arith) (by-views (omega arith)))) f k;
+      bundles =
+          file-sum set (count (is 20)) (omega arith) (by-contents set (omega arith) (by-count set (omega arith) (omega arith) (omega arith))) f k;
+      items =
+          file-sum set (count isItem) (omega arith) (by-contents set (omega arith) (by-items set (omega arith) (by-details set (omega arith)))) f k;
+      debits =
+          file-sum set (debitOne set) (omega arith) (by-contents set (omega arith) (by-items set (omega arith) (by-details set (omega arith)))) f k;
+      debit =
+          file-sum set (debitAs set) (omega arith) (by-contents set (omega arith) (by-items set (omega arith) (by-details set (omega arith)))) f k;
+      credits =
+          file-sum set (creditOne set) (omega arith) (by-contents set (omega arith) (by-items set (omega arith) (by-details set (omega arith)))) f k;
+      credit =
+          file-sum set (creditAs set) (omega arith) (by-contents set (omega arith) (by-items set (omega arith) (by-credits set (omega arith)))) f k;
+      views =
+          file-sum set (count (is 50)) (omega arith) (by-contents set (omega arith) (by-items set (omega arith) (by-views set (omega arith)))) f k;
     }

@@ -6,6 +6,7 @@ use mathlib.Core.Logic.{_⊎_, inl, inr}
 use mathlib.Core.Path.{_≡_, refl, sym, _∙_}
 use mathlib.Core.List.{List, [], _∷_}
 use lib.ListN.{length}
+use Rattle.text.specs.declared.character_set.CharacterSet.{CharacterSet}
 use Rattle.layout.specs.Layouts.{fileHeader, cashLetterHeader, cashLetterControl, fileControl}
 use Rattle.judge.specs.Alone.{typeOf}
 use Rattle.order.specs.MayFollow.{follows}
@@ -30,31 +31,33 @@ filled-letter i j m n e f (inl h) = inl (sym e ∙ h)
 filled-letter i j m n e f (inr h) = inr (omega (arith, f, h))
 
 -- a cash letter, and behind it no bundle open
-record LetterFound (l : CashLetter) (past rest : List Body) : Type 0 where
-  sound : SoundLetter l
-  outside : insideIn (afterLetter past l) ≡ false
-  behind : GoodAll (afterLetter past l) rest
+record LetterFound (set : CharacterSet) (l : CashLetter) (past rest : List Body) : Type 0 where
+  sound : SoundLetter set l
+  outside : insideIn set (afterLetter past l) ≡ false
+  behind : GoodAll set (afterLetter past l) rest
 
-letter-sound : (l : CashLetter) (past rest : List Body) → TypedLetter l → insideIn past ≡ false → GoodAll past (letterThen l rest)
-    → LetterFound l past rest
-letter-sound l past rest typed outside good =
-    let header = as-type 10 past (l .header) (typed .header) (good .first) in
-    let begun = letter-begun (l .header) past (typed .header) outside in
-    let contents = contents-sound (l .header) (l .contents) (l .header ∷ past) (l .control ∷ rest) (typed .contents) begun (good .rest) in
+letter-sound : (set : CharacterSet) (l : CashLetter) (past rest : List Body) → TypedLetter set l → insideIn set past ≡ false
+    → GoodAll set past (letterThen l rest)
+    → LetterFound set l past rest
+letter-sound set l past rest typed outside good =
+    let header = as-type set 10 past (l .header) (typed .header) (good .first) in
+    let begun = letter-begun set (l .header) past (typed .header) outside in
+    let contents = contents-sound set (l .header) (l .contents) (l .header ∷ past) (l .control ∷ rest) (typed .contents) begun (good .rest) in
     let before = afterContents (l .header ∷ past) (l .contents) in
-    let here = behind-contents (l .header) (l .contents) (l .header ∷ past) (typed .contents) begun in
-    let control = as-type 90 before (l .control) (typed .control) (contents .behind .first) in
+    let here = behind-contents set (l .header) (l .contents) (l .header ∷ past) (typed .contents) begun in
+    let control = as-type set 90 before (l .control) (typed .control) (contents .behind .first) in
     let totals = control .totalled .letter refl in
-    let f = letter-figures l past typed in
+    let f = letter-figures set l past typed in
     record {
       sound =
           record {
-            header = right-in cashLetterHeader (l .header) known-10 (typed .header) (header .alone);
+            header = right-in set cashLetterHeader (l .header) (known-10 set) (typed .header) (header .alone);
             filled =
-                filled-letter (indicatorIn before) (indicator (l .header)) (openedIn before) (bundleCount l) (indicator-is before (here .letter-is))
-                (f .bundles) (letter-in before (l .control) control);
+                filled-letter (indicatorIn set before) (indicator set (l .header)) (openedIn set before)
+                (bundleCount l) (indicator-is set before (here .letter-is))
+                (f .bundles) (letter-in set before (l .control) control);
             contents = contents .sound;
-            control = right-in cashLetterControl (l .control) known-90 (typed .control) (control .alone);
+            control = right-in set cashLetterControl (l .control) (known-90 set) (typed .control) (control .alone);
             bundle-count = totals .bundle-count ∙ f .bundles;
             debit-count = totals .debit-count ∙ f .debits;
             debit-cents = totals .debit-cents ∙ f .debit;
@@ -62,16 +65,17 @@ letter-sound l past rest typed outside good =
             credit-count = totals .credit-count ∙ f .credits;
             credit-cents = totals .credit-cents ∙ f .credit;
           };
-      outside = step false nextInside before (l .control) 90 (typed .control) ∙ here .outside;
+      outside = step set false nextInside before (l .control) 90 (typed .control) ∙ here .outside;
       behind = contents .behind .rest;
     }
 
-letters-sound : (ls : List CashLetter) (past rest : List Body) → All TypedLetter ls → insideIn past ≡ false → GoodAll past (lettersThen ls rest)
-    → Found (All SoundLetter ls) (afterLetters past ls) rest
-letters-sound [] past rest typed outside good = record { sound = tt; behind = good }
-letters-sound (l ∷ ls) past rest typed outside good =
-    let here = letter-sound l past (lettersThen ls rest) (typed .0) outside good in
-    let others = letters-sound ls (afterLetter past l) rest (typed .1) (here .outside) (here .behind) in
+letters-sound : (set : CharacterSet) (ls : List CashLetter) (past rest : List Body) → All (TypedLetter set) ls → insideIn set past ≡ false
+    → GoodAll set past (lettersThen ls rest)
+    → Found set (All (SoundLetter set) ls) (afterLetters past ls) rest
+letters-sound set [] past rest typed outside good = record { sound = tt; behind = good }
+letters-sound set (l ∷ ls) past rest typed outside good =
+    let here = letter-sound set l past (lettersThen ls rest) (typed .0) outside good in
+    let others = letters-sound set ls (afterLetter past l) rest (typed .1) (here .outside) (here .behind) in
     record { sound = (here .sound, others .sound); behind = others .behind }
 
 -- no file is empty: a 99 does not follow a 01
@@ -80,25 +84,25 @@ unfolding follows
 never-99 true = refl
 never-99 false = refl
 
-some-letter : (f : File) (ls : List CashLetter) → typeOf (f .header) ≡ 1 → typeOf (f .control) ≡ 99
-    → GoodAll (f .header ∷ []) (lettersThen ls (f .control ∷ [])) → 1 ≤ length ls
-some-letter f [] begins ends good = absurd (not-after 99 1 [] (f .header) (f .control) begins ends never-99 (good .first))
-some-letter f (l ∷ ls) begins ends good = omega arith
+some-letter : (set : CharacterSet) (f : File) (ls : List CashLetter) → typeOf set (f .header) ≡ 1 → typeOf set (f .control) ≡ 99
+    → GoodAll set (f .header ∷ []) (lettersThen ls (f .control ∷ [])) → 1 ≤ length ls
+some-letter set f [] begins ends good = absurd (not-after set 99 1 [] (f .header) (f .control) begins ends never-99 (good .first))
+some-letter set f (l ∷ ls) begins ends good = omega arith
 
-pub good-sound : (f : File) → Typed f → GoodAll [] (records f) → Sound f
-good-sound f typed good =
-    let header = as-type 1 [] (f .header) (typed .header) (good .first) in
-    let outside = step false nextInside [] (f .header) 1 (typed .header) in
-    let letters = letters-sound (f .letters) (f .header ∷ []) (f .control ∷ []) (typed .letters) outside (good .rest) in
+pub good-sound : (set : CharacterSet) (f : File) → Typed set f → GoodAll set [] (records f) → Sound set f
+good-sound set f typed good =
+    let header = as-type set 1 [] (f .header) (typed .header) (good .first) in
+    let outside = step set false nextInside [] (f .header) 1 (typed .header) in
+    let letters = letters-sound set (f .letters) (f .header ∷ []) (f .control ∷ []) (typed .letters) outside (good .rest) in
     let before = afterLetters (f .header ∷ []) (f .letters) in
-    let control = as-type 99 before (f .control) (typed .control) (letters .behind .first) in
+    let control = as-type set 99 before (f .control) (typed .control) (letters .behind .first) in
     let totals = control .totalled .file refl in
-    let s = file-figures f typed in
+    let s = file-figures set f typed in
     record {
-      header = right-in fileHeader (f .header) known-01 (typed .header) (header .alone);
-      filled = some-letter f (f .letters) (typed .header) (typed .control) (good .rest);
+      header = right-in set fileHeader (f .header) (known-01 set) (typed .header) (header .alone);
+      filled = some-letter set f (f .letters) (typed .header) (typed .control) (good .rest);
       letters = letters .sound;
-      control = right-in fileControl (f .control) known-99 (typed .control) (control .alone);
+      control = right-in set fileControl (f .control) (known-99 set) (typed .control) (control .alone);
       letter-count = totals .letter-count ∙ s .letters;
       record-count = totals .record-count ∙ s .all;
       item-count = totals .item-count ∙ s .items;

@@ -6,6 +6,7 @@ use mathlib.Core.List.{List, [], _∷_}
 use mathlib.Core.Option.{Option}
 use mathlib.Core.Bool.{Bool, true, false, not, cond}
 use lib.ListN.{length}
+use Rattle.text.specs.declared.character_set.CharacterSet.{CharacterSet}
 use Rattle.file_as_records.specs.Framed.{Body}
 use Rattle.file_as_records.proofs.Figures.{value, sumSince, is, never}
 use Rattle.arrangement.specs.Tree.{View, Addenda, ofCheck, ofReturn, ofCredit, Item, Bundle, Content, bundled, direct, CashLetter, File}
@@ -17,8 +18,8 @@ use Rattle.arrangement.proofs.After.{afterAddenda, afterItem, afterItem
 
 -- What each item adds to a sum: a figure. Records, here and below, so that their arguments are found; one `omega arith` proves any of those
 -- that speak of types alone.
-pub record ItemAdds (next : ℕ → Body → ℕ → ℕ) (figure : Figure) : Type 0 where
-  pub item : (past : List Body) (i : Item) → TypedItem i → value 0 next (afterItem past i) ≡ ofItem figure i + value 0 next past
+pub record ItemAdds (set : CharacterSet) (next : ℕ → Body → ℕ → ℕ) (figure : Figure) : Type 0 where
+  pub item : (past : List Body) (i : Item) → TypedItem set i → value set 0 next (afterItem past i) ≡ ofItem figure i + value set 0 next past
 
 -- A sum to which each item adds by its 25, 31 or 61 alone.
 pub record DetailsAdd (next : ℕ → Body → ℕ → ℕ) (figure : Figure) : Type 0 where
@@ -37,7 +38,7 @@ pub record ViewsAdd (next : ℕ → Body → ℕ → ℕ) : Type 0 where
   pub image : Quiet next 52
   pub analysis : Quiet next 54
 
-module _ {next : ℕ → Body → ℕ → ℕ} where
+module _ (set : CharacterSet) {next : ℕ → Body → ℕ → ℕ} where
   -- what one 25, 31 or 61 adds, whichever it is
   detail-adds : {figure : Figure} → DetailsAdd next figure → (a : Addenda) (d : Body) (vs : List View) (x : ℕ)
       → next (layoutIn a .typeNumber) d x ≡ figure a d vs + x
@@ -45,51 +46,51 @@ module _ {next : ℕ → Body → ℕ → ℕ} where
   detail-adds q (ofReturn a b c d) e vs x = q .return a b c d e vs x
   detail-adds q ofCredit d vs x = q .credit d vs x
 
-  pub by-details : {figure : Figure} → DetailsAdd next figure → ItemAdds next figure
+  pub by-details : {figure : Figure} → DetailsAdd next figure → ItemAdds set next figure
   by-details q =
       record {
         item = λ past i k.
-            at-item 0 next (q .addenda) (q .views) past i k ∙ detail-adds q (i .addenda) (i .detail) (i .views) (value 0 next past);
+            at-item set 0 next (q .addenda) (q .views) past i k ∙ detail-adds q (i .addenda) (i .detail) (i .views) (value set 0 next past);
       }
 
-  pub by-views : ViewsAdd next → ItemAdds next viewCount
+  pub by-views : ViewsAdd next → ItemAdds set next viewCount
   by-views q =
       record {
         item = λ past i k.
-            count-views 0 next (q .counted) (q .image) (q .analysis) (afterAddenda (i .detail ∷ past) (i .addenda)) (i .views) (k .views)
-            ∙ ap (λ (n : ℕ). length (i .views) + n) (to-views 0 next (q .details) (q .addenda) past i k);
+            count-views set 0 next (q .counted) (q .image) (q .analysis) (afterAddenda (i .detail ∷ past) (i .addenda)) (i .views) (k .views)
+            ∙ ap (λ (n : ℕ). length (i .views) + n) (to-views set 0 next (q .details) (q .addenda) past i k);
       }
 
 -- the cents of the credits, as the reading tells a credit
-abbrev pub notDebitCents : Figure
-notDebitCents a detail vs = cond (not (isDebitIn a detail)) (amountIn a detail) 0
+abbrev pub notDebitCents : CharacterSet → Figure
+notDebitCents set a detail vs = cond (not (isDebitIn set a detail)) (amountIn set a detail) 0
 
 otherwise : (b : Bool) (n : ℕ) → cond (not b) n 0 ≡ cond b 0 n
 otherwise true n = omega arith
 otherwise false n = omega arith
 
-pub by-credits : {next : ℕ → Body → ℕ → ℕ} → DetailsAdd next notDebitCents → ItemAdds next creditCents
-by-credits q =
+pub by-credits : (set : CharacterSet) {next : ℕ → Body → ℕ → ℕ} → DetailsAdd next (notDebitCents set) → ItemAdds set next (creditCents set)
+by-credits set q =
     record {
       item = λ past i k.
-          omega (arith, by-details q .item past i k, otherwise (isDebitIn (i .addenda) (i .detail)) (amountIn (i .addenda) (i .detail)));
+          omega (arith, by-details set q .item past i k, otherwise (isDebitIn set (i .addenda) (i .detail)) (amountIn set (i .addenda) (i .detail)));
     }
 
 -- What each content of a cash letter adds to a sum, and each cash letter.
-pub record ContentAdds (next : ℕ → Body → ℕ → ℕ) (part : Content → ℕ) : Type 0 where
-  pub content : (past : List Body) (c : Content) → TypedContent c → value 0 next (afterContent past c) ≡ part c + value 0 next past
+pub record ContentAdds (set : CharacterSet) (next : ℕ → Body → ℕ → ℕ) (part : Content → ℕ) : Type 0 where
+  pub content : (past : List Body) (c : Content) → TypedContent set c → value set 0 next (afterContent past c) ≡ part c + value set 0 next past
 
-pub record LetterAdds (next : ℕ → Body → ℕ → ℕ) (part : CashLetter → ℕ) : Type 0 where
-  pub letter : (past : List Body) (l : CashLetter) → TypedLetter l → value 0 next (afterLetter past l) ≡ part l + value 0 next past
+pub record LetterAdds (set : CharacterSet) (next : ℕ → Body → ℕ → ℕ) (part : CashLetter → ℕ) : Type 0 where
+  pub letter : (past : List Body) (l : CashLetter) → TypedLetter set l → value set 0 next (afterLetter past l) ≡ part l + value set 0 next past
 
-module _ {next : ℕ → Body → ℕ → ℕ} where
-  items-add : {figure : Figure} → ItemAdds next figure → (past : List Body) (b : Bundle) → All TypedItem (b .items)
-      → value 0 next (afterItems past (b .items)) ≡ ofBundle figure b + value 0 next past
-  items-add {figure} each past b k = sum-each afterItem TypedItem (value 0 next) (ofItem figure) (each .item) past (b .items) k
+module _ (set : CharacterSet) {next : ℕ → Body → ℕ → ℕ} where
+  items-add : {figure : Figure} → ItemAdds set next figure → (past : List Body) (b : Bundle) → All (TypedItem set) (b .items)
+      → value set 0 next (afterItems past (b .items)) ≡ ofBundle figure b + value set 0 next past
+  items-add {figure} each past b k = sum-each afterItem (TypedItem set) (value set 0 next) (ofItem figure) (each .item) past (b .items) k
 
-  contents-add : {part : Content → ℕ} → ContentAdds next part → (past : List Body) (l : CashLetter) → All TypedContent (l .contents)
-      → value 0 next (afterContents past (l .contents)) ≡ total part (l .contents) + value 0 next past
-  contents-add {part} each past l k = sum-each afterContent TypedContent (value 0 next) part (each .content) past (l .contents) k
+  contents-add : {part : Content → ℕ} → ContentAdds set next part → (past : List Body) (l : CashLetter) → All (TypedContent set) (l .contents)
+      → value set 0 next (afterContents past (l .contents)) ≡ total part (l .contents) + value set 0 next past
+  contents-add {part} each past l k = sum-each afterContent (TypedContent set) (value set 0 next) part (each .content) past (l .contents) k
 
 -- A header and a control that add nothing: of a bundle, and of a cash letter.
 pub record QuietBundle (next : ℕ → Body → ℕ → ℕ) : Type 0 where
@@ -100,51 +101,51 @@ pub record QuietLetter (next : ℕ → Body → ℕ → ℕ) : Type 0 where
   pub header : Quiet next 10
   pub control : Quiet next 90
 
-module _ {next : ℕ → Body → ℕ → ℕ} where
-  pub by-items : {figure : Figure} → QuietBundle next → ItemAdds next figure → ContentAdds next (ofContent figure)
+module _ (set : CharacterSet) {next : ℕ → Body → ℕ → ℕ} where
+  pub by-items : {figure : Figure} → QuietBundle next → ItemAdds set next figure → ContentAdds set next (ofContent figure)
   by-items {figure} q each = record { content = adds } where
-    adds : (past : List Body) (c : Content) → TypedContent c → value 0 next (afterContent past c) ≡ ofContent figure c + value 0 next past
+    adds : (past : List Body) (c : Content) → TypedContent set c → value set 0 next (afterContent past c) ≡ ofContent figure c + value set 0 next past
     adds past (bundled b) k =
         omega (
           arith,
-          quiet-step 0 next (afterItems (b .header ∷ past) (b .items)) (b .control) 70 (k .control) (q .control),
-          items-add each (b .header ∷ past) b (k .items),
-          quiet-step 0 next past (b .header) 20 (k .header) (q .header),
+          quiet-step set 0 next (afterItems (b .header ∷ past) (b .items)) (b .control) 70 (k .control) (q .control),
+          items-add set each (b .header ∷ past) b (k .items),
+          quiet-step set 0 next past (b .header) 20 (k .header) (q .header),
         )
-    adds past (direct c) k = each .item past (asItem c) (item-of c k)
+    adds past (direct c) k = each .item past (asItem c) (item-of set c k)
 
-  pub by-count : Counts next 20 → QuietItems next → Quiet next 70 → ContentAdds next isBundle
-  by-count counts q q70 = record { content = count-content 0 next counts q q70 }
+  pub by-count : Counts next 20 → QuietItems next → Quiet next 70 → ContentAdds set next isBundle
+  by-count counts q q70 = record { content = count-content set 0 next counts q q70 }
 
-  pub by-contents : {part : Content → ℕ} → QuietLetter next → ContentAdds next part → LetterAdds next (λ l. total part (l .contents))
+  pub by-contents : {part : Content → ℕ} → QuietLetter next → ContentAdds set next part → LetterAdds set next (λ l. total part (l .contents))
   by-contents q each =
       record {
         letter = λ past l k.
             omega (
               arith,
-              quiet-step 0 next (afterContents (l .header ∷ past) (l .contents)) (l .control) 90 (k .control) (q .control),
-              contents-add each (l .header ∷ past) l (k .contents),
-              quiet-step 0 next past (l .header) 10 (k .header) (q .header),
+              quiet-step set 0 next (afterContents (l .header ∷ past) (l .contents)) (l .control) 90 (k .control) (q .control),
+              contents-add set each (l .header ∷ past) l (k .contents),
+              quiet-step set 0 next past (l .header) 10 (k .header) (q .header),
             );
       }
 
 -- The sum of a measure of the records, at the control of a level, before it, where it begins at the level's header.
-module _ (measure : ℕ → Body → ℕ) where
-  pub bundle-sum : {figure : Figure} → ItemAdds (adding (is 20) measure) figure → (past : List Body) (b : Bundle) → TypedBundle b
-      → sumSince (is 20) measure (afterItems (b .header ∷ past) (b .items)) ≡ ofBundle figure b
+module _ (set : CharacterSet) (measure : ℕ → Body → ℕ) where
+  pub bundle-sum : {figure : Figure} → ItemAdds set (adding (is 20) measure) figure → (past : List Body) (b : Bundle) → TypedBundle set b
+      → sumSince set (is 20) measure (afterItems (b .header ∷ past) (b .items)) ≡ ofBundle figure b
   bundle-sum each past b k =
-      omega (arith, items-add each (b .header ∷ past) b (k .items), step 0 (adding (is 20) measure) past (b .header) 20 (k .header))
+      omega (arith, items-add set each (b .header ∷ past) b (k .items), step set 0 (adding (is 20) measure) past (b .header) 20 (k .header))
 
-  pub letter-sum : {part : Content → ℕ} → ContentAdds (adding (is 10) measure) part → (past : List Body) (l : CashLetter) → TypedLetter l
-      → sumSince (is 10) measure (afterContents (l .header ∷ past) (l .contents)) ≡ total part (l .contents)
+  pub letter-sum : {part : Content → ℕ} → ContentAdds set (adding (is 10) measure) part → (past : List Body) (l : CashLetter) → TypedLetter set l
+      → sumSince set (is 10) measure (afterContents (l .header ∷ past) (l .contents)) ≡ total part (l .contents)
   letter-sum each past l k =
-      omega (arith, contents-add each (l .header ∷ past) l (k .contents), step 0 (adding (is 10) measure) past (l .header) 10 (k .header))
+      omega (arith, contents-add set each (l .header ∷ past) l (k .contents), step set 0 (adding (is 10) measure) past (l .header) 10 (k .header))
 
-  pub file-sum : {part : CashLetter → ℕ} → Quiet (adding never measure) 1 → LetterAdds (adding never measure) part → (f : File) → Typed f
-      → sumSince never measure (afterLetters (f .header ∷ []) (f .letters)) ≡ total part (f .letters)
+  pub file-sum : {part : CashLetter → ℕ} → Quiet (adding never measure) 1 → LetterAdds set (adding never measure) part → (f : File) → Typed set f
+      → sumSince set never measure (afterLetters (f .header ∷ []) (f .letters)) ≡ total part (f .letters)
   file-sum {part} q each f k =
       omega (
         arith,
-        sum-each afterLetter TypedLetter (sumSince never measure) part (each .letter) (f .header ∷ []) (f .letters) (k .letters),
-        quiet-step 0 (adding never measure) [] (f .header) 1 (k .header) q,
+        sum-each afterLetter (TypedLetter set) (sumSince set never measure) part (each .letter) (f .header ∷ []) (f .letters) (k .letters),
+        quiet-step set 0 (adding never measure) [] (f .header) 1 (k .header) q,
       )

@@ -7,6 +7,8 @@ use mathlib.Core.List.{List, [], _∷_, _++_}
 use lib.Dec.{leb}
 use lib.ListN.{length, drop}
 use borrow.Author.Tests.{leb-true, le-leb, lt-leb}
+use Rattle.text.specs.CharacterSet.{setOf}
+use Rattle.text.specs.declared.character_set.CharacterSet.{CharacterSet}
 use Rattle.judge.specs.Alone.{typeOf}
 use Rattle.passes.specs.declared.Fault.{Fault}
 use Rattle.passes.specs.declared.Fault.the-variants.{Room}
@@ -36,9 +38,9 @@ use Rattle.arrangement.proofs.Soundness.{good-sound}
 use Rattle.arrangement.proofs.SoundTyped.{sound-typed}
 use Rattle.arrangement.proofs.Goodness.{sound-good}
 
-good-chain : (past bs : List Body) → GoodAll past bs → Chain (insideIn past) (lastIn past) bs
-good-chain past [] g = g
-good-chain past (b ∷ bs) g = (follows-in (typeOf b) past b (g .first), good-chain (b ∷ past) bs (g .rest))
+good-chain : (set : CharacterSet) (past bs : List Body) → GoodAll set past bs → Chain set (insideIn set past) (lastIn set past) bs
+good-chain set past [] g = g
+good-chain set past (b ∷ bs) g = (follows-in set (typeOf set b) past b (g .first), good-chain set (b ∷ past) bs (g .rest))
 
 refused-not : (fault : Fault) (n o : ℕ) (t : Totals) → Refused fault n o ≡ Accepted t → ⊥
 refused-not fault n o t e = let z : _≡_ {A = ℕ} 0 1 = cc in omega arith
@@ -64,31 +66,31 @@ in-room rows (Refused fault n o) t e = absurd (refused-not fault n o t e)
 
 -- an arrangement makes the file accepted, with its totals and its rows
 pub record Read (file : List ℕ) (x : File) : Type 0 where
-  pub answer : surveyed file ≡ Accepted (totals x)
-  pub its-rows : rowsOf file ≡ rows x
+  pub answer : surveyed file ≡ Accepted (totals (setOf file) x)
+  pub its-rows : rowsOf file ≡ rows (setOf file) x
 
 pub arranged-accepted : (file : List ℕ) (x : File) → Arranges file x → Read file x
 arranged-accepted file x a =
-    let k = sound-typed x (a .sound) in
-    let r = records-accepted file (records x) (a .size) (a .bytes) (sound-good x (a .sound)) in
-    record { answer = r .answer ∙ ap Accepted (totals-of x k (a .sound)); its-rows = r .rows ∙ rows-of x k (a .sound) }
+    let k = sound-typed (setOf file) x (a .sound) in
+    let r = records-accepted file (records x) (a .size) (a .bytes) (sound-good (setOf file) x (a .sound)) in
+    record { answer = r .answer ∙ ap Accepted (totals-of (setOf file) x k (a .sound)); its-rows = r .rows ∙ rows-of (setOf file) x k (a .sound) }
 
 -- an accepted file has an arrangement
 pub accepted-arranged : (file : List ℕ) (t : Totals) → Bytes file → surveyed file ≡ Accepted t → (x : File) × Arranges file x
 accepted-arranged file t b e =
     let r = accepted-records file t b e in
-    let s = shape-of (r .bodies) (good-chain [] (r .bodies) (r .good)) in
-    let g = subst (λ (bs : List Body). GoodAll [] bs) (sym (s .written-out)) (r .good) in (
+    let s = shape-of (setOf file) (r .bodies) (good-chain (setOf file) [] (r .bodies) (r .good)) in
+    let g = subst (λ (bs : List Body). GoodAll (setOf file) [] bs) (sym (s .written-out)) (r .good) in (
       s .file,
-      record { sound = good-sound (s .file) (s .typed) g; bytes = ap framed (s .written-out) ∙ r .bytes; size = accepted-small file t e },
+      record { sound = good-sound (setOf file) (s .file) (s .typed) g; bytes = ap framed (s .written-out) ∙ r .bytes; size = accepted-small file t e },
     )
 
 -- never two, sound or not, with records of the types of their places
-pub one-arrangement : (x y : File) → Typed x → Typed y → written x ≡ written y → length (written x) ≤ 268_435_456 → x ≡ y
-one-arrangement x y k l e n = one-shape x y k l (one-framing (records x) (records y) e n)
+pub one-arrangement : (set : CharacterSet) (x y : File) → Typed set x → Typed set y → written x ≡ written y → length (written x) ≤ 268_435_456 → x ≡ y
+one-arrangement set x y k l e n = one-shape set x y k l (one-framing (records x) (records y) e n)
 
 module _ (file table : List ℕ) (x : File) (a : Arranges file x) where
-  accepted-answer : HasRoom table x → answerOf file (length table) ≡ Accepted (totals x)
+  accepted-answer : HasRoom table x → answerOf file (length table) ≡ Accepted (totals (setOf file) x)
   unfolding answerOf
   accepted-answer h = rw (arranged-accepted file x a .answer) (rw (le-leb (length (records x)) (length table / 7) (omega (arith, h))))
 
@@ -107,7 +109,7 @@ same-totals u v e = cc
 has-room : (file table : List ℕ) (x : File) (t : Totals) → Arranges file x → answerOf file (length table) ≡ Accepted t → HasRoom table x
 has-room file table x t a e =
     let r = answer-accepted file table t e in
-    let u = same-totals (r .totals-are) (totals x) (sym (r .accepted) ∙ arranged-accepted file x a .answer) in
+    let u = same-totals (r .totals-are) (totals (setOf file) x) (sym (r .accepted) ∙ arranged-accepted file x a .answer) in
     omega (arith, r .room, ap (λ (v : Totals). v .records .0) u)
 
 pub theorem : (file table : List ℕ) → Bytes file → Arranged file table (answerOf file (length table)) (tableOf file table)
@@ -120,10 +122,10 @@ theorem file table b =
             let r = answer-accepted file table t e in
             let (x, a) = accepted-arranged file (r .totals-are) b (r .accepted) in
             (x, a, has-room file table x t a e),
-        λ y. let (x, a, room) = y in (totals x, accepted-answer file table x a room),
+        λ y. let (x, a, room) = y in (totals (setOf file) x, accepted-answer file table x a room),
       );
-      alone = λ x y a c. one-arrangement x y (sound-typed x (a .sound)) (sound-typed y (c .sound)) (a .bytes ∙ sym (c .bytes))
-          (omega (arith, ap length (a .bytes), a .size));
+      alone = λ x y a c. one-arrangement (setOf file) x y (sound-typed (setOf file) x (a .sound)) (sound-typed (setOf file) y (c .sound))
+          (a .bytes ∙ sym (c .bytes)) (omega (arith, ap length (a .bytes), a .size));
       its-totals = λ x a acc. let (t, e) = acc in accepted-answer file table x a (has-room file table x t a e);
       its-rows = λ x a acc.
           let (t, e) = acc in
@@ -131,7 +133,7 @@ theorem file table b =
           ∙ ap (λ (r : List ℕ). r ++ drop (length r) table) (arranged-accepted file x a .its-rows);
       its-control =
           λ x t a e.
-          let u = same-totals t (totals x) (sym e ∙ accepted-answer file table x a (has-room file table x t a e)) in (
+          let u = same-totals t (totals (setOf file) x) (sym e ∙ accepted-answer file table x a (has-room file table x t a e)) in (
             ap (λ (v : Totals). v .items .0) u ∙ sym (a .sound .item-count),
             ap (λ (v : Totals). v .sums .debit .0) u ∙ sym (a .sound .debit-cents),
             ap (λ (v : Totals). v .sums .credit .0) u ∙ sym (a .sound .credit-cents),
@@ -140,7 +142,8 @@ theorem file table b =
     }
 
 -- the same of an answer and a table that are those of the reading
-pub arranged : (file table : List ℕ) (answer : Answer) (after : List ℕ) → Bytes file → answer ≡ answerOf file (length table) → after ≡ tableOf file table
+pub arranged : (file table : List ℕ) (answer : Answer) (after : List ℕ) → Bytes file → answer ≡ answerOf file (length table)
+    → after ≡ tableOf file table
     → Arranged file table answer after
 arranged file table answer after b e t =
     subst (λ (a : Answer). Arranged file table a after) (sym e)

@@ -8,6 +8,7 @@ use mathlib.Core.Bool.{Bool, true, false, cond}
 use lib.Dec.{eqb}
 use lib.ListN.{length, length-take, drop}
 use borrow.Author.Tests.{le-leb}
+use Rattle.text.specs.declared.character_set.CharacterSet.{CharacterSet}
 use Rattle.text.proofs.Laws.{number-below}
 use Rattle.layout.specs.Layout.{Line, Layout}
 use Rattle.layout.specs.Layouts.{fileControl}
@@ -42,32 +43,33 @@ field-size (l ∷ ls) n b = here (eqb (l .number) n) (field-size ls n b)
     here false others = others
 
 -- a figure that a field of at most 16 characters states is not capped
-pub stated-whole : (k : Layout) (n : ℕ) (b : Body) {figure : ℕ} → sizeAmong (k .lines) n ≤ 16 → stated k n b ≡ figure → capped figure ≡ figure
-stated-whole k n b {figure} short e =
-    let below = number-below (fieldOf k n b) 16 (omega (arith, field-size (k .lines) n b)) in
+pub stated-whole : (set : CharacterSet) (k : Layout) (n : ℕ) (b : Body) {figure : ℕ} → sizeAmong (k .lines) n ≤ 16
+    → stated set k n b ≡ figure → capped figure ≡ figure
+stated-whole set k n b {figure} short e =
+    let below = number-below set (fieldOf k n b) 16 (omega (arith, field-size (k .lines) n b)) in
     rw (le-leb figure unstatable (omega arith))
 
 -- the 99 adds to no sum of the file
-with-control : (measure : ℕ → Body → ℕ) → Quiet (adding never measure) 99 → (f : File) → Typed f → {n : ℕ}
-    → sumSince never measure (afterLetters (f .header ∷ []) (f .letters)) ≡ n → sumSince never measure (onto (records f) []) ≡ n
-with-control measure q f k e =
-    ap (sumSince never measure) (onto-letters (f .header ∷ []) (f .letters) (f .control ∷ []))
-    ∙ quiet-step 0 (adding never measure) (afterLetters (f .header ∷ []) (f .letters)) (f .control) 99 (k .control) q ∙ e
+with-control : (set : CharacterSet) (measure : ℕ → Body → ℕ) → Quiet (adding never measure) 99 → (f : File) → Typed set f → {n : ℕ}
+    → sumSince set never measure (afterLetters (f .header ∷ []) (f .letters)) ≡ n → sumSince set never measure (onto (records f) []) ≡ n
+with-control set measure q f k e =
+    ap (sumSince set never measure) (onto-letters (f .header ∷ []) (f .letters) (f .control ∷ []))
+    ∙ quiet-step set 0 (adding never measure) (afterLetters (f .header ∷ []) (f .letters)) (f .control) 99 (k .control) q ∙ e
 
-pub totals-of : (x : File) → Typed x → Sound x → totalsAfter (onto (records x) []) ≡ totals x
-totals-of x k s =
-    let g = file-figures x k in
+pub totals-of : (set : CharacterSet) (x : File) → Typed set x → Sound set x → totalsAfter set (onto (records x) []) ≡ totals set x
+totals-of set x k s =
+    let g = file-figures set x k in
     cc (
-      with-control (count (is 10)) (omega arith) x k (g .letters),
-      with-control (count (is 20)) (omega arith) x k (g .bundles),
-      with-control (count isItem) (omega arith) x k (g .items),
-      with-control debitOne (omega arith) x k (g .debits),
-      with-control debitAs (omega arith) x k (g .debit),
-      with-control creditOne (omega arith) x k (g .credits),
-      with-control creditAs (omega arith) x k (g .credit),
-      with-control (count (is 50)) (omega arith) x k (g .views),
-      stated-whole fileControl 5 (x .control) (omega arith) (s .debit-cents),
-      stated-whole fileControl 8 (x .control) (omega arith) (s .credit-cents),
+      with-control set (count (is 10)) (omega arith) x k (g .letters),
+      with-control set (count (is 20)) (omega arith) x k (g .bundles),
+      with-control set (count isItem) (omega arith) x k (g .items),
+      with-control set (debitOne set) (omega arith) x k (g .debits),
+      with-control set (debitAs set) (omega arith) x k (g .debit),
+      with-control set (creditOne set) (omega arith) x k (g .credits),
+      with-control set (creditAs set) (omega arith) x k (g .credit),
+      with-control set (count (is 50)) (omega arith) x k (g .views),
+      stated-whole set fileControl 5 (x .control) (omega arith) (s .debit-cents),
+      stated-whole set fileControl 8 (x .control) (omega arith) (s .credit-cents),
       length-onto [] (records x),
       add-zero (length (records x)),
     )

@@ -7,6 +7,7 @@ use mathlib.Core.Path.{ap, _∙_, _≡_, refl, sym, subst}
 use mathlib.Core.List.{List, _∷_}
 use lib.Dec.{eqb}
 use borrow.Author.Tests.{leb-true, ltb-true, eqb-true, eq-eqb, ne-eqb, eqb-false}
+use Rattle.text.specs.declared.character_set.CharacterSet.{CharacterSet}
 use Rattle.judge.specs.Alone.{typeOf}
 use Rattle.order.specs.MayFollow.{isCheckOrReturn, isItem, isAddendum, mayFollow, follows, oneItemType}
 use Rattle.agree.specs.Links.{addendaKept, annexB}
@@ -87,63 +88,64 @@ filled-out i opened (inr h) = rw (not-zero opened h) (either-false (eqb i N))
     either-false false = refl
 
 -- what stands of the item before a record that is no addendum of it
-abbrev pub Settled : List Body → Type 0
-Settled past = statedIn past ≤ addendaIn past
+abbrev pub Settled : CharacterSet → List Body → Type 0
+Settled set past = statedIn set past ≤ addendaIn set past
 
-abbrev pub Viewed : List Body → Type 0
-Viewed past = Seen (indicatorIn past) (holderIn past) (shownIn past)
+abbrev pub Viewed : CharacterSet → List Body → Type 0
+Viewed set past = Seen (indicatorIn set past) (holderIn set past) (shownIn set past)
 
-pub as-type : (t : ℕ) (past : List Body) (b : Body) → typeOf b ≡ t → Good past b → GoodAs t past b
-as-type t past b e g = subst (λ (u : ℕ). GoodAs u past b) e g
+pub as-type : (set : CharacterSet) (t : ℕ) (past : List Body) (b : Body) → typeOf set b ≡ t → Good set past b → GoodAs set t past b
+as-type set t past b e g = subst (λ (u : ℕ). GoodAs set u past b) e g
 
-pub of-type : (t : ℕ) (past : List Body) (b : Body) → typeOf b ≡ t → GoodAs t past b → Good past b
-of-type t past b e g = subst (λ (u : ℕ). GoodAs u past b) (sym e) g
+pub of-type : (set : CharacterSet) (t : ℕ) (past : List Body) (b : Body) → typeOf set b ≡ t → GoodAs set t past b → Good set past b
+of-type set t past b e g = subst (λ (u : ℕ). GoodAs set u past b) (sym e) g
 
-module _ (t : ℕ) (past : List Body) (b : Body) (g : GoodAs t past b) where
-  pub settled-in : isAddendum t ≡ false → Settled past
+module _ (set : CharacterSet) (t : ℕ) (past : List Body) (b : Body) (g : GoodAs set t past b) where
+  pub settled-in : isAddendum t ≡ false → Settled set past
   unfolding addendaKept
-  settled-in h = leb-true (statedIn past) (addendaIn past) (rw h at (g .linked .addenda))
+  settled-in h = leb-true (statedIn set past) (addendaIn set past) (rw h at (g .linked .addenda))
 
-  pub short-in : isAddendum t ≡ true → addendaIn past < statedIn past
+  pub short-in : isAddendum t ≡ true → addendaIn set past < statedIn set past
   unfolding addendaKept
-  short-in h = ltb-true (addendaIn past) (statedIn past) (rw h at (g .linked .addenda))
+  short-in h = ltb-true (addendaIn set past) (statedIn set past) (rw h at (g .linked .addenda))
 
-  pub follows-in : follows (insideIn past) (lastIn past) t ≡ true
+  pub follows-in : follows (insideIn set past) (lastIn set past) t ≡ true
   unfolding mayFollow
-  follows-in = both (follows (insideIn past) (lastIn past) t) (oneItemType (presentIn past) t) (g .follows) .0
+  follows-in = both (follows (insideIn set past) (lastIn set past) t) (oneItemType (presentIn set past) t) (g .follows) .0
 
   -- "as the first"
-  pub item-type-in : oneItemType (presentIn past) t ≡ true
+  pub item-type-in : oneItemType (presentIn set past) t ≡ true
   unfolding mayFollow
-  item-type-in = both (follows (insideIn past) (lastIn past) t) (oneItemType (presentIn past) t) (g .follows) .1
+  item-type-in = both (follows (insideIn set past) (lastIn set past) t) (oneItemType (presentIn set past) t) (g .follows) .1
 
-module _ (past : List Body) (b : Body) where
-  pub bundle-in : GoodAs 20 past b → indicatorIn past ≡ N → ⊥
+module _ (set : CharacterSet) (past : List Body) (b : Body) where
+  pub bundle-in : GoodAs set 20 past b → indicatorIn set past ≡ N → ⊥
   unfolding annexB
-  bundle-in g = unequal (indicatorIn past) N (both (not (eqb (indicatorIn past) N)) true (g .linked .annex-b) .0)
+  bundle-in g = unequal (indicatorIn set past) N (both (not (eqb (indicatorIn set past) N)) true (g .linked .annex-b) .0)
 
-  pub view-in : GoodAs 50 past b → indicatorIn past ≡ E → ⊥
+  pub view-in : GoodAs set 50 past b → indicatorIn set past ≡ E → ⊥
   unfolding annexB
-  view-in g = unequal (indicatorIn past) E (both (not (eqb (indicatorIn past) E)) true (g .linked .annex-b) .0)
+  view-in g = unequal (indicatorIn set past) E (both (not (eqb (indicatorIn set past) E)) true (g .linked .annex-b) .0)
 
   -- at an item, and at a 70
-  pub viewed-in : (t : ℕ) → eqb t 20 ≡ false → eqb t 50 ≡ false → isItem t || eqb t 70 ≡ true → GoodAs t past b → Viewed past
+  pub viewed-in : (t : ℕ) → eqb t 20 ≡ false → eqb t 50 ≡ false → isItem t || eqb t 70 ≡ true → GoodAs set t past b → Viewed set past
   unfolding annexB
   viewed-in t not-20 not-50 closes g =
-      seen-in (indicatorIn past) (holderIn past) (shownIn past) (both _ _ (rw (not-20, not-50, closes) at (g .linked .annex-b)) .0)
+      seen-in (indicatorIn set past) (holderIn set past) (shownIn set past) (both _ _ (rw (not-20, not-50, closes) at (g .linked .annex-b)) .0)
 
-  pub letter-in : GoodAs 90 past b → (indicatorIn past ≡ N) ⊎ (1 ≤ openedIn past)
+  pub letter-in : GoodAs set 90 past b → (indicatorIn set past ≡ N) ⊎ (1 ≤ openedIn set past)
   unfolding annexB
-  letter-in g = filled-in (indicatorIn past) (openedIn past) (g .linked .annex-b)
+  letter-in g = filled-in (indicatorIn set past) (openedIn set past) (g .linked .annex-b)
 
 -- a type that does not follow the one before it, in a bundle or outside
-pub not-after : (t n : ℕ) (past : List Body) (b c : Body) → typeOf b ≡ n → typeOf c ≡ t → ((opened : Bool) → follows opened n t ≡ false)
-    → Good (b ∷ past) c → ⊥
-not-after t n past b c e k f g =
-    let opened = insideIn (b ∷ past) in
-    not-both (sym (f opened) ∙ ap (λ (l : ℕ). follows opened l t) (sym e) ∙ follows-in t (b ∷ past) c (as-type t (b ∷ past) c k g))
+pub not-after : (set : CharacterSet) (t n : ℕ) (past : List Body) (b c : Body) → typeOf set b ≡ n → typeOf set c ≡ t
+    → ((opened : Bool) → follows opened n t ≡ false)
+    → Good set (b ∷ past) c → ⊥
+not-after set t n past b c e k f g =
+    let opened = insideIn set (b ∷ past) in
+    not-both (sym (f opened) ∙ ap (λ (l : ℕ). follows opened l t) (sym e) ∙ follows-in set t (b ∷ past) c (as-type set t (b ∷ past) c k g))
 
 -- a part of an arrangement found sound, and the records behind it good
-pub record Found (Part : Type 0) (past rest : List Body) : Type 0 where
+pub record Found (set : CharacterSet) (Part : Type 0) (past rest : List Body) : Type 0 where
   pub sound : Part
-  pub behind : GoodAll past rest
+  pub behind : GoodAll set past rest

@@ -6,6 +6,7 @@ use mathlib.Core.Option.{Option, none, some}
 use mathlib.Core.Path.{_≡_, refl, sym, ap, _∙_, subst}
 use mathlib.Core.List.{List, [], _∷_}
 use lib.ListN.{length}
+use Rattle.text.specs.declared.character_set.CharacterSet.{CharacterSet}
 use Rattle.text.specs.DataTypes.{every}
 use Rattle.layout.specs.Layouts.{bundleHeader, imageViewData, imageViewAnalysis}
 use Rattle.order.specs.MayFollow.{isCarried, follows}
@@ -35,63 +36,66 @@ cycle-out : (inside : Bool) (xs ys : List ℕ) → Equals (cond inside (some ys)
 cycle-out true xs ys h e = h
 cycle-out false xs ys h e = cc
 
-module _ (inside : Bool) (ends : List ℕ) (order : Ends inside ends) (letter : Body) (o : Owner) where
-  analysis-good : (past : List Body) (x : Option Body) (rest : List Body) → IfAny (Right imageViewAnalysis) x → InItem inside letter o past
-      → Settled past → lastIn past ≡ 52
-      → (Settled (afterOptional past x) → Allow (50 ∷ ends) (afterOptional past x) → GoodAll (afterOptional past x) rest)
-      → GoodAll past (optionalThen x rest)
+module _ (set : CharacterSet) (inside : Bool) (ends : List ℕ) (order : Ends inside ends) (letter : Body) (o : Owner) where
+  analysis-good : (past : List Body) (x : Option Body) (rest : List Body) → IfAny (Right set imageViewAnalysis) x → InItem set inside letter o past
+      → Settled set past → lastIn set past ≡ 52
+      → (Settled set (afterOptional past x) → Allow set (50 ∷ ends) (afterOptional past x) → GoodAll set (afterOptional past x) rest)
+      → GoodAll set past (optionalThen x rest)
   unfolding isCarried
   analysis-good past none rest right within settled last on =
-      on settled (allow-rest (allow-at (54 ∷ 50 ∷ ends) (within .inside-is) last (order .behind-52)))
+      on settled (allow-rest set (allow-at set (54 ∷ 50 ∷ ends) (within .inside-is) last (order .behind-52)))
   analysis-good past (some b) rest right within settled last on =
-      let now = in-step inside letter o past b 54 (right .type) (search) within in
-      let allowed : Allow (54 ∷ 50 ∷ ends) past = allow-at (54 ∷ 50 ∷ ends) (within .inside-is) last (order .behind-52) in
+      let now = in-step set inside letter o past b 54 (right .type) (search) within in
+      let allowed : Allow set (54 ∷ 50 ∷ ends) past = allow-at set (54 ∷ 50 ∷ ends) (within .inside-is) last (order .behind-52) in
       record {
-        first = made-plain imageViewAnalysis known-54 refl refl past b right (allow-first allowed) (settled-kept 54 past refl settled) refl;
+        first =
+            made-plain set imageViewAnalysis (known-54 set) refl refl past b right (allow-first set allowed) (settled-kept set 54 past refl settled) refl;
         rest =
-            on (settled-on past b 54 (right .type) refl refl settled) (allow-at (50 ∷ ends) (now .inside-is) (right .type) (order .behind-54));
+            on (settled-on set past b 54 (right .type) refl refl settled) (allow-at set (50 ∷ ends) (now .inside-is) (right .type) (order .behind-54));
       }
 
-  view-good : (past : List Body) (v : View) (rest : List Body) → SoundView o v → InItem inside letter o past → (indicator letter ≡ E → ⊥)
-      → Settled past → Allow (50 ∷ ends) past
-      → (Settled (afterView past v) → Allow (50 ∷ ends) (afterView past v) → GoodAll (afterView past v) rest) → GoodAll past (viewThen v rest)
+  view-good : (past : List Body) (v : View) (rest : List Body) → SoundView set o v → InItem set inside letter o past → (indicator set letter ≡ E → ⊥)
+      → Settled set past → Allow set (50 ∷ ends) past
+      → (Settled set (afterView past v) → Allow set (50 ∷ ends) (afterView past v) → GoodAll set (afterView past v) rest)
+      → GoodAll set past (viewThen v rest)
   view-good past v rest sound within seen settled allowed on =
       let d = v .detail ∷ past in
-      let typed = view-typed o v sound in
-      let now = in-step inside letter o past (v .detail) 50 (typed .detail) (search) within in
-      let imaged = in-step inside letter o d (v .image) 52 (typed .image) (search) now in
+      let typed = view-typed set o v sound in
+      let now = in-step set inside letter o past (v .detail) 50 (typed .detail) (search) within in
+      let imaged = in-step set inside letter o d (v .image) 52 (typed .image) (search) now in
       let owner = sym (now .owner-is) in
-      let signature = step 0 nextSignature past (v .detail) 50 (typed .detail) in
-      let settled-50 = settled-on past (v .detail) 50 (typed .detail) refl refl settled in
-      let settled-52 = settled-on d (v .image) 52 (typed .image) refl refl settled-50 in
+      let signature = step set 0 (nextSignature set) past (v .detail) 50 (typed .detail) in
+      let settled-50 = settled-on set past (v .detail) 50 (typed .detail) refl refl settled in
+      let settled-52 = settled-on set d (v .image) 52 (typed .image) refl refl settled-50 in
       let cycle : List ℕ = fieldOf imageViewData 4 (v .image) in
-      let above : List ℕ = fieldOf bundleHeader 9 (newest (is 20) d) in
-      let links : ViewLinked d (v .image) =
+      let above : List ℕ = fieldOf bundleHeader 9 (newest set (is 20) d) in
+      let links : ViewLinked set d (v .image) =
       record {
         institution = sound .institution ∙ ap (λ (p : Owner). p .institution) owner;
         date = sound .date ∙ ap (λ (p : Owner). p .date) owner;
-        cycle = cycle-out (insideIn d) cycle above (subst (λ (p : Owner). Equals (p .cycle) cycle) owner (sound .cycle));
+        cycle = cycle-out (insideIn set d) cycle above (subst (λ (p : Owner). Equals (p .cycle) cycle) owner (sound .cycle));
         number = sound .number ∙ ap (λ (p : Owner). p .sequence) owner;
         signer = λ e. sound .signer (sym signature ∙ e);
         key = λ e. sound .key (sym signature ∙ e);
       } in
-      let behind-50 : Allow (52 ∷ []) d = allow-at (52 ∷ []) (now .inside-is) (typed .detail) (order .behind-50) in
+      let behind-50 : Allow set (52 ∷ []) d = allow-at set (52 ∷ []) (now .inside-is) (typed .detail) (order .behind-50) in
       record {
         first =
-            made-50 past (v .detail) (sound .detail) (allow-first allowed) settled (λ e. seen (sym (indicator-is past (within .letter-is)) ∙ e));
+            made-50 set past (v .detail) (sound .detail) (allow-first set allowed) settled (λ e. seen (sym (indicator-is set past (within .letter-is)) ∙ e));
         rest =
             record {
-              first = made-52 d (v .image) (sound .image) (allow-first behind-50) settled-50 links;
+              first = made-52 set d (v .image) (sound .image) (allow-first set behind-50) settled-50 links;
               rest = analysis-good (v .image ∷ d) (v .analysis) rest (sound .analysis) imaged settled-52 (typed .image) on;
             };
       }
 
-  pub views-good : (past : List Body) (vs : List View) (rest : List Body) → All (SoundView o) vs → InItem inside letter o past
-      → (indicator letter ≡ E → length vs ≡ 0) → Settled past → Allow (50 ∷ ends) past
-      → (Settled (afterViews past vs) → Allow (50 ∷ ends) (afterViews past vs) → GoodAll (afterViews past vs) rest) → GoodAll past (viewsThen vs rest)
+  pub views-good : (past : List Body) (vs : List View) (rest : List Body) → All (SoundView set o) vs → InItem set inside letter o past
+      → (indicator set letter ≡ E → length vs ≡ 0) → Settled set past → Allow set (50 ∷ ends) past
+      → (Settled set (afterViews past vs) → Allow set (50 ∷ ends) (afterViews past vs) → GoodAll set (afterViews past vs) rest)
+      → GoodAll set past (viewsThen vs rest)
   views-good past [] rest sound within unseen settled allowed on = on settled allowed
   views-good past (v ∷ vs) rest sound within unseen settled allowed on =
-      let seen : indicator letter ≡ E → ⊥ = λ e. omega (arith, unseen e) in
+      let seen : indicator set letter ≡ E → ⊥ = λ e. omega (arith, unseen e) in
       view-good past v (viewsThen vs rest) (sound .0) within seen settled allowed
-      (λ s a. views-good (afterView past v) vs rest (sound .1) (in-view inside letter o past v (view-typed o v (sound .0)) within)
+      (λ s a. views-good (afterView past v) vs rest (sound .1) (in-view set inside letter o past v (view-typed set o v (sound .0)) within)
       (λ h. absurd (seen h)) s a on)

@@ -5,6 +5,7 @@ use mathlib.Core.Logic.{_↔_}
 use mathlib.Core.Path.{_≡_}
 use mathlib.Core.List.{List, _++_}
 use lib.ListN.{length, drop}
+use Rattle.text.specs.CharacterSet.{setOf}
 use Rattle.layout.specs.Layouts.{fileControl}
 use Rattle.passes.specs.declared.Fault.the-variants.{Room}
 use Rattle.passes.specs.declared.Totals.{Totals}
@@ -17,7 +18,7 @@ use Rattle.arrangement.specs.RowsAndTotals.{rows, totals}
 
 -- an arrangement of a file within the size limit: sound, and written out it is the file
 pub record Arranges (file : List ℕ) (x : File) : Type 0 where
-  pub sound : Sound x
+  pub sound : Sound (setOf file) x
   pub bytes : written x ≡ file
   pub size : length file ≤ 268_435_456
 
@@ -32,11 +33,11 @@ HasRoom table x = 7 * length (records x) ≤ length table
 pub record Arranged (file table : List ℕ) (answer : Answer) (after : List ℕ) : Type 0 where
   pub exact : IsAccepted answer ↔ ((x : File) × Arranges file x × HasRoom table x)
   pub alone : (x y : File) → Arranges file x → Arranges file y → x ≡ y
-  pub its-totals : (x : File) → Arranges file x → IsAccepted answer → answer ≡ Accepted (totals x)
-  pub its-rows : (x : File) → Arranges file x → IsAccepted answer → after ≡ rows x ++ drop (length (rows x)) table
+  pub its-totals : (x : File) → Arranges file x → IsAccepted answer → answer ≡ Accepted (totals (setOf file) x)
+  pub its-rows : (x : File) → Arranges file x → IsAccepted answer → after ≡ rows (setOf file) x ++ drop (length (rows (setOf file) x)) table
   -- the item count and the amounts, as returned, are those that the 99 states (and, by Sound and `totals`, those of all the items, of all
   -- the debits and of all the credits added up)
   pub its-control : (x : File) (t : Totals) → Arranges file x → answer ≡ Accepted t
-      → (t .items .0 ≡ stated fileControl 4 (x .control)) × (t .sums .debit .0 ≡ stated fileControl 5 (x .control))
-      × (t .sums .credit .0 ≡ stated fileControl 8 (x .control))
+      → (t .items .0 ≡ stated (setOf file) fileControl 4 (x .control)) × (t .sums .debit .0 ≡ stated (setOf file) fileControl 5 (x .control))
+      × (t .sums .credit .0 ≡ stated (setOf file) fileControl 8 (x .control))
   pub its-room : (x : File) → Arranges file x → length table < 7 * length (records x) → answer ≡ Refused Room (length (records x)) 0

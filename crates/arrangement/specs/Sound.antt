@@ -7,6 +7,7 @@ use mathlib.Core.List.{List, [], _∷_}
 use mathlib.Core.Option.{Option, none, some}
 use lib.Dec.{eqb}
 use lib.ListN.{length, getD, take, drop}
+use Rattle.text.specs.declared.character_set.CharacterSet.{CharacterSet}
 use Rattle.text.specs.Characters.{isBlank}
 use Rattle.text.specs.Capitals.{capital}
 use Rattle.text.specs.DataTypes.{every, ofType}
@@ -33,29 +34,29 @@ total figure [] = 0
 total figure (x ∷ xs) = figure x + total figure xs
 
 -- fields after the fixed part stand one after the other, each as long as the record says
-abbrev pub PartsRight : List Sized → Body → List ℕ → Type 0
-PartsRight [] b rest = Unit {0}
-PartsRight (s ∷ ss) b rest = (ofType (s .dataType) (take (statedSize s b) rest) ≡ true) × PartsRight ss b (drop (statedSize s b) rest)
+abbrev pub PartsRight : CharacterSet → List Sized → Body → List ℕ → Type 0
+PartsRight set [] b rest = Unit {0}
+PartsRight set (s ∷ ss) b rest = (ofType set (s .dataType) (take (statedSize set s b) rest) ≡ true) × PartsRight set ss b (drop (statedSize set s b) rest)
 
 -- a record of a layout, alone: its type, its length, each of its fields
-pub record Right (k : Layout) (b : Body) : Type 0 where
-  pub type : typeOf b ≡ k .typeNumber
-  pub long : length b ≡ k .fixedLength + statedSizes (sizedParts k) b
-  pub fields : All (λ (l : Line). lineHolds l b ≡ true) (k .lines)
-  pub parts : PartsRight (sizedParts k) b (drop (k .fixedLength) b)
+pub record Right (set : CharacterSet) (k : Layout) (b : Body) : Type 0 where
+  pub type : typeOf set b ≡ k .typeNumber
+  pub long : length b ≡ k .fixedLength + statedSizes set (sizedParts k) b
+  pub fields : All (λ (l : Line). lineHolds set l b ≡ true) (k .lines)
+  pub parts : PartsRight set (sizedParts k) b (drop (k .fixedLength) b)
 
 -- the number that a field states
-abbrev pub stated : Layout → ℕ → Body → ℕ
-stated k n b = number (fieldOf k n b)
+abbrev pub stated : CharacterSet → Layout → ℕ → Body → ℕ
+stated set k n b = number set (fieldOf k n b)
 
 -- a record of a layout whose record number, field 2, is n; and records whose numbers run on from n
-pub record RightAt (k : Layout) (n : ℕ) (b : Body) : Type 0 where
-  pub right : Right k b
-  pub number : stated k 2 b ≡ n
+pub record RightAt (set : CharacterSet) (k : Layout) (n : ℕ) (b : Body) : Type 0 where
+  pub right : Right set k b
+  pub number : stated set k 2 b ≡ n
 
-abbrev pub Numbered : Layout → ℕ → List Body → Type 0
-Numbered k n [] = Unit {0}
-Numbered k n (b ∷ bs) = RightAt k n b × Numbered k (n + 1) bs
+abbrev pub Numbered : CharacterSet → Layout → ℕ → List Body → Type 0
+Numbered set k n [] = Unit {0}
+Numbered set k n (b ∷ bs) = RightAt set k n b × Numbered set k (n + 1) bs
 
 -- what an item is and says: its type; its amount (field 6, of a 61 field 7); its sequence number (field 7, of a 61 field 8); and how many
 -- addenda it has (field 12 of a 25, field 8 of a 31; a 61 has none)
@@ -67,20 +68,20 @@ layoutIn ofCredit = creditRecord
 abbrev pub layoutOf : Item → Layout
 layoutOf i = layoutIn (i .addenda)
 
-abbrev pub amountIn : Addenda → Body → ℕ
-amountIn (ofCheck a b c) detail = stated checkDetail 6 detail
-amountIn (ofReturn a b c d) detail = stated returnRecord 6 detail
-amountIn ofCredit detail = stated creditRecord 7 detail
+abbrev pub amountIn : CharacterSet → Addenda → Body → ℕ
+amountIn set (ofCheck a b c) detail = stated set checkDetail 6 detail
+amountIn set (ofReturn a b c d) detail = stated set returnRecord 6 detail
+amountIn set ofCredit detail = stated set creditRecord 7 detail
 
 abbrev pub sequenceIn : Addenda → Body → List ℕ
 sequenceIn (ofCheck a b c) detail = fieldOf checkDetail 7 detail
 sequenceIn (ofReturn a b c d) detail = fieldOf returnRecord 7 detail
 sequenceIn ofCredit detail = fieldOf creditRecord 8 detail
 
-abbrev pub statedIn : Addenda → Body → ℕ
-statedIn (ofCheck a b c) detail = stated checkDetail 12 detail
-statedIn (ofReturn a b c d) detail = stated returnRecord 8 detail
-statedIn ofCredit detail = 0
+abbrev pub statedIn : CharacterSet → Addenda → Body → ℕ
+statedIn set (ofCheck a b c) detail = stated set checkDetail 12 detail
+statedIn set (ofReturn a b c d) detail = stated set returnRecord 8 detail
+statedIn set ofCredit detail = 0
 
 -- whether views are demanded of it: of checks and returns, "none being demanded" of a 61 (request 2)
 abbrev pub demandsView : Addenda → Bool
@@ -89,10 +90,10 @@ demandsView (ofReturn a b c d) = true
 demandsView ofCredit = false
 
 -- "Usage indicator 9 makes a debit, any other defined value a credit" (request 2): field 2 of a 61. Every check and return is a debit.
-abbrev pub isDebitIn : Addenda → Body → Bool
-isDebitIn (ofCheck a b c) detail = true
-isDebitIn (ofReturn a b c d) detail = true
-isDebitIn ofCredit detail = eqb (stated creditRecord 2 detail) 9
+abbrev pub isDebitIn : CharacterSet → Addenda → Body → Bool
+isDebitIn set (ofCheck a b c) detail = true
+isDebitIn set (ofReturn a b c d) detail = true
+isDebitIn set ofCredit detail = eqb (stated set creditRecord 2 detail) 9
 
 -- A figure of an item, from its addenda, its first record and its views; and that of a level, added up from the items themselves. A credit
 -- directly in a cash letter counts there and in the file.
@@ -119,26 +120,26 @@ ofFile figure f = total (ofLetter figure) (f .letters)
 abbrev pub everyItem : Figure
 everyItem a detail vs = 1
 
-abbrev pub debits : Figure
-debits a detail vs = one (isDebitIn a detail)
+abbrev pub debits : CharacterSet → Figure
+debits set a detail vs = one (isDebitIn set a detail)
 
-abbrev pub debitCents : Figure
-debitCents a detail vs = cond (isDebitIn a detail) (amountIn a detail) 0
+abbrev pub debitCents : CharacterSet → Figure
+debitCents set a detail vs = cond (isDebitIn set a detail) (amountIn set a detail) 0
 
-abbrev pub credits : Figure
-credits a detail vs = one (not (isDebitIn a detail))
+abbrev pub credits : CharacterSet → Figure
+credits set a detail vs = one (not (isDebitIn set a detail))
 
-abbrev pub creditCents : Figure
-creditCents a detail vs = cond (isDebitIn a detail) 0 (amountIn a detail)
+abbrev pub creditCents : CharacterSet → Figure
+creditCents set a detail vs = cond (isDebitIn set a detail) 0 (amountIn set a detail)
 
 abbrev pub viewCount : Figure
 viewCount a detail vs = length vs
 
 -- "cents of the 25s whose MICR Valid Indicator is 1": field 10
-abbrev pub micr : Figure
-micr (ofCheck a b c) detail vs = cond (eqb (stated checkDetail 10 detail) 1) (stated checkDetail 6 detail) 0
-micr (ofReturn a b c d) detail vs = 0
-micr ofCredit detail vs = 0
+abbrev pub micr : CharacterSet → Figure
+micr set (ofCheck a b c) detail vs = cond (eqb (stated set checkDetail 10 detail) 1) (stated set checkDetail 6 detail) 0
+micr set (ofReturn a b c d) detail vs = 0
+micr set ofCredit detail vs = 0
 
 -- the bundles among what a cash letter holds
 abbrev pub isBundle : Content → ℕ
@@ -149,21 +150,21 @@ abbrev pub bundleCount : CashLetter → ℕ
 bundleCount l = total isBundle (l .contents)
 
 -- "26 and 32: record numbers run from 1 in each item; 28 and 35 likewise, each on its own": the addenda of a check, and those of a return
-pub record SoundOfCheck (a : List Body) (b : Option Body) (c : List Body) : Type 0 where
-  pub addenda-a : Numbered checkDetailAddendumA 1 a
-  pub addendum-b : IfAny (Right checkDetailAddendumB) b
-  pub addenda-c : Numbered checkDetailAddendumC 1 c
+pub record SoundOfCheck (set : CharacterSet) (a : List Body) (b : Option Body) (c : List Body) : Type 0 where
+  pub addenda-a : Numbered set checkDetailAddendumA 1 a
+  pub addendum-b : IfAny (Right set checkDetailAddendumB) b
+  pub addenda-c : Numbered set checkDetailAddendumC 1 c
 
-pub record SoundOfReturn (a : List Body) (b : Body) (c : Option Body) (d : List Body) : Type 0 where
-  pub addenda-a : Numbered returnAddendumA 1 a
-  pub addendum-b : Right returnAddendumB b
-  pub addendum-c : IfAny (Right returnAddendumC) c
-  pub addenda-d : Numbered returnAddendumD 1 d
+pub record SoundOfReturn (set : CharacterSet) (a : List Body) (b : Body) (c : Option Body) (d : List Body) : Type 0 where
+  pub addenda-a : Numbered set returnAddendumA 1 a
+  pub addendum-b : Right set returnAddendumB b
+  pub addendum-c : IfAny (Right set returnAddendumC) c
+  pub addenda-d : Numbered set returnAddendumD 1 d
 
-abbrev pub SoundAddenda : Addenda → Type 0
-SoundAddenda (ofCheck a b c) = SoundOfCheck a b c
-SoundAddenda (ofReturn a b c d) = SoundOfReturn a b c d
-SoundAddenda ofCredit = Unit {0}
+abbrev pub SoundAddenda : CharacterSet → Addenda → Type 0
+SoundAddenda set (ofCheck a b c) = SoundOfCheck set a b c
+SoundAddenda set (ofReturn a b c d) = SoundOfReturn set a b c d
+SoundAddenda set ofCredit = Unit {0}
 
 -- What fields 2 to 5 of a 52 have to equal. In a bundle: "field 2 equals the bundle header's field 4, field 3 its field 5, field 4 its field 9;
 -- field 5 equals field 7 of the item". "Outside a bundle the 52's fields 2 and 3 equal the cash letter header's fields 4 and 5, and its
@@ -197,20 +198,20 @@ Equals none xs = Unit {0}
 Equals (some ys) xs = xs ≡ ys
 
 -- a view; "fields 7 and 8 are not blank if the 50's field 10 is 1"
-pub record SoundView (o : Owner) (v : View) : Type 0 where
-  pub detail : Right imageViewDetail (v .detail)
-  pub image : Right imageViewData (v .image)
-  pub analysis : IfAny (Right imageViewAnalysis) (v .analysis)
+pub record SoundView (set : CharacterSet) (o : Owner) (v : View) : Type 0 where
+  pub detail : Right set imageViewDetail (v .detail)
+  pub image : Right set imageViewData (v .image)
+  pub analysis : IfAny (Right set imageViewAnalysis) (v .analysis)
   pub institution : fieldOf imageViewData 2 (v .image) ≡ o .institution
   pub date : fieldOf imageViewData 3 (v .image) ≡ o .date
   pub cycle : Equals (o .cycle) (fieldOf imageViewData 4 (v .image))
   pub number : fieldOf imageViewData 5 (v .image) ≡ o .sequence
-  pub signer : stated imageViewDetail 10 (v .detail) ≡ 1 → every isBlank (fieldOf imageViewData 7 (v .image)) ≡ false
-  pub key : stated imageViewDetail 10 (v .detail) ≡ 1 → every isBlank (fieldOf imageViewData 8 (v .image)) ≡ false
+  pub signer : stated set imageViewDetail 10 (v .detail) ≡ 1 → every (isBlank set) (fieldOf imageViewData 7 (v .image)) ≡ false
+  pub key : stated set imageViewDetail 10 (v .detail) ≡ 1 → every (isBlank set) (fieldOf imageViewData 8 (v .image)) ≡ false
 
 -- Annex B: field 8 of the cash letter header, N, E, I or F, in either case
-abbrev pub indicator : Body → ℕ
-indicator letter = capital (getD (fieldOf cashLetterHeader 8 letter) 0 0)
+abbrev pub indicator : CharacterSet → Body → ℕ
+indicator set letter = capital set (getD (fieldOf cashLetterHeader 8 letter) 0 0)
 
 abbrev pub N : ℕ
 N = 0x4E
@@ -226,13 +227,13 @@ F = 0x46
 
 -- an item under a cash letter header and a bundle header: it has the addenda that it states, no view in a letter of type E, and, where
 -- views are demanded of it, at least one in a letter of type I or F
-pub record SoundItem (letter header : Body) (i : Item) : Type 0 where
-  pub detail : Right (layoutOf i) (i .detail)
-  pub addenda : SoundAddenda (i .addenda)
-  pub number : length (addendaThen (i .addenda) []) ≡ statedIn (i .addenda) (i .detail)
-  pub views : All (SoundView (inBundle header i)) (i .views)
-  pub unseen : indicator letter ≡ E → length (i .views) ≡ 0
-  pub seen : demandsView (i .addenda) ≡ true → (indicator letter ≡ I) ⊎ (indicator letter ≡ F) → 1 ≤ length (i .views)
+pub record SoundItem (set : CharacterSet) (letter header : Body) (i : Item) : Type 0 where
+  pub detail : Right set (layoutOf i) (i .detail)
+  pub addenda : SoundAddenda set (i .addenda)
+  pub number : length (addendaThen (i .addenda) []) ≡ statedIn set (i .addenda) (i .detail)
+  pub views : All (SoundView set (inBundle header i)) (i .views)
+  pub unseen : indicator set letter ≡ E → length (i .views) ≡ 0
+  pub seen : demandsView (i .addenda) ≡ true → (indicator set letter ≡ I) ⊎ (indicator set letter ≡ F) → 1 ≤ length (i .views)
 
 -- "Items in a bundle are all 25 or all 31, as the first"; "the one-kind rule ignores 61s" (request 2)
 abbrev pub itemTypesIn : Addenda → List ℕ → List ℕ
@@ -250,52 +251,52 @@ AllTheFirst (t ∷ ts) = All (λ (u : ℕ). u ≡ t) ts
 
 -- a bundle; no bundle stands in a letter of type N. Its control (clause 31): debits, debit cents, cents of the 25s with a valid MICR line
 -- ("blank is not compared"), views, credits, credit cents
-pub record SoundBundle (letter : Body) (b : Bundle) : Type 0 where
-  pub header : Right bundleHeader (b .header)
-  pub allowed : indicator letter ≡ N → ⊥
+pub record SoundBundle (set : CharacterSet) (letter : Body) (b : Bundle) : Type 0 where
+  pub header : Right set bundleHeader (b .header)
+  pub allowed : indicator set letter ≡ N → ⊥
   pub filled : 1 ≤ length (b .items)
-  pub items : All (SoundItem letter (b .header)) (b .items)
+  pub items : All (SoundItem set letter (b .header)) (b .items)
   pub one-item-type : AllTheFirst (itemTypes (b .items))
-  pub control : Right bundleControl (b .control)
-  pub debit-count : stated bundleControl 2 (b .control) ≡ ofBundle debits b
-  pub debit-cents : stated bundleControl 3 (b .control) ≡ ofBundle debitCents b
-  pub valid : (every isBlank (fieldOf bundleControl 4 (b .control)) ≡ true) ⊎ (stated bundleControl 4 (b .control) ≡ ofBundle micr b)
-  pub view-count : stated bundleControl 5 (b .control) ≡ ofBundle viewCount b
-  pub credit-count : stated bundleControl 6 (b .control) ≡ ofBundle credits b
-  pub credit-cents : stated bundleControl 7 (b .control) ≡ ofBundle creditCents b
+  pub control : Right set bundleControl (b .control)
+  pub debit-count : stated set bundleControl 2 (b .control) ≡ ofBundle (debits set) b
+  pub debit-cents : stated set bundleControl 3 (b .control) ≡ ofBundle (debitCents set) b
+  pub valid : (every (isBlank set) (fieldOf bundleControl 4 (b .control)) ≡ true) ⊎ (stated set bundleControl 4 (b .control) ≡ ofBundle (micr set) b)
+  pub view-count : stated set bundleControl 5 (b .control) ≡ ofBundle viewCount b
+  pub credit-count : stated set bundleControl 6 (b .control) ≡ ofBundle (credits set) b
+  pub credit-cents : stated set bundleControl 7 (b .control) ≡ ofBundle (creditCents set) b
 
 -- a credit directly in a cash letter: no view in a letter of type E, and none demanded in any
-pub record SoundCredit (letter : Body) (c : Credit) : Type 0 where
-  pub detail : Right creditRecord (c .detail)
-  pub views : All (SoundView (inLetter letter c)) (c .views)
-  pub unseen : indicator letter ≡ E → length (c .views) ≡ 0
+pub record SoundCredit (set : CharacterSet) (letter : Body) (c : Credit) : Type 0 where
+  pub detail : Right set creditRecord (c .detail)
+  pub views : All (SoundView set (inLetter letter c)) (c .views)
+  pub unseen : indicator set letter ≡ E → length (c .views) ≡ 0
 
-abbrev pub SoundContent : Body → Content → Type 0
-SoundContent letter (bundled b) = SoundBundle letter b
-SoundContent letter (direct c) = SoundCredit letter c
+abbrev pub SoundContent : CharacterSet → Body → Content → Type 0
+SoundContent set letter (bundled b) = SoundBundle set letter b
+SoundContent set letter (direct c) = SoundCredit set letter c
 
 -- a cash letter; one of type E, I or F has a bundle. Its control (clause 34): bundles, debits, debit cents, views, credits, credit cents
-pub record SoundLetter (l : CashLetter) : Type 0 where
-  pub header : Right cashLetterHeader (l .header)
-  pub filled : (indicator (l .header) ≡ N) ⊎ (1 ≤ bundleCount l)
-  pub contents : All (SoundContent (l .header)) (l .contents)
-  pub control : Right cashLetterControl (l .control)
-  pub bundle-count : stated cashLetterControl 2 (l .control) ≡ bundleCount l
-  pub debit-count : stated cashLetterControl 3 (l .control) ≡ ofLetter debits l
-  pub debit-cents : stated cashLetterControl 4 (l .control) ≡ ofLetter debitCents l
-  pub view-count : stated cashLetterControl 5 (l .control) ≡ ofLetter viewCount l
-  pub credit-count : stated cashLetterControl 8 (l .control) ≡ ofLetter credits l
-  pub credit-cents : stated cashLetterControl 9 (l .control) ≡ ofLetter creditCents l
+pub record SoundLetter (set : CharacterSet) (l : CashLetter) : Type 0 where
+  pub header : Right set cashLetterHeader (l .header)
+  pub filled : (indicator set (l .header) ≡ N) ⊎ (1 ≤ bundleCount l)
+  pub contents : All (SoundContent set (l .header)) (l .contents)
+  pub control : Right set cashLetterControl (l .control)
+  pub bundle-count : stated set cashLetterControl 2 (l .control) ≡ bundleCount l
+  pub debit-count : stated set cashLetterControl 3 (l .control) ≡ ofLetter (debits set) l
+  pub debit-cents : stated set cashLetterControl 4 (l .control) ≡ ofLetter (debitCents set) l
+  pub view-count : stated set cashLetterControl 5 (l .control) ≡ ofLetter viewCount l
+  pub credit-count : stated set cashLetterControl 8 (l .control) ≡ ofLetter (credits set) l
+  pub credit-cents : stated set cashLetterControl 9 (l .control) ≡ ofLetter (creditCents set) l
 
 -- a file, with a cash letter at least. Its control (clause 35): cash letters, "all records with 01 and 99 included", items, debit cents,
 -- credit cents
-pub record Sound (f : File) : Type 0 where
-  pub header : Right fileHeader (f .header)
+pub record Sound (set : CharacterSet) (f : File) : Type 0 where
+  pub header : Right set fileHeader (f .header)
   pub filled : 1 ≤ length (f .letters)
-  pub letters : All SoundLetter (f .letters)
-  pub control : Right fileControl (f .control)
-  pub letter-count : stated fileControl 2 (f .control) ≡ length (f .letters)
-  pub record-count : stated fileControl 3 (f .control) ≡ length (records f)
-  pub item-count : stated fileControl 4 (f .control) ≡ ofFile everyItem f
-  pub debit-cents : stated fileControl 5 (f .control) ≡ ofFile debitCents f
-  pub credit-cents : stated fileControl 8 (f .control) ≡ ofFile creditCents f
+  pub letters : All (SoundLetter set) (f .letters)
+  pub control : Right set fileControl (f .control)
+  pub letter-count : stated set fileControl 2 (f .control) ≡ length (f .letters)
+  pub record-count : stated set fileControl 3 (f .control) ≡ length (records f)
+  pub item-count : stated set fileControl 4 (f .control) ≡ ofFile everyItem f
+  pub debit-cents : stated set fileControl 5 (f .control) ≡ ofFile (debitCents set) f
+  pub credit-cents : stated set fileControl 8 (f .control) ≡ ofFile (creditCents set) f

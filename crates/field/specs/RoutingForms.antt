@@ -4,6 +4,7 @@ use mathlib.Core.Bool.{Bool, true, false, _&&_, _||_}
 use mathlib.Core.List.{List, [], _∷_}
 use lib.Dec.{eqb}
 use lib.ListN.{length, getD, take, drop}
+use Rattle.text.specs.declared.character_set.CharacterSet.{CharacterSet}
 use Rattle.text.specs.declared.data_types.DataType.the-variants.{NB}
 use Rattle.text.specs.Characters.{isBlank, isNumeric, isDash}
 use Rattle.text.specs.DataTypes.{every, some, ofType}
@@ -11,38 +12,38 @@ use Rattle.text.specs.Number.{digit}
 use Rattle.field.specs.declared.Forms.{Forms}
 
 -- the digit at a place of the routing number: digit 1 of the rule stands at place 0
-abbrev pub place : List ℕ → ℕ → ℕ
-place xs n = digit (getD xs n 0)
+abbrev pub place : CharacterSet → List ℕ → ℕ → ℕ
+place set xs n = digit set (getD xs n 0)
 
 -- The ABA rule (document 01): "three times digits 1, 4, 7, plus seven times digits 2, 5, 8, plus digits 3, 6, 9"
-abbrev pub weightedSum : List ℕ → ℕ
-weightedSum xs =
-    3 * (place xs 0 + place xs 3 + place xs 6) + 7 * (place xs 1 + place xs 4 + place xs 7)
-    + (place xs 2 + place xs 5 + place xs 8)
+abbrev pub weightedSum : CharacterSet → List ℕ → ℕ
+weightedSum set xs =
+    3 * (place set xs 0 + place set xs 3 + place set xs 6) + 7 * (place set xs 1 + place set xs 4 + place set xs 7)
+    + (place set xs 2 + place set xs 5 + place set xs 8)
 
 -- TTTTAAAAC: nine digits, and the sum a multiple of 10. No other form has a check digit.
-unfoldable pub isTTTTAAAAC : List ℕ → Bool
-isTTTTAAAAC xs = eqb (length xs) 9 && (every isNumeric xs && eqb (weightedSum xs % 10) 0)
+unfoldable pub isTTTTAAAAC : CharacterSet → List ℕ → Bool
+isTTTTAAAAC set xs = eqb (length xs) 9 && (every (isNumeric set) xs && eqb (weightedSum set xs % 10) 0)
 
 -- nine characters: so many digits, a mark, and digits
-unfoldable pub partedBy : (ℕ → Bool) → ℕ → List ℕ → Bool
-partedBy isMark n xs = eqb (length xs) 9 && (every isNumeric (take n xs) && (isMark (getD xs n 0) && every isNumeric (drop (n + 1) xs)))
+unfoldable pub partedBy : CharacterSet → (ℕ → Bool) → ℕ → List ℕ → Bool
+partedBy set isMark n xs = eqb (length xs) 9 && (every (isNumeric set) (take n xs) && (isMark (getD xs n 0) && every (isNumeric set) (drop (n + 1) xs)))
 
 -- TTTTT-FFF: five digits, a dash, three digits
-abbrev pub isTTTTT-FFF : List ℕ → Bool
-isTTTTT-FFF xs = partedBy isDash 5 xs
+abbrev pub isTTTTT-FFF : CharacterSet → List ℕ → Bool
+isTTTTT-FFF set xs = partedBy set (isDash set) 5 xs
 
 -- TTTT-AAAA: four digits, a dash, four digits
-abbrev pub isTTTT-AAAA : List ℕ → Bool
-isTTTT-AAAA xs = partedBy isDash 4 xs
+abbrev pub isTTTT-AAAA : CharacterSet → List ℕ → Bool
+isTTTT-AAAA set xs = partedBy set (isDash set) 4 xs
 
 -- bTTTTAAAA: a blank and eight digits
-abbrev pub isbTTTTAAAA : List ℕ → Bool
-isbTTTTAAAA xs = partedBy isBlank 0 xs
+abbrev pub isbTTTTAAAA : CharacterSet → List ℕ → Bool
+isbTTTTAAAA set xs = partedBy set (isBlank set) 0 xs
 
 -- NNNNNNNNN, of a body that is no bank: one to nine digits with no blank between them, and blanks for the rest, on either side
-unfoldable pub isNNNNNNNNN : List ℕ → Bool
-isNNNNNNNNN xs = eqb (length xs) 9 && (ofType NB xs && some isNumeric xs)
+unfoldable pub isNNNNNNNNN : CharacterSet → List ℕ → Bool
+isNNNNNNNNN set xs = eqb (length xs) 9 && (ofType set NB xs && some (isNumeric set) xs)
 
 -- the forms as a layout names them
 pub data Form : Type 0 where
@@ -71,10 +72,10 @@ listing fs =
     }
 
 -- request 1: "a field takes whichever forms its own Format lines list"
-abbrev pub fitsRarer : Forms → List ℕ → Bool
-fitsRarer forms xs =
-    (forms .canadian && isTTTTT-FFF xs)
-    || ((forms .dashed && isTTTT-AAAA xs) || ((forms .blanked && isbTTTTAAAA xs) || (forms .nonfinancial && isNNNNNNNNN xs)))
+abbrev pub fitsRarer : CharacterSet → Forms → List ℕ → Bool
+fitsRarer set forms xs =
+    (forms .canadian && isTTTTT-FFF set xs)
+    || ((forms .dashed && isTTTT-AAAA set xs) || ((forms .blanked && isbTTTTAAAA set xs) || (forms .nonfinancial && isNNNNNNNNN set xs)))
 
-unfoldable pub fitsSome : Forms → List ℕ → Bool
-fitsSome forms xs = (forms .checked && isTTTTAAAAC xs) || fitsRarer forms xs
+unfoldable pub fitsSome : CharacterSet → Forms → List ℕ → Bool
+fitsSome set forms xs = (forms .checked && isTTTTAAAAC set xs) || fitsRarer set forms xs

@@ -4,6 +4,7 @@ use mathlib.Core.Bool.{Bool, true, false, _&&_, _||_, not}
 use mathlib.Core.List.{List}
 use lib.Dec.{eqb}
 use lib.ListN.{length, getD}
+use Rattle.text.specs.declared.character_set.CharacterSet.{CharacterSet}
 use Rattle.text.specs.declared.data_types.DataType.{DataType}
 use Rattle.text.specs.declared.data_types.DataType.the-variants.{NB}
 use Rattle.text.specs.Ranges.{within}
@@ -21,48 +22,48 @@ use Rattle.field.specs.Formats.{isDate, isHoursMinutes, isHoursMinutesSe
 use Rattle.field.specs.RoutingForms.{fitsSome}
 
 -- a field of digits whose number passes a test
-abbrev pub digitsWith : (ℕ → Bool) → List ℕ → Bool
-digitsWith test part = every isNumeric part && test (number part)
+abbrev pub digitsWith : CharacterSet → (ℕ → Bool) → List ℕ → Bool
+digitsWith set test part = every (isNumeric set) part && test (number set part)
 
 -- '0' through '99' in two characters (21.11, 21.12): a digit and a blank in either order, or two digits
-abbrev pub oneOrTwoDigits : List ℕ → Bool
-oneOrTwoDigits part = every (admits NB) part && some isNumeric part
+abbrev pub oneOrTwoDigits : CharacterSet → List ℕ → Bool
+oneOrTwoDigits set part = every (admits set NB) part && some (isNumeric set) part
 
 -- one character of a list
-abbrev pub code : CodeList → List ℕ → Bool
-code list part = eqb (length part) 1 && isCode list (capital (getD part 0 0))
+abbrev pub code : CharacterSet → CodeList → List ℕ → Bool
+code set list part = eqb (length part) 1 && isCode list (capital set (getD part 0 0))
 
 -- "Clipping origin 0 requires four coordinates of 0000"; the origin stands at a place of the record, counted from 0
-abbrev pub clippingCoordinate : ℕ → List ℕ → List ℕ → Bool
-clippingCoordinate origin part body = every isNumeric part && (not (eqb (getD body origin 0) 0x30) || eqb (number part) 0)
+abbrev pub clippingCoordinate : CharacterSet → ℕ → List ℕ → List ℕ → Bool
+clippingCoordinate set origin part body = every (isNumeric set) part && (not (eqb (capital set (getD body origin 0)) 0x30) || eqb (number set part) 0)
 
 -- the Format line or the Defined Values of a field, over its part of the record's body
-unfoldable pub follows : Rule → List ℕ → List ℕ → Bool
-follows DataTypeAlone part body = true
-follows (Numbers low high) part body = digitsWith (within low high) part
-follows AllDigits part body = every isNumeric part
-follows OneOrTwoDigits part body = oneOrTwoDigits part
-follows StandardLevel part body = digitsWith isStandardLevel part
-follows CollectionType part body = digitsWith isCollectionType part
-follows BundleCollectionType part body = digitsWith isBundleCollectionType part
-follows SourceOfWork part body = digitsWith isSourceOfWork part
-follows (Code list) part body = code list part
-follows Date part body = isDate part
-follows HoursMinutes part body = isHoursMinutes part
-follows HoursMinutesSeconds part body = isHoursMinutesSeconds part
-follows (Routing forms) part body = fitsSome forms part
-follows (ClippingCoordinate origin) part body = clippingCoordinate origin part body
+unfoldable pub follows : CharacterSet → Rule → List ℕ → List ℕ → Bool
+follows set DataTypeAlone part body = true
+follows set (Numbers low high) part body = digitsWith set (within low high) part
+follows set AllDigits part body = every (isNumeric set) part
+follows set OneOrTwoDigits part body = oneOrTwoDigits set part
+follows set StandardLevel part body = digitsWith set isStandardLevel part
+follows set CollectionType part body = digitsWith set isCollectionType part
+follows set BundleCollectionType part body = digitsWith set isBundleCollectionType part
+follows set SourceOfWork part body = digitsWith set isSourceOfWork part
+follows set (Code list) part body = code set list part
+follows set Date part body = isDate set part
+follows set HoursMinutes part body = isHoursMinutes set part
+follows set HoursMinutesSeconds part body = isHoursMinutesSeconds set part
+follows set (Routing forms) part body = fitsSome set forms part
+follows set (ClippingCoordinate origin) part body = clippingCoordinate set origin part body
 
 -- "meets its type and defined values"; a can't-read or questionable mark that the type admits leaves the type alone to judge
-unfoldable pub meets : DataType → Rule → List ℕ → List ℕ → Bool
-meets t rule part body = ofType t part && (follows rule part body || some (isMark t) part)
+unfoldable pub meets : CharacterSet → DataType → Rule → List ℕ → List ℕ → Bool
+meets set t rule part body = ofType set t part && (follows set rule part body || some (isMark set t) part)
 
 -- a field that needs to meet nothing
-abbrev pub leftBlank : Usage → List ℕ → Bool
-leftBlank Mandatory part = false
-leftBlank Conditional part = every isBlank part
+abbrev pub leftBlank : CharacterSet → Usage → List ℕ → Bool
+leftBlank set Mandatory part = false
+leftBlank set Conditional part = every (isBlank set) part
 
 -- "A mandatory field meets its type and defined values"; "a conditional field is all blank, or meets its type and defined values"
-unfoldable pub holds : Usage → DataType → Rule → List ℕ → List ℕ → Bool
-holds Mandatory t rule part body = meets t rule part body
-holds Conditional t rule part body = every isBlank part || meets t rule part body
+unfoldable pub holds : CharacterSet → Usage → DataType → Rule → List ℕ → List ℕ → Bool
+holds set Mandatory t rule part body = meets set t rule part body
+holds set Conditional t rule part body = every (isBlank set) part || meets set t rule part body

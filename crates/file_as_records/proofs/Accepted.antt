@@ -8,6 +8,8 @@ use lib.Dec.{leb, eqb}
 use lib.ListN.{length, drop, length-drop, take-append-drop, drop-of-length-le}
 use lib.Seq.{getD-drop, drop-drop, length-take-le}
 use borrow.Author.Tests.{leb-true, leb-false, eqb-true}
+use Rattle.text.specs.CharacterSet.{setOf}
+use Rattle.text.specs.declared.character_set.CharacterSet.{CharacterSet}
 use Rattle.frame.specs.Frames.{part, lengthAt, frameAt}
 use Rattle.frame.specs.declared.Frame.the-variants.{Whole}
 use Rattle.frame.proofs.Laws.{whole, cut-body, whole-within, whole-start}
@@ -55,26 +57,27 @@ accepted-end true u t place at e = refl
 accepted-end false u t place at e = cc
 
 -- the good record that a step goes on from
-record Next (file : List ℕ) (past : List Body) (t size : ℕ) : Type 0 where
+record Next (set : CharacterSet) (file : List ℕ) (past : List Body) (t size : ℕ) : Type 0 where
   body : Body
-  type : t ≡ typeOf body
+  type : t ≡ typeOf set body
   size-is : size ≡ length body
   bytes : drop (extent past) file ≡ lengthField (length body) ++ (body ++ drop (extent past + 4 + length body) file)
-  good : Good past body
+  good : Good set past body
 
 -- good records that the bytes from an offset on are
-record Found (file : List ℕ) (past : List Body) : Type 0 where
+record Found (set : CharacterSet) (file : List ℕ) (past : List Body) : Type 0 where
   bodies : List Body
   bytes : framed bodies ≡ drop (extent past) file
-  good : GoodAll past bodies
+  good : GoodAll set past bodies
 
-module _ (file : List ℕ) (hb : Bytes file) (t : Totals) where
-  next : (past : List Body) → Held file past → AllOpened past → (u size : ℕ) → stepOf file (standing file (entries past)) (extent past) ≡ On u size
-      → Next file past u size
+module _ (set : CharacterSet) (file : List ℕ) (hb : Bytes file) (t : Totals) where
+  next : (past : List Body) → Held set file past → AllOpened set past → (u size : ℕ)
+      → stepOf set file (standing set file (entries set past)) (extent past) ≡ On u size
+      → Next set file past u size
   unfolding stepOf
   next past older opened u size e =
       let at = extent past in
-      let f = laws.framed file (standing file (entries past)) at u size e in
+      let f = laws.framed set file (standing set file (entries set past)) at u size e in
       let begins = whole-start file at (f .start) size (f .whole) in
       let there : frameAt file at ≡ Whole (at + 4) size = f .whole ∙ ap (λ (n : ℕ). Whole n size) begins in
       let fits = whole-within file at (at + 4) size there in
@@ -82,81 +85,83 @@ module _ (file : List ℕ) (hb : Bytes file) (t : Totals) where
       let n : length b ≡ size = length-take-le size (drop (at + 4) file) (simp length-drop (omega arith)) in
       let rest : drop (at + 4) file ≡ b ++ drop (at + 4 + size) file =
       sym (take-append-drop size (drop (at + 4) file)) ∙ ap (λ (x : List ℕ). b ++ x) (drop-drop size (at + 4) file) in
-      let step : cond (eqb (over past .last) 99) (Stop After) (ofTurn size (turnOf file (over past) at b)) ≡ On u size =
-      rw (stands file past older, there) at e in
+      let step : cond (eqb (over set past .last) 99) (Stop After) (ofTurn size (turnOf set file (over set past) at b)) ≡ On u size =
+      rw (stands set file past older, there) at e in
       record {
         body = b;
-        type = sym (f .type) ∙ ap (λ (n : ℕ). typeOf (part n size file)) begins;
+        type = sym (f .type) ∙ ap (λ (n : ℕ). typeOf set (part n size file)) begins;
         size-is = sym n;
         bytes =
             length-cut (drop at file) (λ i. rw getD-drop (hb (at + i))) (simp length-drop (omega arith))
             ∙ ap₂ (λ (k : ℕ) (x : List ℕ). lengthField k ++ x) (whole-size file at size there ∙ sym n)
             (drop-drop 4 at file ∙ rest ∙ ap (λ (k : ℕ). b ++ drop (at + 4 + k) file) (sym n));
         good =
-            turn-good file past older opened at b (drop (at + 4 + size) file) rest
-            (on-turn (eqb (over past .last) 99) (turnOf file (over past) at b) size step);
+            turn-good set file past older opened at b (drop (at + 4 + size) file) rest
+            (on-turn (eqb (over set past .last) 99) (turnOf set file (over set past) at b) size step);
       }
 
-  found-end : (n : ℕ) (past : List Body) → Held file past → length file ≤ extent past → run n file (extent past) (entries past) ≡ Accepted t
-      → Found file past
+  found-end : (n : ℕ) (past : List Body) → Held set file past → length file ≤ extent past
+      → run set n file (extent past) (entries set past) ≡ Accepted t
+      → Found set file past
   unfolding endedWith
   found-end n past older end e =
-      let last = accepted-end (eqb (over past .last) 99) _ t _ _
-      (rw (stands file past older) at (sym (run-end file (extent past) (entries past) n end) ∙ e)) in
-      record { bodies = []; bytes = sym (drop-of-length-le file end); good = eqb-true (lastIn past) 99 last }
+      let last = accepted-end (eqb (over set past .last) 99) _ t _ _
+      (rw (stands set file past older) at (sym (run-end set file (extent past) (entries set past) n end) ∙ e)) in
+      record { bodies = []; bytes = sym (drop-of-length-le file end); good = eqb-true (lastIn set past) 99 last }
 
   -- where the reading goes on, the bytes behind the record are good records too
-  found : (n : ℕ) (past : List Body) → Held file past → AllOpened past → length file ≤ extent past + n
-      → run n file (extent past) (entries past) ≡ Accepted t → Found file past
+  found : (n : ℕ) (past : List Body) → Held set file past → AllOpened set past → length file ≤ extent past + n
+      → run set n file (extent past) (entries set past) ≡ Accepted t → Found set file past
   found zero past older opened l e = found-end zero past older (omega arith) e
   found (suc n) past older opened l e =
       at-all (leb (length file) (extent past)) refl (λ b k o m q. found n (b ∷ past) k o m q)
     where
       Others : Type 0
       Others =
-          (b : Body) → Held file (b ∷ past) → AllOpened (b ∷ past) → length file ≤ extent (b ∷ past) + n
-          → run n file (extent (b ∷ past)) (entries (b ∷ past)) ≡ Accepted t → Found file (b ∷ past)
+          (b : Body) → Held set file (b ∷ past) → AllOpened set (b ∷ past) → length file ≤ extent (b ∷ past) + n
+          → run set n file (extent (b ∷ past)) (entries set (b ∷ past)) ≡ Accepted t → Found set file (b ∷ past)
 
-      goes-on : (u size : ℕ) → extent past < length file → Next file past u size
-          → stepOf file (standing file (entries past)) (extent past) ≡ On u size → Others → Found file past
+      goes-on : (u size : ℕ) → extent past < length file → Next set file past u size
+          → stepOf set file (standing set file (entries set past)) (extent past) ≡ On u size → Others → Found set file past
       goes-on u size h x q others =
           let b = x .body in
           let rest = drop (extent past + 4 + length b) file in
           let one-less : suc n - 1 ≡ n = omega arith in
-          let there : run n file (extent (b ∷ past)) (entries (b ∷ past)) ≡ Accepted t =
-          rw (one-less, x .type, x .size-is) at (sym (run-on file (extent past) (entries past) (suc n) u size h (omega arith) q) ∙ e) in
+          let there : run set n file (extent (b ∷ past)) (entries set (b ∷ past)) ≡ Accepted t =
+          rw (one-less, x .type, x .size-is) at (sym (run-on set file (extent past) (entries set past) (suc n) u size h (omega arith) q) ∙ e) in
           let y =
           others b (record { rest = rest; body = body-is file (extent past) b rest (x .bytes); sound = x .good .alone }, older)
-          (all-opened b past opened (x .good .follows)) (omega arith) there in
+          (all-opened set b past opened (x .good .follows)) (omega arith) there in
           record {
             bodies = b ∷ y .bodies;
             bytes = ap (λ (z : List ℕ). lengthField (length b) ++ (b ++ z)) (y .bytes) ∙ sym (x .bytes);
             good = record { first = x .good; rest = y .good };
           }
 
-      at-step : (s : Step) → stepOf file (standing file (entries past)) (extent past) ≡ s → extent past < length file → Others → Found file past
+      at-step : (s : Step) → stepOf set file (standing set file (entries set past)) (extent past) ≡ s → extent past < length file → Others
+          → Found set file past
       at-step (Stop fault) q h others =
-          let stopped = run-stop file (extent past) (entries past) (suc n) fault h (omega arith) q in
+          let stopped = run-stop set file (extent past) (entries set past) (suc n) fault h (omega arith) q in
           let z : _≡_ {A = ℕ} 0 1 = cc in absurd (omega arith)
       at-step (On u size) q h others = goes-on u size h (next past older opened u size q) q others
 
-      at-all : (c : Bool) → leb (length file) (extent past) ≡ c → Others → Found file past
+      at-all : (c : Bool) → leb (length file) (extent past) ≡ c → Others → Found set file past
       at-all true q others = found-end (suc n) past older (leb-true _ _ q) e
-      at-all false q others = at-step (stepOf file (standing file (entries past)) (extent past)) refl (leb-false _ _ q) others
+      at-all false q others = at-step (stepOf set file (standing set file (entries set past)) (extent past)) refl (leb-false _ _ q) others
 
 -- an accepted file is good records, each behind its length; its totals and its rows are theirs
 pub record Records (file : List ℕ) (t : Totals) : Type 0 where
   pub bodies : List Body
   pub bytes : framed bodies ≡ file
-  pub good : GoodAll [] bodies
-  pub sums : t ≡ totalsAfter (onto bodies [])
-  pub rows : rowsOf file ≡ rowsAll 0 [] bodies
+  pub good : GoodAll (setOf file) [] bodies
+  pub sums : t ≡ totalsAfter (setOf file) (onto bodies [])
+  pub rows : rowsOf file ≡ rowsAll (setOf file) 0 [] bodies
 
 pub accepted-records : (file : List ℕ) (t : Totals) → Bytes file → surveyed file ≡ Accepted t → Records file t
 unfolding surveyed
 accepted-records file t hb e =
-    let ran = within (leb 1 (length file) && leb (length file) 268_435_456) (run (length file) file 0 []) e in
-    let x = found file hb t (length file) [] tt none-opened (omega arith) ran in
+    let ran = within (leb 1 (length file) && leb (length file) 268_435_456) (run (setOf file) (length file) file 0 []) e in
+    let x = found (setOf file) file hb t (length file) [] tt (none-opened (setOf file)) (omega arith) ran in
     let read = records-accepted file (x .bodies) (accepted-small file t e) (x .bytes) (x .good) in
     record { bodies = x .bodies; bytes = x .bytes; good = x .good; sums = injected (sym e ∙ read .answer); rows = read .rows }
   where

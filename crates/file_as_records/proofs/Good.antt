@@ -6,6 +6,7 @@ use mathlib.Core.Path.{_≡_}
 use mathlib.Core.List.{List, [], _∷_, _++_}
 use lib.Dec.{eqb}
 use lib.ListN.{length}
+use Rattle.text.specs.declared.character_set.CharacterSet.{CharacterSet}
 use Rattle.judge.specs.declared.Judged.the-variants.{Sound}
 use Rattle.judge.specs.Alone.{typeOf, judgedAs}
 use Rattle.measure.specs.Measures.{sums, capped, cappedSums}
@@ -19,15 +20,15 @@ use Rattle.file_as_records.proofs.Figures.{amountAs, bundlesIn, debitsS
 use Rattle.measure.specs.Measures as measures
 
 -- a record of type k that is good behind those of past
-pub record GoodAs (k : ℕ) (past : List Body) (b : Body) : Type 0 where
+pub record GoodAs (set : CharacterSet) (k : ℕ) (past : List Body) (b : Body) : Type 0 where
   pub carried : isCarried k ≡ true
-  pub follows : mayFollow (insideIn past) (lastIn past) (presentIn past) k ≡ true
-  pub alone : judgedAs k b ≡ Sound
-  pub linked : Linked k past b
-  pub totalled : Totalled k past b
+  pub follows : mayFollow (insideIn set past) (lastIn set past) (presentIn set past) k ≡ true
+  pub alone : judgedAs set k b ≡ Sound
+  pub linked : Linked set k past b
+  pub totalled : Totalled set k past b
 
-abbrev pub Good : List Body → Body → Type 0
-Good past b = GoodAs (typeOf b) past b
+abbrev pub Good : CharacterSet → List Body → Body → Type 0
+Good set past b = GoodAs set (typeOf set b) past b
 
 -- a record, and those behind it
 pub record Then (First Rest : Type 0) : Type 0 where
@@ -35,9 +36,9 @@ pub record Then (First Rest : Type 0) : Type 0 where
   pub rest : Rest
 
 -- all the records of a file, behind those of past, to the 99
-abbrev pub GoodAll : List Body → List Body → Type 0
-GoodAll past [] = lastIn past ≡ 99
-GoodAll past (b ∷ bs) = Then (Good past b) (GoodAll (b ∷ past) bs)
+abbrev pub GoodAll : CharacterSet → List Body → List Body → Type 0
+GoodAll set past [] = lastIn set past ≡ 99
+GoodAll set past (b ∷ bs) = Then (Good set past b) (GoodAll set (b ∷ past) bs)
 
 -- records read after those of past
 abbrev pub onto : List Body → List Body → List Body
@@ -45,28 +46,29 @@ onto [] past = past
 onto (b ∷ bs) past = onto bs (b ∷ past)
 
 -- what they come to, and their rows, where past has the record itself
-abbrev pub totalsAfter : List Body → Totals
-totalsAfter past =
+abbrev pub totalsAfter : CharacterSet → List Body → Totals
+totalsAfter set past =
     record {
       records = measures.records (length past);
-      letters = lettersIn past;
-      bundles = bundlesIn past;
-      items = measures.items (itemsSince never past);
+      letters = lettersIn set past;
+      bundles = bundlesIn set past;
+      items = measures.items (itemsSince set never past);
       sums =
           cappedSums
-          (sums (debitsSince never past) (debitSince never past) (creditsSince never past) (creditSince never past) (viewsSince never past));
+          (sums (debitsSince set never past) (debitSince set never past)
+          (creditsSince set never past) (creditSince set never past) (viewsSince set never past));
     }
 
-abbrev pub amountAfter : ℕ → List Body → Body → ℕ
-amountAfter t past b =
-    cond (eqb t 70) (capped (debitSince (is 20) past))
-    (cond (eqb t 90) (capped (debitSince (is 10) past)) (cond (eqb t 99) (capped (debitSince never past)) (amountAs t b)))
+abbrev pub amountAfter : CharacterSet → ℕ → List Body → Body → ℕ
+amountAfter set t past b =
+    cond (eqb t 70) (capped (debitSince set (is 20) past))
+    (cond (eqb t 90) (capped (debitSince set (is 10) past)) (cond (eqb t 99) (capped (debitSince set never past)) (amountAs set t b)))
 
-abbrev pub rowAs : ℕ → ℕ → List Body → Body → List ℕ
-rowAs t at past b =
-    t ∷ at ∷ length b ∷ cond (outsideLetter t) 0 (lettersIn past) ∷ cond (insideIn past || eqb t 70) (openedIn past) 0
-    ∷ cond (insideIn past) (itemsSince (is 20) past) 0 ∷ amountAfter t past b ∷ []
+abbrev pub rowAs : CharacterSet → ℕ → ℕ → List Body → Body → List ℕ
+rowAs set t at past b =
+    t ∷ at ∷ length b ∷ cond (outsideLetter t) 0 (lettersIn set past) ∷ cond (insideIn set past || eqb t 70) (openedIn set past) 0
+    ∷ cond (insideIn set past) (itemsSince set (is 20) past) 0 ∷ amountAfter set t past b ∷ []
 
-abbrev pub rowsAll : ℕ → List Body → List Body → List ℕ
-rowsAll at past [] = []
-rowsAll at past (b ∷ bs) = rowAs (typeOf b) at (b ∷ past) b ++ rowsAll (at + 4 + length b) (b ∷ past) bs
+abbrev pub rowsAll : CharacterSet → ℕ → List Body → List Body → List ℕ
+rowsAll set at past [] = []
+rowsAll set at past (b ∷ bs) = rowAs set (typeOf set b) at (b ∷ past) b ++ rowsAll set (at + 4 + length b) (b ∷ past) bs

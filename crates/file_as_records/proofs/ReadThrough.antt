@@ -6,6 +6,8 @@ use mathlib.Core.List.{List, [], _∷_, _++_}
 use lib.ListN.{length, take, drop, length-append, length-drop}
 use lib.Seq.{drop-drop, take-append-seam, drop-append-seam}
 use borrow.Author.Tests.{le-leb, eq-eqb}
+use Rattle.text.specs.CharacterSet.{setOf}
+use Rattle.text.specs.declared.character_set.CharacterSet.{CharacterSet}
 use Rattle.frame.specs.Frames.{part, lengthIn, lengthAt, frameAt}
 use Rattle.frame.specs.declared.Frame.the-variants.{Whole}
 use Rattle.frame.proofs.Laws.{whole}
@@ -45,74 +47,78 @@ module _ (file : List ℕ) (at : ℕ) (b rest : List ℕ) (e : drop at file ≡ 
       whole file at (omega (arith, long)) ∙ ap (Whole (at + 4)) n
 
 -- one record read: its step, and its row
-module _ (file : List ℕ) (past : List Body) (older : Held file past) (opened : AllOpened past) (small : length file ≤ 268_435_456) (b rest : List ℕ)
-    (e : drop (extent past) file ≡ lengthField (length b) ++ (b ++ rest)) (g : Good past b) where
-  held : HeldAt file (extent past) b
+module _ (set : CharacterSet) (file : List ℕ) (past : List Body) (older : Held set file past) (opened : AllOpened set past)
+    (small : length file ≤ 268_435_456) (b rest : List ℕ)
+    (e : drop (extent past) file ≡ lengthField (length b) ++ (b ++ rest)) (g : Good set past b) where
+  held : HeldAt set file (extent past) b
   held = record { rest = rest; body = body-is file (extent past) b rest e; sound = g .alone }
 
-  step-is : stepOf file (standing file (entries past)) (extent past) ≡ On (typeOf b) (length b)
+  step-is : stepOf set file (standing set file (entries set past)) (extent past) ≡ On (typeOf set b) (length b)
   unfolding stepOf
   step-is =
       rw (
-        stands file past older,
-        none-after past _ (g .follows),
+        stands set file past older,
+        none-after set past _ (g .follows),
         frame-is file (extent past) b rest e small,
         part-is file (extent past) b rest e,
       )
-      (ap (ofTurn (length b)) (good-turn file past older opened (extent past) b held g))
+      (ap (ofTurn (length b)) (good-turn set file past older opened (extent past) b held g))
 
-  row-is : rowOf file (standing file (entries (b ∷ past))) (typeOf b) (extent past) (length b) ≡ rowAs (typeOf b) (extent past) (b ∷ past) b
+  row-is : rowOf set file (standing set file (entries set (b ∷ past))) (typeOf set b) (extent past) (length b)
+      ≡ rowAs set (typeOf set b) (extent past) (b ∷ past) b
   row-is =
-      ap (λ (s : Standing). rowOf file s (typeOf b) (extent past) (length b)) (stands file (b ∷ past) (held, older)) ∙ rw (amount-held held)
+      ap (λ (s : Standing). rowOf set file s (typeOf set b) (extent past) (length b)) (stands set file (b ∷ past) (held, older))
+      ∙ rw (amount-held set held)
 
-  rows-step : (n : ℕ) → 0 < n → rowsFrom n file (extent past) (entries past)
-      ≡ rowAs (typeOf b) (extent past) (b ∷ past) b ++ rowsFrom (n - 1) file (extent (b ∷ past)) (entries (b ∷ past))
+  rows-step : (n : ℕ) → 0 < n → rowsFrom set n file (extent past) (entries set past)
+      ≡ rowAs set (typeOf set b) (extent past) (b ∷ past) b ++ rowsFrom set (n - 1) file (extent (b ∷ past)) (entries set (b ∷ past))
   rows-step n h =
-      rows-on file (extent past) (entries past) n (extent past + 4) (length b) (typeOf b) (omega (arith, long file (extent past) b rest e)) h
-      (frame-is file (extent past) b rest e small) (ap typeOf (part-is file (extent past) b rest e))
-      ∙ ap (λ (row : List ℕ). row ++ rowsFrom (n - 1) file (extent (b ∷ past)) (entries (b ∷ past))) row-is
+      rows-on set file (extent past) (entries set past) n (extent past + 4) (length b) (typeOf set b) (omega (arith, long file (extent past) b rest e)) h
+      (frame-is file (extent past) b rest e small) (ap (typeOf set) (part-is file (extent past) b rest e))
+      ∙ ap (λ (row : List ℕ). row ++ rowsFrom set (n - 1) file (extent (b ∷ past)) (entries set (b ∷ past))) row-is
 
 -- good records from an offset on are read, with their totals and their rows
-record Reads (file : List ℕ) (n : ℕ) (past bodies : List Body) : Type 0 where
-  answer : run n file (extent past) (entries past) ≡ Accepted (totalsAfter (onto bodies past))
-  rows : rowsFrom n file (extent past) (entries past) ≡ rowsAll (extent past) past bodies
+record Reads (set : CharacterSet) (file : List ℕ) (n : ℕ) (past bodies : List Body) : Type 0 where
+  answer : run set n file (extent past) (entries set past) ≡ Accepted (totalsAfter set (onto bodies past))
+  rows : rowsFrom set n file (extent past) (entries set past) ≡ rowsAll set (extent past) past bodies
 
-reads : (file : List ℕ) → length file ≤ 268_435_456 → (bodies : List Body) (n : ℕ) (past : List Body) → Held file past → AllOpened past
-    → drop (extent past) file ≡ framed bodies → GoodAll past bodies → length file ≤ extent past + n → Reads file n past bodies
+reads : (set : CharacterSet) (file : List ℕ) → length file ≤ 268_435_456 → (bodies : List Body) (n : ℕ) (past : List Body)
+    → Held set file past → AllOpened set past
+    → drop (extent past) file ≡ framed bodies → GoodAll set past bodies → length file ≤ extent past + n → Reads set file n past bodies
 unfolding endedWith
-reads file small [] n past older opened e g l =
+reads set file small [] n past older opened e g l =
     let end : length file ≤ extent past = omega (arith, ap length e, length-drop (extent past) file) in
     record {
-      answer = run-end file (extent past) (entries past) n end ∙ rw (stands file past older, eq-eqb (lastIn past) 99 g);
-      rows = rows-end file (extent past) (entries past) n end;
+      answer = run-end set file (extent past) (entries set past) n end ∙ rw (stands set file past older, eq-eqb (lastIn set past) 99 g);
+      rows = rows-end set file (extent past) (entries set past) n end;
     }
-reads file small (b ∷ bs) n past older opened e g l =
+reads set file small (b ∷ bs) n past older opened e g l =
     let more = long file (extent past) b (framed bs) e in
-    let here = held file past older opened small b (framed bs) e (g .first) in
+    let here = held set file past older opened small b (framed bs) e (g .first) in
     let others =
-    reads file small bs (n - 1) (b ∷ past) (here, older) (all-opened b past opened (g .first .follows))
+    reads set file small bs (n - 1) (b ∷ past) (here, older) (all-opened set b past opened (g .first .follows))
     (rest-is file (extent past) b (framed bs) e) (g .rest) (omega arith) in
     record {
       answer =
-          run-on file (extent past) (entries past) n (typeOf b) (length b) (omega arith) (omega arith)
-          (step-is file past older opened small b (framed bs) e (g .first))
+          run-on set file (extent past) (entries set past) n (typeOf set b) (length b) (omega arith) (omega arith)
+          (step-is set file past older opened small b (framed bs) e (g .first))
           ∙ others .answer;
       rows =
-          rows-step file past older opened small b (framed bs) e (g .first) n (omega arith)
-          ∙ ap (λ (rows : List ℕ). rowAs (typeOf b) (extent past) (b ∷ past) b ++ rows) (others .rows);
+          rows-step set file past older opened small b (framed bs) e (g .first) n (omega arith)
+          ∙ ap (λ (rows : List ℕ). rowAs set (typeOf set b) (extent past) (b ∷ past) b ++ rows) (others .rows);
     }
 
 -- good records behind their lengths are an accepted file
 pub record ReadWhole (file : List ℕ) (bodies : List Body) : Type 0 where
-  pub answer : surveyed file ≡ Accepted (totalsAfter (onto bodies []))
-  pub rows : rowsOf file ≡ rowsAll 0 [] bodies
+  pub answer : surveyed file ≡ Accepted (totalsAfter (setOf file) (onto bodies []))
+  pub rows : rowsOf file ≡ rowsAll (setOf file) 0 [] bodies
 
-pub records-accepted : (file : List ℕ) (bodies : List Body) → length file ≤ 268_435_456 → framed bodies ≡ file → GoodAll [] bodies
+pub records-accepted : (file : List ℕ) (bodies : List Body) → length file ≤ 268_435_456 → framed bodies ≡ file → GoodAll (setOf file) [] bodies
     → ReadWhole file bodies
 unfolding surveyed
 records-accepted file [] small e g = absurd (omega arith)
 records-accepted file (b ∷ bs) small e g =
-    let read = reads file small (b ∷ bs) (length file) [] tt none-opened (sym e) g (omega arith) in
+    let read = reads (setOf file) file small (b ∷ bs) (length file) [] tt (none-opened (setOf file)) (sym e) g (omega arith) in
     record {
       answer = rw (le-leb 1 (length file) (omega (arith, ap length e)), le-leb (length file) 268_435_456 small) (read .answer);
       rows = read .rows;

@@ -6,6 +6,7 @@ use mathlib.Core.List.{List, [], _∷_, _++_}
 use lib.Dec.{leb, eqb}
 use lib.ListN.{length, drop, take}
 use borrow.Author.Tests.{eqb-true, eq-eqb}
+use Rattle.text.specs.declared.character_set.CharacterSet.{CharacterSet}
 use Rattle.text.specs.Characters.{isNumeric}
 use Rattle.text.specs.DataTypes.{every}
 use Rattle.text.specs.Number.{number}
@@ -58,97 +59,99 @@ all-hold (c ∷ cs) n e =
     holds-here true field later n e = (refl, e)
     holds-here false field later n e = let z = eq-eqb field 0 e in ((cc), (cc))
 
-links-numbered : (k : ℕ) (past : List Body) (b : Body) → numbered (linkChecks k past b) ≡ true
-links-numbered k past b = cases (eqb k 52)
+links-numbered : (set : CharacterSet) (k : ℕ) (past : List Body) (b : Body) → numbered (linkChecks set k past b) ≡ true
+links-numbered set k past b = cases (eqb k 52)
   where
-    cases : (c : Bool) → numbered (cond c (viewChecks past b) []) ≡ true
+    cases : (c : Bool) → numbered (cond c (viewChecks set past b) []) ≡ true
     cases true = refl
     cases false = refl
 
-totals-numbered : (k : ℕ) (past : List Body) (b : Body) → numbered (totalChecks k past b) ≡ true
-totals-numbered k past b = cases (eqb k 70) (eqb k 90) (eqb k 99)
+totals-numbered : (set : CharacterSet) (k : ℕ) (past : List Body) (b : Body) → numbered (totalChecks set k past b) ≡ true
+totals-numbered set k past b = cases (eqb k 70) (eqb k 90) (eqb k 99)
   where
     cases : (c d e : Bool)
-        → numbered (cond c (bundleChecks past b) (cond d (letterChecks past b) (cond e (fileChecks past b) []))) ≡ true
+        → numbered (cond c (bundleChecks set past b) (cond d (letterChecks set past b) (cond e (fileChecks set past b) []))) ≡ true
     cases true d e = refl
     cases false true e = refl
     cases false false true = refl
     cases false false false = refl
 
-module _ {file : List ℕ} {at : ℕ} {b : Body} (past : List Body) (older : Held file past) (h : HeldAt file at b) where
+module _ (set : CharacterSet) {file : List ℕ} {at : ℕ} {b : Body} (past : List Body) (older : Held set file past) (h : HeldAt set file at b) where
   -- the checks of the record at an offset are those of its body
-  numbered-same : numberedOn file (bofdIn past) (endorserIn past) (typeOf b) at ≡ numberedAs (typeOf b) past b
+  numbered-same : numberedOn set file (bofdIn set past) (endorserIn set past) (typeOf set b) at ≡ numberedAs set (typeOf set b) past b
   unfolding numberedOn judgedAs
   numbered-same =
-      under (eqb (typeOf b) 26) (λ e. ap (states (bofdIn past + 1)) (fields-at h checkDetailAddendumA (λ c. refl) refl e 2))
-      (under (eqb (typeOf b) 32) (λ e. ap (states (bofdIn past + 1)) (fields-at h returnAddendumA (λ c. refl) refl e 2))
-      (under (eqb (typeOf b) 28) (λ e. ap (states (endorserIn past + 1)) (fields-at h checkDetailAddendumC (λ c. refl) refl e 2))
-      (under (eqb (typeOf b) 35) (λ e. ap (states (endorserIn past + 1)) (fields-at h returnAddendumD (λ c. refl) refl e 2))
+      under (eqb (typeOf set b) 26) (λ e. ap (states (bofdIn set past + 1)) (fields-at set h checkDetailAddendumA (λ c. refl) refl e 2))
+      (under (eqb (typeOf set b) 32) (λ e. ap (states (bofdIn set past + 1)) (fields-at set h returnAddendumA (λ c. refl) refl e 2))
+      (under (eqb (typeOf set b) 28) (λ e. ap (states (endorserIn set past + 1)) (fields-at set h checkDetailAddendumC (λ c. refl) refl e 2))
+      (under (eqb (typeOf set b) 35) (λ e. ap (states (endorserIn set past + 1)) (fields-at set h returnAddendumD (λ c. refl) refl e 2))
       refl)))
     where
       states : ℕ → List ℕ → Bool
-      states value characters = eqb (number characters) value
+      states value characters = eqb (number set characters) value
 
   -- a 52 stands behind an item, in a cash letter: their fields, and those of its bundle header, are where the file has them
-  bundle-same : insideIn past ≡ true → (n : ℕ) → field bundleHeader n file (newestAt (is 20) past) ≡ fieldOf bundleHeader n (newest (is 20) past)
+  bundle-same : insideIn set past ≡ true → (n : ℕ)
+      → field bundleHeader n file (newestAt set (is 20) past) ≡ fieldOf bundleHeader n (newest set (is 20) past)
   unfolding judgedAs
   bundle-same inside =
-      let header = newest-passes file (is 20) past older (inside-opened past inside) in
-      fields-at (header .held) bundleHeader (λ c. refl) refl (header .passes)
+      let header = newest-passes set file (is 20) past older (inside-opened set past inside) in
+      fields-at set (header .held) bundleHeader (λ c. refl) refl (header .passes)
 
-  header-same : has (is 10) past ≡ true → (n : ℕ)
-      → cond (insideIn past) (field bundleHeader n file (newestAt (is 20) past)) (field cashLetterHeader n file (newestAt (is 10) past))
-      ≡ cond (insideIn past) (fieldOf bundleHeader n (newest (is 20) past)) (fieldOf cashLetterHeader n (newest (is 10) past))
+  header-same : has set (is 10) past ≡ true → (n : ℕ)
+      → cond (insideIn set past) (field bundleHeader n file (newestAt set (is 20) past)) (field cashLetterHeader n file (newestAt set (is 10) past))
+      ≡ cond (insideIn set past) (fieldOf bundleHeader n (newest set (is 20) past)) (fieldOf cashLetterHeader n (newest set (is 10) past))
   unfolding judgedAs
   header-same letter n =
-      let heading = newest-passes file (is 10) past older letter in
-      under (insideIn past) (λ inside. bundle-same inside n) (fields-at (heading .held) cashLetterHeader (λ c. refl) refl (heading .passes) n)
+      let heading = newest-passes set file (is 10) past older letter in
+      under (insideIn set past) (λ inside. bundle-same inside n) (fields-at set (heading .held) cashLetterHeader (λ c. refl) refl (heading .passes) n)
 
-  sequence-same : has isItem past ≡ true
-      → sequenceOfItem file (holderIn past) (newestAt isItem past) ≡ sequenceOf (holderIn past) (newest isItem past)
+  sequence-same : has set isItem past ≡ true
+      → sequenceOfItem file (holderIn set past) (newestAt set isItem past) ≡ sequenceOf (holderIn set past) (newest set isItem past)
   unfolding judgedAs
   sequence-same item =
-      let there = newest-passes file isItem past older item in
-      let long = item-long (there .held) (there .passes) in
-      under (eqb (holderIn past) 61) (λ e. fields-at (there .held) creditRecord (λ c. refl) refl (holder-is past e) 8)
-      (ap₂ (cond (eqb (holderIn past) 31)) (fields-held (there .held) returnRecord refl long 7) (fields-held (there .held) checkDetail refl long 7))
+      let there = newest-passes set file isItem past older item in
+      let long = item-long set (there .held) (there .passes) in
+      under (eqb (holderIn set past) 61) (λ e. fields-at set (there .held) creditRecord (λ c. refl) refl (holder-is set past e) 8)
+      (ap₂ (cond (eqb (holderIn set past) 31)) (fields-held set (there .held) returnRecord refl long 7)
+      (fields-held set (there .held) checkDetail refl long 7))
 
-  views-same : AllOpened (b ∷ past) → eqb (typeOf b) 52 ≡ true → viewLinks file (over past) at ≡ viewChecks past b
+  views-same : AllOpened set (b ∷ past) → eqb (typeOf set b) 52 ≡ true → viewLinks set file (over set past) at ≡ viewChecks set past b
   unfolding judgedAs
   views-same opened e =
-      let t = eqb-true (typeOf b) 52 e in
-      let letter : has (is 10) past ≡ true = rw t at (opened .letter (rw t)) in
-      let item : has isItem past ≡ true = rw t at (opened .item (rw t)) in
-      let own : (n : ℕ) → field imageViewData n file at ≡ fieldOf imageViewData n b = fields-at h imageViewData (λ c. refl) refl e in
-      let cycle = under-where (insideIn past) (λ inside. ap (same (fieldOf imageViewData 4 b)) (bundle-same inside 9)) in
+      let t = eqb-true (typeOf set b) 52 e in
+      let letter : has set (is 10) past ≡ true = rw t at (opened .letter (rw t)) in
+      let item : has set isItem past ≡ true = rw t at (opened .item (rw t)) in
+      let own : (n : ℕ) → field imageViewData n file at ≡ fieldOf imageViewData n b = fields-at set h imageViewData (λ c. refl) refl e in
+      let cycle = under-where (insideIn set past) (λ inside. ap (same (fieldOf imageViewData 4 b)) (bundle-same inside 9)) in
       rw (own 2, own 3, own 4, own 5, own 7, own 8, header-same letter 4, header-same letter 5, cycle, sequence-same item)
 
-  links-same : AllOpened (b ∷ past) → links.linkChecks file (over past) (typeOf b) at ≡ linkChecks (typeOf b) past b
+  links-same : AllOpened set (b ∷ past) → links.linkChecks set file (over set past) (typeOf set b) at ≡ linkChecks set (typeOf set b) past b
   links-same opened =
       ap₂
       (λ (inOrder : Bool) (view : List Check).
-      check 1 (addendaKept (typeOf b) (statedIn past) (addendaIn past))
-      ∷ check 1 (annexB (typeOf b) (indicatorIn past) (openedIn past) (holderIn past) (shownIn past)) ∷ check 2 inOrder ∷ view)
-      numbered-same (under (eqb (typeOf b) 52) (views-same opened) refl)
+      check 1 (addendaKept (typeOf set b) (statedIn set past) (addendaIn set past))
+      ∷ check 1 (annexB (typeOf set b) (indicatorIn set past) (openedIn set past) (holderIn set past) (shownIn set past)) ∷ check 2 inOrder ∷ view)
+      numbered-same (under (eqb (typeOf set b) 52) (views-same opened) refl)
 
-  totals-same : totals.totalChecks file (over past) (typeOf b) at ≡ totalChecks (typeOf b) past b
+  totals-same : totals.totalChecks set file (over set past) (typeOf set b) at ≡ totalChecks set (typeOf set b) past b
   unfolding judgedAs
   totals-same =
-      under (eqb (typeOf b) 70)
-      (λ e. let own = fields-at h bundleControl (λ c. refl) refl e in rw (own 2, own 3, own 4, own 5, own 6, own 7))
-      (under (eqb (typeOf b) 90)
-      (λ e. let own = fields-at h cashLetterControl (λ c. refl) refl e in rw (own 2, own 3, own 4, own 5, own 8, own 9))
-      (under (eqb (typeOf b) 99)
-      (λ e. let own = fields-at h fileControl (λ c. refl) refl e in rw (own 2, own 3, own 4, own 5, own 8))
+      under (eqb (typeOf set b) 70)
+      (λ e. let own = fields-at set h bundleControl (λ c. refl) refl e in rw (own 2, own 3, own 4, own 5, own 6, own 7))
+      (under (eqb (typeOf set b) 90)
+      (λ e. let own = fields-at set h cashLetterControl (λ c. refl) refl e in rw (own 2, own 3, own 4, own 5, own 8, own 9))
+      (under (eqb (typeOf set b) 99)
+      (λ e. let own = fields-at set h fileControl (λ c. refl) refl e in rw (own 2, own 3, own 4, own 5, own 8))
       refl))
 
 -- a turn that goes on passed each check, and the other way
-record Passed (file : List ℕ) (s : Standing) (at : ℕ) (b : Body) : Type 0 where
-  carried : isCarried (typeOf b) ≡ true
-  follows : mayFollow (s .inside) (s .last) (s .present) (typeOf b) ≡ true
-  alone : judgedAs (typeOf b) b ≡ Sound
-  linked : firstFailing (links.linkChecks file s (typeOf b) at) ≡ 0
-  totalled : firstFailing (totals.totalChecks file s (typeOf b) at) ≡ 0
+record Passed (set : CharacterSet) (file : List ℕ) (s : Standing) (at : ℕ) (b : Body) : Type 0 where
+  carried : isCarried (typeOf set b) ≡ true
+  follows : mayFollow (s .inside) (s .last) (s .present) (typeOf set b) ≡ true
+  alone : judgedAs set (typeOf set b) b ≡ Sound
+  linked : firstFailing (links.linkChecks set file s (typeOf set b) at) ≡ 0
+  totalled : firstFailing (totals.totalChecks set file s (typeOf set b) at) ≡ 0
 
 -- one check passed, and the turn that goes on behind it
 record Through (Check : Type 0) (next : Turn) (t : ℕ) : Type 0 where
@@ -165,24 +168,24 @@ through-alone WrongLength next e = record { check = cc; on = cc }
 through-alone judgements.UnknownType next e = record { check = cc; on = cc }
 through-alone (WrongField n) next e = record { check = cc; on = cc }
 
-two-long : (b : Body) → isCarried (typeOf b) ≡ true → leb 2 (length b) ≡ true
+two-long : (set : CharacterSet) (b : Body) → isCarried (typeOf set b) ≡ true → leb 2 (length b) ≡ true
 unfolding typeOf isCarried
-two-long b e = cases (leb 2 (length b)) e
+two-long set b e = cases (leb 2 (length b)) e
   where
-    cases : (c : Bool) → isOneOf (cond (c && every isNumeric (take 2 b)) (number (take 2 b)) 0) carried ≡ true → c ≡ true
+    cases : (c : Bool) → isOneOf (cond (c && every (isNumeric set) (take 2 b)) (number set (take 2 b)) 0) carried ≡ true → c ≡ true
     cases true e = refl
     cases false e = cc
 
-module _ {file : List ℕ} {s : Standing} {at : ℕ} {b : Body} where
-  passed-in : {t : ℕ} → turnOf file s at b ≡ turns.Good t → Passed file s at b
+module _ (set : CharacterSet) {file : List ℕ} {s : Standing} {at : ℕ} {b : Body} where
+  passed-in : {t : ℕ} → turnOf set file s at b ≡ turns.Good t → Passed set file s at b
   unfolding turnOf agreement linkFault totalFault
   passed-in e =
       let long = through (leb 2 (length b)) Length _ e in
-      let carries = through (isCarried (typeOf b)) UnknownType _ (long .on) in
-      let placed = through (mayFollow (s .inside) (s .last) (s .present) (typeOf b)) Place _ (carries .on) in
-      let judged = through-alone (judgedAs (typeOf b) b) _ (placed .on) in
-      let links = through (eqb (linkFault file s (typeOf b) at) 0) (Link (linkFault file s (typeOf b) at)) _ (judged .on) in
-      let sums = through (eqb (totalFault file s (typeOf b) at) 0) (Total (totalFault file s (typeOf b) at)) _ (links .on) in
+      let carries = through (isCarried (typeOf set b)) UnknownType _ (long .on) in
+      let placed = through (mayFollow (s .inside) (s .last) (s .present) (typeOf set b)) Place _ (carries .on) in
+      let judged = through-alone (judgedAs set (typeOf set b) b) _ (placed .on) in
+      let links = through (eqb (linkFault set file s (typeOf set b) at) 0) (Link (linkFault set file s (typeOf set b) at)) _ (judged .on) in
+      let sums = through (eqb (totalFault set file s (typeOf set b) at) 0) (Total (totalFault set file s (typeOf set b) at)) _ (links .on) in
       record {
         carried = carries .check;
         follows = placed .check;
@@ -191,39 +194,43 @@ module _ {file : List ℕ} {s : Standing} {at : ℕ} {b : Body} where
         totalled = eqb-true _ 0 (sums .check);
       }
 
-  passed-out : Passed file s at b → turnOf file s at b ≡ turns.Good (typeOf b)
+  passed-out : Passed set file s at b → turnOf set file s at b ≡ turns.Good (typeOf set b)
   unfolding turnOf agreement linkFault totalFault
-  passed-out p = rw (two-long b (p .carried), p .carried, p .follows, p .alone, p .linked, p .totalled)
+  passed-out p = rw (two-long set b (p .carried), p .carried, p .follows, p .alone, p .linked, p .totalled)
 
-module _ (file : List ℕ) (past : List Body) (older : Held file past) (opened : AllOpened past) (at : ℕ) (b : Body) where
+module _ (set : CharacterSet) (file : List ℕ) (past : List Body) (older : Held set file past) (opened : AllOpened set past) (at : ℕ) (b : Body) where
   -- the record at an offset, whose body is b: a turn goes on exactly where it is good
-  pub turn-good : (rest : List ℕ) → drop (at + 4) file ≡ b ++ rest → {t : ℕ} → turnOf file (over past) at b ≡ turns.Good t → Good past b
+  pub turn-good : (rest : List ℕ) → drop (at + 4) file ≡ b ++ rest → {t : ℕ} → turnOf set file (over set past) at b ≡ turns.Good t → Good set past b
   turn-good rest body e =
-      let p = passed-in e in
-      let h : HeldAt file at b = record { rest = rest; body = body; sound = p .alone } in
-      let now = all-opened b past opened (p .follows) in
+      let p = passed-in set e in
+      let h : HeldAt set file at b = record { rest = rest; body = body; sound = p .alone } in
+      let now = all-opened set b past opened (p .follows) in
       record {
         carried = p .carried;
         follows = p .follows;
         alone = p .alone;
         linked =
-            links-in (typeOf b) past b
-            (all-hold (linkChecks (typeOf b) past b) (links-numbered (typeOf b) past b)
-            (ap firstFailing (sym (links-same past older h now)) ∙ p .linked));
+            links-in set (typeOf set b) past b
+            (all-hold (linkChecks set (typeOf set b) past b) (links-numbered set (typeOf set b) past b)
+            (ap firstFailing (sym (links-same set past older h now)) ∙ p .linked));
         totalled =
-            totals-in (typeOf b) past b
-            (all-hold (totalChecks (typeOf b) past b) (totals-numbered (typeOf b) past b)
-            (ap firstFailing (sym (totals-same past older h)) ∙ p .totalled));
+            totals-in set (typeOf set b) past b
+            (all-hold (totalChecks set (typeOf set b) past b) (totals-numbered set (typeOf set b) past b)
+            (ap firstFailing (sym (totals-same set past older h)) ∙ p .totalled));
       }
 
-  pub good-turn : HeldAt file at b → Good past b → turnOf file (over past) at b ≡ turns.Good (typeOf b)
+  pub good-turn : HeldAt set file at b → Good set past b → turnOf set file (over set past) at b ≡ turns.Good (typeOf set b)
   good-turn h g =
-      let now = all-opened b past opened (g .follows) in
-      passed-out
+      let now = all-opened set b past opened (g .follows) in
+      passed-out set
       (record {
         carried = g .carried;
         follows = g .follows;
         alone = g .alone;
-        linked = ap firstFailing (links-same past older h now) ∙ none-fails (linkChecks (typeOf b) past b) (links-out (typeOf b) past b (g .linked));
-        totalled = ap firstFailing (totals-same past older h) ∙ none-fails (totalChecks (typeOf b) past b) (totals-out (typeOf b) past b (g .totalled));
+        linked =
+            ap firstFailing (links-same set past older h now)
+            ∙ none-fails (linkChecks set (typeOf set b) past b) (links-out set (typeOf set b) past b (g .linked));
+        totalled =
+            ap firstFailing (totals-same set past older h)
+            ∙ none-fails (totalChecks set (typeOf set b) past b) (totals-out set (typeOf set b) past b (g .totalled));
       })

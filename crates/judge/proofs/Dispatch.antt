@@ -8,6 +8,7 @@ use borrow.Author.Tests.{leb-true}
 use lib.Dec.{leb, eqb}
 use lib.ListN.{length, getD, take, drop, length-take, length-drop}
 use lib.Seq.{drop-drop}
+use Rattle.text.specs.declared.character_set.CharacterSet.{CharacterSet}
 use Rattle.text.specs.DataTypes.{every}
 use Rattle.layout.specs.Layout.{Layout}
 use Rattle.layout.specs.Layouts.{layouts}
@@ -19,33 +20,33 @@ use Rattle.judge.specs.declared.Judged.the-variants.{UnknownType}
 use Rattle.judge.proofs.Laws.{both-true}
 
 -- a record judged by the first block of its type
-abbrev amongBlocks : List Block → ℕ → List ℕ → Judged
-amongBlocks [] t body = UnknownType
-amongBlocks (b ∷ bs) t body = cond (eqb t (b .typeNumber)) (byBlock b body) (amongBlocks bs t body)
+abbrev amongBlocks : CharacterSet → List Block → ℕ → List ℕ → Judged
+amongBlocks set [] t body = UnknownType
+amongBlocks set (b ∷ bs) t body = cond (eqb t (b .typeNumber)) (byBlock set b body) (amongBlocks set bs t body)
 
-blocks-of : (ls : List Layout) (t : ℕ) (body : List ℕ) → amongBlocks (map blockOf ls) t body ≡ amongLayouts ls t body
-blocks-of [] t body = refl
-blocks-of (l ∷ ls) t body =
-    ap (cond (eqb t (l .typeNumber)) (judged (l .fixedLength) (l .lines) (blockOf l .parts) body)) (blocks-of ls t body)
+blocks-of : (set : CharacterSet) (ls : List Layout) (t : ℕ) (body : List ℕ) → amongBlocks set (map blockOf ls) t body ≡ amongLayouts set ls t body
+blocks-of set [] t body = refl
+blocks-of set (l ∷ ls) t body =
+    ap (cond (eqb t (l .typeNumber)) (judged set (l .fixedLength) (l .lines) (blockOf l .parts) body)) (blocks-of set ls t body)
 
-own-of : (n t : ℕ) (numbers body : List ℕ) → amongBlocks (blocksIn n numbers) t body ≡ byOwn (ownIn t n numbers) body
+own-of : (set : CharacterSet) (n t : ℕ) (numbers body : List ℕ) → amongBlocks set (blocksIn n numbers) t body ≡ byOwn set (ownIn t n numbers) body
 unfolding blocksIn ownIn
-own-of zero t numbers body = refl
-own-of (suc n) t [] body = refl
-own-of (suc n) t (header ∷ rest) body =
-    picked (eqb t (typeIn header)) (ownIn t n (drop (fieldsIn header) rest)) (own-of n t (drop (fieldsIn header) rest) body)
+own-of set zero t numbers body = refl
+own-of set (suc n) t [] body = refl
+own-of set (suc n) t (header ∷ rest) body =
+    picked (eqb t (typeIn header)) (ownIn t n (drop (fieldsIn header) rest)) (own-of set n t (drop (fieldsIn header) rest) body)
   where
-    picked : (here : Bool) {others : Judged} (own : List ℕ) → others ≡ byOwn own body
-        → cond here (byBlock (blockIn header rest) body) others ≡ byOwn (cond here (header ∷ rest) own) body
+    picked : (here : Bool) {others : Judged} (own : List ℕ) → others ≡ byOwn set own body
+        → cond here (byBlock set (blockIn header rest) body) others ≡ byOwn set (cond here (header ∷ rest) own) body
     picked true own e = refl
     picked false own e = e
 
-pub judged-by-own : (numbers : List ℕ) → Packed numbers → (t : ℕ) (body : List ℕ) → byOwn (ownIn t (length numbers) numbers) body ≡ judgedAs t body
+pub judged-by-own : (set : CharacterSet) (numbers : List ℕ) → Packed numbers → (t : ℕ) (body : List ℕ) → byOwn set (ownIn t (length numbers) numbers) body ≡ judgedAs set t body
 unfolding judgedAs
-judged-by-own numbers p t body =
-    sym (own-of (length numbers) t numbers body)
-    ∙ ap (λ (bs : List Block). amongBlocks bs t body) (p .means)
-    ∙ blocks-of layouts t body
+judged-by-own set numbers p t body =
+    sym (own-of set (length numbers) t numbers body)
+    ∙ ap (λ (bs : List Block). amongBlocks set bs t body) (p .means)
+    ∙ blocks-of set layouts t body
 
 -- the numbers of a kind are there, and its lines lie within its fixed part
 own-whole : (n t : ℕ) (numbers : List ℕ) → areWhole n numbers ≡ true → isWhole (ownIn t n numbers) ≡ true
@@ -63,9 +64,9 @@ own-whole (suc n) t (header ∷ rest) e =
 pub table-own : (numbers : List ℕ) → Packed numbers → (t : ℕ) → isWhole (ownIn t (length numbers) numbers) ≡ true
 table-own numbers p t = own-whole (length numbers) t numbers (p .whole)
 
-pub own-nothing : (own : List ℕ) → length own ≡ 0 → (body : List ℕ) → UnknownType ≡ byOwn own body
-own-nothing [] e body = refl
-own-nothing (header ∷ rest) e body = absurd (omega arith)
+pub own-nothing : (set : CharacterSet) (own : List ℕ) → length own ≡ 0 → (body : List ℕ) → UnknownType ≡ byOwn set own body
+own-nothing set [] e body = refl
+own-nothing set (header ∷ rest) e body = absurd (omega arith)
 
 pub not-none : (n : ℕ) → (n ≡ 0 → ⊥) → 1 ≤ n
 not-none n h = omega arith
@@ -90,7 +91,7 @@ at-most : (n : ℕ) (xs : List ℕ) → length (take n xs) ≤ n
 at-most n xs = rw length-take (omega arith)
 
 -- the numbers of the lines and of the parts, as they are lent
-module _ (own : List ℕ) (parts end : ℕ) (any : 1 ≤ length own) (is : isWhole own ≡ true) (to : end ≡ fieldsIn (getD own 0 0) + 1)
+module _ (set : CharacterSet) (own : List ℕ) (parts end : ℕ) (any : 1 ≤ length own) (is : isWhole own ≡ true) (to : end ≡ fieldsIn (getD own 0 0) + 1)
     (from : parts ≡ end - partsIn (getD own 0 0)) where
   abbrev lent : List ℕ
   lent = take (parts - 1) (drop 1 own)
@@ -111,7 +112,7 @@ module _ (own : List ℕ) (parts end : ℕ) (any : 1 ≤ length own) (is : isWho
   lines-within = rw lines-lent (whole own any is .lines)
 
   pub own-judged : (body : List ℕ)
-      → judged (longIn (getD own 0 0)) (linesFrom 1 lent) (sizedFrom (length lent + 1) (take (end - parts) (drop parts own))) body ≡ byOwn own body
+      → judged set (longIn (getD own 0 0)) (linesFrom 1 lent) (sizedFrom (length lent + 1) (take (end - parts) (drop parts own))) body ≡ byOwn set own body
   own-judged body = rw (length-lent, lines-lent, sizes, behind) (taken-apart own any body)
     where
       sizes : end - parts ≡ partsIn (getD own 0 0)
@@ -124,8 +125,8 @@ module _ (own : List ℕ) (parts end : ℕ) (any : 1 ≤ length own) (is : isWho
       behind = ap (λ (k : ℕ). drop k own) (sym at) ∙ sym (drop-drop (linesIn (getD own 0 0)) 1 own)
 
       taken-apart : (xs : List ℕ) → 1 ≤ length xs → (body : List ℕ)
-          → judged (longIn (getD xs 0 0)) (linesFrom 1 (take (linesIn (getD xs 0 0)) (drop 1 xs)))
+          → judged set (longIn (getD xs 0 0)) (linesFrom 1 (take (linesIn (getD xs 0 0)) (drop 1 xs)))
           (sizedFrom (linesIn (getD xs 0 0) + 1) (take (partsIn (getD xs 0 0)) (drop (linesIn (getD xs 0 0)) (drop 1 xs)))) body
-          ≡ byOwn xs body
+          ≡ byOwn set xs body
       taken-apart [] h body = absurd (omega arith)
       taken-apart (header ∷ rest) h body = refl

@@ -9,6 +9,7 @@ use borrow.Author.Tests.{ne-eqb, eqb-true, leb-true, le-leb}
 use lib.Dec.{leb, ltb, eqb, leb·zero, leb·suc-zero, leb·suc-suc, eqb·suc-zero, eqb·suc-suc}
 use lib.ListN.{length, getD, take, drop, drop-of-length-le}
 use lib.Seq.{drop-drop, drop-nil}
+use Rattle.text.specs.declared.character_set.CharacterSet.{CharacterSet}
 use Rattle.text.specs.declared.data_types.DataType.{DataType}
 use Rattle.text.specs.DataTypes.{every, ofType, some, isMark}
 use Rattle.text.proofs.Laws.{rest}
@@ -46,48 +47,48 @@ within-longer (p ∷ ps) n m h e =
     rw (le-leb (p / 0x1_0000_0000_0000 - 1 + p / 0x100_0000_0000 % 0x100) m (omega arith)) (within-longer ps n m h (both .1))
 
 -- the checks of a field, as far as they go
-module _ (usage : Usage) (t : DataType) (rule : Rule) (part body : List ℕ) where
-  pub blank-holds : leftBlank usage part ≡ true → holds usage t rule part body ≡ true
+module _ (set : CharacterSet) (usage : Usage) (t : DataType) (rule : Rule) (part body : List ℕ) where
+  pub blank-holds : leftBlank set usage part ≡ true → holds set usage t rule part body ≡ true
   unfolding holds
   blank-holds = passed usage
     where
-      passed : (u : Usage) → leftBlank u part ≡ true → holds u t rule part body ≡ true
+      passed : (u : Usage) → leftBlank set u part ≡ true → holds set u t rule part body ≡ true
       passed Mandatory b = cc
       passed Conditional b = rw b
 
-  filled : leftBlank usage part ≡ false → holds usage t rule part body ≡ ofType t part && (follows rule part body || some (isMark t) part)
+  filled : leftBlank set usage part ≡ false → holds set usage t rule part body ≡ ofType set t part && (follows set rule part body || some (isMark set t) part)
   unfolding holds meets
   filled = judged-by usage
     where
-      judged-by : (u : Usage) → leftBlank u part ≡ false → holds u t rule part body ≡ ofType t part && (follows rule part body || some (isMark t) part)
+      judged-by : (u : Usage) → leftBlank set u part ≡ false → holds set u t rule part body ≡ ofType set t part && (follows set rule part body || some (isMark set t) part)
       judged-by Mandatory b = refl
       judged-by Conditional b = rw b
 
-  pub other-type-fails : leftBlank usage part ≡ false → ofType t part ≡ false → holds usage t rule part body ≡ false
+  pub other-type-fails : leftBlank set usage part ≡ false → ofType set t part ≡ false → holds set usage t rule part body ≡ false
   other-type-fails b o = filled b ∙ rw o
 
-  pub rule-decides : leftBlank usage part ≡ false → ofType t part ≡ true → holds usage t rule part body ≡ follows rule part body || some (isMark t) part
+  pub rule-decides : leftBlank set usage part ≡ false → ofType set t part ≡ true → holds set usage t rule part body ≡ follows set rule part body || some (isMark set t) part
   rule-decides b o = filled b ∙ rw o
 
-module _ (lines : List ℕ) (body : List ℕ) (n i : ℕ) where
-  pub wrong-here : i < length lines → lineHolds (lineOf n (getD lines i 0)) body ≡ false → firstWrong (linesFrom n (drop i lines)) body ≡ n
+module _ (set : CharacterSet) (lines : List ℕ) (body : List ℕ) (n i : ℕ) where
+  pub wrong-here : i < length lines → lineHolds set (lineOf n (getD lines i 0)) body ≡ false → firstWrong set (linesFrom n (drop i lines)) body ≡ n
   unfolding firstWrong
   wrong-here h e = rw (rest lines i h, e)
 
-  pub wrong-later : i < length lines → lineHolds (lineOf n (getD lines i 0)) body ≡ true
-      → firstWrong (linesFrom n (drop i lines)) body ≡ firstWrong (linesFrom (n + 1) (drop (i + 1) lines)) body
+  pub wrong-later : i < length lines → lineHolds set (lineOf n (getD lines i 0)) body ≡ true
+      → firstWrong set (linesFrom n (drop i lines)) body ≡ firstWrong set (linesFrom (n + 1) (drop (i + 1) lines)) body
   unfolding firstWrong
   wrong-later h e = rw (rest lines i h, e)
 
-  pub wrong-none : length lines ≤ i → firstWrong (linesFrom n (drop i lines)) body ≡ 0
+  pub wrong-none : length lines ≤ i → firstWrong set (linesFrom n (drop i lines)) body ≡ 0
   unfolding firstWrong
   wrong-none h = rw (drop-of-length-le lines h)
 
 -- stated sizes do not hang on how the parts are numbered
-pub renumbered : (m n : ℕ) (parts body : List ℕ) → statedSizes (sizedFrom m parts) body ≡ statedSizes (sizedFrom n parts) body
+pub renumbered : (set : CharacterSet) (m n : ℕ) (parts body : List ℕ) → statedSizes set (sizedFrom m parts) body ≡ statedSizes set (sizedFrom n parts) body
 unfolding statedSizes
-renumbered m n [] body = refl
-renumbered m n (p ∷ ps) body = ap (λ (k : ℕ). statedSize (sizedOf n p) body + k) (renumbered (m + 1) (n + 1) ps body)
+renumbered set m n [] body = refl
+renumbered set m n (p ∷ ps) body = ap (λ (k : ℕ). statedSize set (sizedOf n p) body + k) (renumbered set (m + 1) (n + 1) ps body)
 
 -- what is left after a size that fits
 eqb-after : (s d m : ℕ) → eqb (s + d) (s + m) ≡ eqb d m
@@ -97,29 +98,29 @@ eqb-after (suc s) d m = rw (suc-add s d, suc-add s m) (eqb·suc-suc (s + d) (s +
 pub eqb-sub : (r s m : ℕ) → s ≤ r → eqb r (s + m) ≡ eqb (r - s) m
 eqb-sub r s m h = ap (λ (k : ℕ). eqb k (s + m)) (let e : r ≡ s + (r - s) = omega arith in e) ∙ eqb-after s (r - s) m
 
-module _ (parts : List ℕ) (body : List ℕ) (n i : ℕ) where
+module _ (set : CharacterSet) (parts : List ℕ) (body : List ℕ) (n i : ℕ) where
   pub sizes-more : i < length parts
-      → statedSizes (sizedFrom n (drop i parts)) body ≡ statedSize (sizedOf n (getD parts i 0)) body + statedSizes (sizedFrom n (drop (i + 1) parts)) body
+      → statedSizes set (sizedFrom n (drop i parts)) body ≡ statedSize set (sizedOf n (getD parts i 0)) body + statedSizes set (sizedFrom n (drop (i + 1) parts)) body
   unfolding statedSizes
-  sizes-more h = rw (rest parts i h) (ap (λ (k : ℕ). statedSize (sizedOf n (getD parts i 0)) body + k) (renumbered (n + 1) n (drop (i + 1) parts) body))
+  sizes-more h = rw (rest parts i h) (ap (λ (k : ℕ). statedSize set (sizedOf n (getD parts i 0)) body + k) (renumbered set (n + 1) n (drop (i + 1) parts) body))
 
-  pub sizes-none : length parts ≤ i → statedSizes (sizedFrom n (drop i parts)) body ≡ 0
+  pub sizes-none : length parts ≤ i → statedSizes set (sizedFrom n (drop i parts)) body ≡ 0
   unfolding statedSizes
   sizes-none h = rw (drop-of-length-le parts h)
 
   module _ (after : List ℕ) where
-    pub part-wrong : i < length parts → ofType (sizedOf n (getD parts i 0) .dataType) (take (statedSize (sizedOf n (getD parts i 0)) body) after) ≡ false
-        → firstWrongPart (sizedFrom n (drop i parts)) body after ≡ n
+    pub part-wrong : i < length parts → ofType set (sizedOf n (getD parts i 0) .dataType) (take (statedSize set (sizedOf n (getD parts i 0)) body) after) ≡ false
+        → firstWrongPart set (sizedFrom n (drop i parts)) body after ≡ n
     unfolding firstWrongPart
     part-wrong h e = rw (rest parts i h, e)
 
-    pub part-right : i < length parts → ofType (sizedOf n (getD parts i 0) .dataType) (take (statedSize (sizedOf n (getD parts i 0)) body) after) ≡ true
-        → firstWrongPart (sizedFrom n (drop i parts)) body after
-        ≡ firstWrongPart (sizedFrom (n + 1) (drop (i + 1) parts)) body (drop (statedSize (sizedOf n (getD parts i 0)) body) after)
+    pub part-right : i < length parts → ofType set (sizedOf n (getD parts i 0) .dataType) (take (statedSize set (sizedOf n (getD parts i 0)) body) after) ≡ true
+        → firstWrongPart set (sizedFrom n (drop i parts)) body after
+        ≡ firstWrongPart set (sizedFrom (n + 1) (drop (i + 1) parts)) body (drop (statedSize set (sizedOf n (getD parts i 0)) body) after)
     unfolding firstWrongPart
     part-right h e = rw (rest parts i h, e)
 
-    pub part-none : length parts ≤ i → firstWrongPart (sizedFrom n (drop i parts)) body after ≡ 0
+    pub part-none : length parts ≤ i → firstWrongPart set (sizedFrom n (drop i parts)) body after ≡ 0
     unfolding firstWrongPart
     part-none h = rw (drop-of-length-le parts h)
 
@@ -143,20 +144,20 @@ length-allowed [] n m fixed = flip m fixed
 length-allowed (p ∷ ps) n m fixed = sym (ap (λ (b : Bool). not (b && ltb fixed m)) (eqb·suc-zero (length ps)))
 
 -- the sizes of one part more
-pub sizes-suc : (parts body : List ℕ) (n i : ℕ) → i < length parts
-    → statedSizes (sizedFrom n (take (i + 1) parts)) body ≡ statedSizes (sizedFrom n (take i parts)) body + statedSize (sizedOf n (getD parts i 0)) body
+pub sizes-suc : (set : CharacterSet) (parts body : List ℕ) (n i : ℕ) → i < length parts
+    → statedSizes set (sizedFrom n (take (i + 1) parts)) body ≡ statedSizes set (sizedFrom n (take i parts)) body + statedSize set (sizedOf n (getD parts i 0)) body
 unfolding statedSizes
-sizes-suc [] body n i h = absurd (not-suc-le-zero h)
-sizes-suc (p ∷ ps) body n zero h = omega arith
-sizes-suc (p ∷ ps) body n (suc i) h = rw (suc-add i 1) (omega (arith, sizes-suc ps body (n + 1) i (le-of-suc-le-suc h)))
+sizes-suc set [] body n i h = absurd (not-suc-le-zero h)
+sizes-suc set (p ∷ ps) body n zero h = omega arith
+sizes-suc set (p ∷ ps) body n (suc i) h = rw (suc-add i 1) (omega (arith, sizes-suc set ps body (n + 1) i (le-of-suc-le-suc h)))
 
 -- and never more than those of all
-pub sizes-within : (parts body : List ℕ) (n i : ℕ) → statedSizes (sizedFrom n (take i parts)) body ≤ statedSizes (sizedFrom n parts) body
+pub sizes-within : (set : CharacterSet) (parts body : List ℕ) (n i : ℕ) → statedSizes set (sizedFrom n (take i parts)) body ≤ statedSizes set (sizedFrom n parts) body
 unfolding statedSizes
-sizes-within [] body n zero = omega arith
-sizes-within [] body n (suc i) = omega arith
-sizes-within (p ∷ ps) body n zero = omega arith
-sizes-within (p ∷ ps) body n (suc i) = omega (arith, sizes-within ps body (n + 1) i)
+sizes-within set [] body n zero = omega arith
+sizes-within set [] body n (suc i) = omega arith
+sizes-within set (p ∷ ps) body n zero = omega arith
+sizes-within set (p ∷ ps) body n (suc i) = omega (arith, sizes-within set ps body (n + 1) i)
 
 pub length-not-sound : WrongLength ≡ Sound → ⊥
 length-not-sound q = let z : _≡_ {A = ℕ} 0 1 = cc in omega arith
@@ -169,17 +170,17 @@ kept true differs e = (refl, e)
 kept false differs e = absurd (differs e)
 
 -- a sound record is as long as its fixed part and its stated sizes
-pub sound-fills : (fixed : ℕ) (lines : List Line) (parts : List Sized) (body : List ℕ) → judged fixed lines parts body ≡ Sound
-    → length body ≡ fixed + statedSizes parts body
+pub sound-fills : (set : CharacterSet) (fixed : ℕ) (lines : List Line) (parts : List Sized) (body : List ℕ) → judged set fixed lines parts body ≡ Sound
+    → length body ≡ fixed + statedSizes set parts body
 unfolding judged
-sound-fills fixed lines parts body e =
+sound-fills set fixed lines parts body e =
     let long = kept (leb fixed (length body)) length-not-sound e in
     let short = kept (isVariable parts || leb (length body) fixed) length-not-sound (long .1) in
-    let field = kept (eqb (firstWrong lines body) 0) (field-not-sound (firstWrong lines body)) (short .1) in
-    let fills = kept (eqb (length body) (fixed + statedSizes parts body)) length-not-sound (field .1) in
-    eqb-true (length body) (fixed + statedSizes parts body) (fills .0)
+    let field = kept (eqb (firstWrong set lines body) 0) (field-not-sound (firstWrong set lines body)) (short .1) in
+    let fills = kept (eqb (length body) (fixed + statedSizes set parts body)) length-not-sound (field .1) in
+    eqb-true (length body) (fixed + statedSizes set parts body) (fills .0)
 
 -- the Image Data of a sound 52 lies within its body
-pub image-within : (body : List ℕ) → alone imageViewData body ≡ Sound → imageStart body + imageSize body ≤ length body
+pub image-within : (set : CharacterSet) (body : List ℕ) → alone set imageViewData body ≡ Sound → imageStart set body + imageSize set body ≤ length body
 unfolding statedSizes
-image-within body e = omega (arith, sound-fills 139 (imageViewData .lines) (sizedParts imageViewData) body e)
+image-within set body e = omega (arith, sound-fills set 139 (imageViewData .lines) (sizedParts imageViewData) body e)

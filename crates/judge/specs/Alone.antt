@@ -4,6 +4,7 @@ use mathlib.Core.Bool.{Bool, true, false, cond, _&&_, _||_}
 use mathlib.Core.List.{List, [], _∷_}
 use lib.Dec.{leb, eqb}
 use lib.ListN.{length, take, drop}
+use Rattle.text.specs.declared.character_set.CharacterSet.{CharacterSet}
 use Rattle.text.specs.declared.data_types.DataType.{DataType}
 use Rattle.text.specs.Characters.{isNumeric}
 use Rattle.text.specs.DataTypes.{every, ofType}
@@ -33,28 +34,28 @@ fieldOf (WrongField n) = n
 abbrev pub charactersOf : Line → List ℕ → List ℕ
 charactersOf l body = part (l .first - 1) (l .size) body
 
-unfoldable pub lineHolds : Line → List ℕ → Bool
-lineHolds l body = holds (l .usage) (l .dataType) (l .rule) (charactersOf l body) body
+unfoldable pub lineHolds : CharacterSet → Line → List ℕ → Bool
+lineHolds set l body = holds set (l .usage) (l .dataType) (l .rule) (charactersOf l body) body
 
 -- "FIELD over fixed fields from the lowest number": the first that does not hold, or 0
-unfoldable pub firstWrong : List Line → List ℕ → ℕ
-firstWrong [] body = 0
-firstWrong (l ∷ ls) body = cond (lineHolds l body) (firstWrong ls body) (l .number)
+unfoldable pub firstWrong : CharacterSet → List Line → List ℕ → ℕ
+firstWrong set [] body = 0
+firstWrong set (l ∷ ls) body = cond (lineHolds set l body) (firstWrong set ls body) (l .number)
 
 -- the size that a record states for one of its parts, and those of all of them together
-abbrev pub statedSize : Sized → List ℕ → ℕ
-statedSize s body = number (part (s .first - 1) (s .size) body)
+abbrev pub statedSize : CharacterSet → Sized → List ℕ → ℕ
+statedSize set s body = number set (part (s .first - 1) (s .size) body)
 
-unfoldable pub statedSizes : List Sized → List ℕ → ℕ
-statedSizes [] body = 0
-statedSizes (s ∷ ss) body = statedSize s body + statedSizes ss body
+unfoldable pub statedSizes : CharacterSet → List Sized → List ℕ → ℕ
+statedSizes set [] body = 0
+statedSizes set (s ∷ ss) body = statedSize set s body + statedSizes set ss body
 
 -- the parts stand one after the other in what follows the fixed part: the first that is not of its data type, or 0
-unfoldable pub firstWrongPart : List Sized → List ℕ → List ℕ → ℕ
-firstWrongPart [] body rest = 0
-firstWrongPart (s ∷ ss) body rest =
-    cond (ofType (s .dataType) (take (statedSize s body) rest))
-    (firstWrongPart ss body (drop (statedSize s body) rest))
+unfoldable pub firstWrongPart : CharacterSet → List Sized → List ℕ → List ℕ → ℕ
+firstWrongPart set [] body rest = 0
+firstWrongPart set (s ∷ ss) body rest =
+    cond (ofType set (s .dataType) (take (statedSize set s body) rest))
+    (firstWrongPart set ss body (drop (statedSize set s body) rest))
     (s .number)
 
 abbrev pub isVariable : List Sized → Bool
@@ -67,30 +68,30 @@ unlessField n judged = unless (eqb n 0) (WrongField n) judged
 -- The checks in document 01's order; the first that fails is the answer. LENGTH: "too short for the fixed part, or a fixed record
 -- too long". FIELD over the fixed fields. LENGTH "if a variable record differs from its fixed part plus stated part lengths". FIELD
 -- over the variable fields.
-unfoldable pub judged : ℕ → List Line → List Sized → List ℕ → Judged
-judged fixedLength lines parts body =
+unfoldable pub judged : CharacterSet → ℕ → List Line → List Sized → List ℕ → Judged
+judged set fixedLength lines parts body =
     unless (leb fixedLength (length body)) WrongLength
     (unless (isVariable parts || leb (length body) fixedLength) WrongLength
-    (unlessField (firstWrong lines body)
-    (unless (eqb (length body) (fixedLength + statedSizes parts body)) WrongLength
-    (unlessField (firstWrongPart parts body (drop fixedLength body)) Sound))))
+    (unlessField (firstWrong set lines body)
+    (unless (eqb (length body) (fixedLength + statedSizes set parts body)) WrongLength
+    (unlessField (firstWrongPart set parts body (drop fixedLength body)) Sound))))
 
 -- a record of a kind, alone, by its layout
-abbrev pub alone : Layout → List ℕ → Judged
-alone k body = judged (k .fixedLength) (k .lines) (sizedParts k) body
+abbrev pub alone : CharacterSet → Layout → List ℕ → Judged
+alone set k body = judged set (k .fixedLength) (k .lines) (sizedParts k) body
 
 -- the type that the first two characters name; 0, which is no type, where they are not two digits
-unfoldable pub typeOf : List ℕ → ℕ
-typeOf body = cond (leb 2 (length body) && every isNumeric (take 2 body)) (number (take 2 body)) 0
+unfoldable pub typeOf : CharacterSet → List ℕ → ℕ
+typeOf set body = cond (leb 2 (length body) && every (isNumeric set) (take 2 body)) (number set (take 2 body)) 0
 
 -- a record judged as one of the type that a number names
-abbrev pub amongLayouts : List Layout → ℕ → List ℕ → Judged
-amongLayouts [] n body = UnknownType
-amongLayouts (k ∷ ks) n body = cond (eqb n (k .typeNumber)) (alone k body) (amongLayouts ks n body)
+abbrev pub amongLayouts : CharacterSet → List Layout → ℕ → List ℕ → Judged
+amongLayouts set [] n body = UnknownType
+amongLayouts set (k ∷ ks) n body = cond (eqb n (k .typeNumber)) (alone set k body) (amongLayouts set ks n body)
 
-unfoldable pub judgedAs : ℕ → List ℕ → Judged
-judgedAs n body = amongLayouts layouts n body
+unfoldable pub judgedAs : CharacterSet → ℕ → List ℕ → Judged
+judgedAs set n body = amongLayouts set layouts n body
 
 -- the whole of it: LENGTH below 2, TYPE, and the checks of its kind
-unfoldable pub judgedRecord : List ℕ → Judged
-judgedRecord body = unless (leb 2 (length body)) WrongLength (judgedAs (typeOf body) body)
+unfoldable pub judgedRecord : CharacterSet → List ℕ → Judged
+judgedRecord set body = unless (leb 2 (length body)) WrongLength (judgedAs set (typeOf set body) body)

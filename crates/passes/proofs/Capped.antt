@@ -3,6 +3,7 @@
 use Prim.Native.Nat.{ℕ}
 use mathlib.Core.List.{List}
 use mathlib.Core.Path.{_≡_, refl, ap}
+use Rattle.text.specs.declared.character_set.CharacterSet.{CharacterSet}
 use Rattle.frame.specs.declared.Frame.{Frame}
 use Rattle.frame.specs.declared.Frame.the-variants.{Cut, Whole}
 use Rattle.frame.specs.Frames.{part, frameAt}
@@ -15,7 +16,7 @@ use Rattle.passes.specs.CheckOrder.{agreement, turnOf}
 use Rattle.passes.specs.Rows.{rowOf}
 use Rattle.passes.specs.Reading.{ofTurn, ofFrame, stepOf, endedWith}
 
-module _ (s : Standing) where
+module _ (set : CharacterSet) (s : Standing) where
   pub figures-twice : cappedFigures (cappedFigures s) ≡ cappedFigures s
   figures-twice =
       rw (
@@ -32,22 +33,22 @@ module _ (s : Standing) where
   ended-capped at = rw (capped-twice (s .whole .debit .0), capped-twice (s .whole .credit .0))
 
   module _ (file : List ℕ) where
-    pub row-capped : (t offset size : ℕ) → rowOf file (cappedFigures s) t offset size ≡ rowOf file s t offset size
+    pub row-capped : (t offset size : ℕ) → rowOf set file (cappedFigures s) t offset size ≡ rowOf set file s t offset size
     row-capped t offset size =
         rw (capped-twice (s .bundle .debit .0), capped-twice (s .letter .debit .0), capped-twice (s .whole .debit .0))
 
-    agreement-capped : (at t : ℕ) → agreement file (cappedFigures s) at t ≡ agreement file s at t
+    agreement-capped : (at t : ℕ) → agreement set file (cappedFigures s) at t ≡ agreement set file s at t
     unfolding agreement
-    agreement-capped at t = rw (link-capped file s t at, total-capped file s t at)
+    agreement-capped at t = rw (link-capped set file s t at, total-capped set file s t at)
 
-    turn-capped : (at : ℕ) (body : List ℕ) → turnOf file (cappedFigures s) at body ≡ turnOf file s at body
+    turn-capped : (at : ℕ) (body : List ℕ) → turnOf set file (cappedFigures s) at body ≡ turnOf set file s at body
     unfolding turnOf
-    turn-capped at body = rw (agreement-capped at (typeOf body))
+    turn-capped at body = rw (agreement-capped at (typeOf set body))
 
-    frame-capped : (at : ℕ) (f : Frame) → ofFrame file (cappedFigures s) at f ≡ ofFrame file s at f
+    frame-capped : (at : ℕ) (f : Frame) → ofFrame set file (cappedFigures s) at f ≡ ofFrame set file s at f
     frame-capped at Cut = refl
     frame-capped at (Whole start size) = ap (ofTurn size) (turn-capped at (part start size file))
 
-    pub step-capped : (at : ℕ) → stepOf file (cappedFigures s) at ≡ stepOf file s at
+    pub step-capped : (at : ℕ) → stepOf set file (cappedFigures s) at ≡ stepOf set file s at
     unfolding stepOf
     step-capped at = rw (frame-capped at (frameAt file at))

@@ -10,6 +10,7 @@ use lib.Dec.{leb, eqb}
 use lib.ListN.{length, take, drop, length-append, take-append-drop}
 use lib.Seq.{sets, sets-eq, take-at, drop-append-add, length-take-le, drop-drop}
 use borrow.Author.Tests.{le-leb, lt-leb}
+use Rattle.text.specs.declared.character_set.CharacterSet.{CharacterSet}
 use Rattle.frame.specs.Frames.{part, frameAt}
 use Rattle.frame.specs.declared.Frame.{Frame}
 use Rattle.frame.specs.declared.Frame.the-variants.{Cut, Whole}
@@ -35,48 +36,48 @@ use Rattle.passes.specs.Reading.{ofTurn, ofFrame, stepOf, ended, run}
 use Rattle.frame.specs.Unless.{unless}
 use Rattle.passes.specs.declared.Fault.the-variants as faults
 
-module _ (file : List ℕ) (at : ℕ) (past : List Entry) where
-  pub run-end : (n : ℕ) → length file ≤ at → run n file at past ≡ ended file past at
+module _ (set : CharacterSet) (file : List ℕ) (at : ℕ) (past : List Entry) where
+  pub run-end : (n : ℕ) → length file ≤ at → run set n file at past ≡ ended set file past at
   unfolding run
   run-end zero h = refl
   run-end (suc n) h = rw (le-leb (length file) at h)
 
-  pub run-stop : (n : ℕ) (fault : Fault) → at < length file → 0 < n → stepOf file (standing file past) at ≡ Stop fault
-      → run n file at past ≡ Refused fault (length past + 1) at
+  pub run-stop : (n : ℕ) (fault : Fault) → at < length file → 0 < n → stepOf set file (standing set file past) at ≡ Stop fault
+      → run set n file at past ≡ Refused fault (length past + 1) at
   unfolding run
   run-stop zero fault h k e = absurd (omega arith)
   run-stop (suc n) fault h k e = rw (lt-leb (length file) at h, e)
 
-  pub run-on : (n t size : ℕ) → at < length file → 0 < n → stepOf file (standing file past) at ≡ On t size
-      → run n file at past ≡ run (n - 1) file (at + 4 + size) (entry t at size ∷ past)
+  pub run-on : (n t size : ℕ) → at < length file → 0 < n → stepOf set file (standing set file past) at ≡ On t size
+      → run set n file at past ≡ run set (n - 1) file (at + 4 + size) (entry t at size ∷ past)
   unfolding run
   run-on zero t size h k e = absurd (omega arith)
   run-on (suc n) t size h k e = rw sub-one (rw (lt-leb (length file) at h, e))
 
-  pub rows-end : (n : ℕ) → length file ≤ at → rowsFrom n file at past ≡ []
+  pub rows-end : (n : ℕ) → length file ≤ at → rowsFrom set n file at past ≡ []
   unfolding rowsFrom
   rows-end zero h = refl
   rows-end (suc n) h = rw (le-leb (length file) at h)
 
-  pub rows-cut : (n : ℕ) → frameAt file at ≡ Cut → at < length file → rowsFrom n file at past ≡ []
+  pub rows-cut : (n : ℕ) → frameAt file at ≡ Cut → at < length file → rowsFrom set n file at past ≡ []
   unfolding rowsFrom
   rows-cut zero e h = refl
   rows-cut (suc n) e h = rw (lt-leb (length file) at h, e)
 
   rows-at : (n start size : ℕ) → at < length file → 0 < n → frameAt file at ≡ Whole start size
-      → rowsFrom n file at past
-      ≡ rowOf file (standing file (entry (typeOf (part start size file)) at size ∷ past)) (typeOf (part start size file)) at size
-      ++ rowsFrom (n - 1) file (start + size) (entry (typeOf (part start size file)) at size ∷ past)
+      → rowsFrom set n file at past
+      ≡ rowOf set file (standing set file (entry (typeOf set (part start size file)) at size ∷ past)) (typeOf set (part start size file)) at size
+      ++ rowsFrom set (n - 1) file (start + size) (entry (typeOf set (part start size file)) at size ∷ past)
   unfolding rowsFrom
   rows-at zero start size h k e = absurd (omega arith)
   rows-at (suc n) start size h k e = rw (sub-one (suc n)) (rw (lt-leb (length file) at h, e))
 
-  pub rows-on : (n start size t : ℕ) → at < length file → 0 < n → frameAt file at ≡ Whole start size → typeOf (part start size file) ≡ t
-      → rowsFrom n file at past
-      ≡ rowOf file (standing file (entry t at size ∷ past)) t at size ++ rowsFrom (n - 1) file (start + size) (entry t at size ∷ past)
+  pub rows-on : (n start size t : ℕ) → at < length file → 0 < n → frameAt file at ≡ Whole start size → typeOf set (part start size file) ≡ t
+      → rowsFrom set n file at past
+      ≡ rowOf set file (standing set file (entry t at size ∷ past)) t at size ++ rowsFrom set (n - 1) file (start + size) (entry t at size ∷ past)
   rows-on n start size t h k e q =
       subst
-      (λ (u : ℕ). rowsFrom n file at past ≡ rowOf file (standing file (entry u at size ∷ past)) u at size ++ rowsFrom (n - 1) file (start + size) (entry u at size ∷ past))
+      (λ (u : ℕ). rowsFrom set n file at past ≡ rowOf set file (standing set file (entry u at size ∷ past)) u at size ++ rowsFrom set (n - 1) file (start + size) (entry u at size ∷ past))
       q
       (rows-at n start size h k e)
 
@@ -98,50 +99,50 @@ through-alone WrongLength next e = cc
 through-alone UnknownType next e = cc
 through-alone (WrongField n) next e = cc
 
-good-type : (file : List ℕ) (s : Standing) (at t : ℕ) (body : List ℕ) → turnOf file s at body ≡ Good t → typeOf body ≡ t
+good-type : (set : CharacterSet) (file : List ℕ) (s : Standing) (at t : ℕ) (body : List ℕ) → turnOf set file s at body ≡ Good t → typeOf set body ≡ t
 unfolding turnOf agreement
-good-type file s at t body e =
-    let k = typeOf body in
-    let totalled = unless (eqb (totalFault file s k at) 0) (Faulty (Total (totalFault file s k at))) (Good k) in
-    let linked = unless (eqb (linkFault file s k at) 0) (Faulty (Link (linkFault file s k at))) totalled in
-    let alone = unlessAlone (judgedAs k body) linked in
+good-type set file s at t body e =
+    let k = typeOf set body in
+    let totalled = unless (eqb (totalFault set file s k at) 0) (Faulty (Total (totalFault set file s k at))) (Good k) in
+    let linked = unless (eqb (linkFault set file s k at) 0) (Faulty (Link (linkFault set file s k at))) totalled in
+    let alone = unlessAlone (judgedAs set k body) linked in
     let placed = unless (mayFollow (s .inside) (s .last) (s .present) k) (Faulty Place) alone in
     let typed = unless (isCarried k) (Faulty faults.UnknownType) placed in
     let e₁ = through (leb 2 (length body)) Length typed e in
     let e₂ = through (isCarried k) faults.UnknownType placed e₁ in
     let e₃ = through (mayFollow (s .inside) (s .last) (s .present) k) Place alone e₂ in
-    let e₄ = through-alone (judgedAs k body) linked e₃ in
-    let e₅ = through (eqb (linkFault file s k at) 0) (Link (linkFault file s k at)) totalled e₄ in
-    let e₆ = through (eqb (totalFault file s k at) 0) (Total (totalFault file s k at)) (Good k) e₅ in
+    let e₄ = through-alone (judgedAs set k body) linked e₃ in
+    let e₅ = through (eqb (linkFault set file s k at) 0) (Link (linkFault set file s k at)) totalled e₄ in
+    let e₆ = through (eqb (totalFault set file s k at) 0) (Total (totalFault set file s k at)) (Good k) e₅ in
     cc e₆
 
-pub record Framed (file : List ℕ) (at t size : ℕ) : Type 0 where
+pub record Framed (set : CharacterSet) (file : List ℕ) (at t size : ℕ) : Type 0 where
   pub start : ℕ
   pub whole : frameAt file at ≡ Whole start size
-  pub type : typeOf (part start size file) ≡ t
+  pub type : typeOf set (part start size file) ≡ t
 
 on-turn : (turn : Turn) (n : ℕ) {t size : ℕ} → ofTurn n turn ≡ On t size → (turn ≡ Good t) × (n ≡ size)
 on-turn (Faulty fault) n e = ((cc), (cc))
 on-turn (Good u) n e = ((cc), (cc))
 
-on-frame : (file : List ℕ) (s : Standing) (at t size : ℕ) (f : Frame) → frameAt file at ≡ f → ofFrame file s at f ≡ On t size → Framed file at t size
-on-frame file s at t size Cut q e = absurd (stop-on faults.Cut t size e)
-on-frame file s at t size (Whole start n) q e =
-    let p = on-turn (turnOf file s at (part start n file)) n e in
+on-frame : (set : CharacterSet) (file : List ℕ) (s : Standing) (at t size : ℕ) (f : Frame) → frameAt file at ≡ f → ofFrame set file s at f ≡ On t size → Framed set file at t size
+on-frame set file s at t size Cut q e = absurd (stop-on faults.Cut t size e)
+on-frame set file s at t size (Whole start n) q e =
+    let p = on-turn (turnOf set file s at (part start n file)) n e in
     record {
       start = start;
       whole = q ∙ ap (Whole start) (p .1);
-      type = ap (λ (m : ℕ). typeOf (part start m file)) (sym (p .1)) ∙ good-type file s at t (part start n file) (p .0);
+      type = ap (λ (m : ℕ). typeOf set (part start m file)) (sym (p .1)) ∙ good-type set file s at t (part start n file) (p .0);
     }
 
-on-step : (file : List ℕ) (s : Standing) (at t size : ℕ) (b : Bool) → cond b (Stop After) (ofFrame file s at (frameAt file at)) ≡ On t size
-    → Framed file at t size
-on-step file s at t size true e = absurd (stop-on After t size e)
-on-step file s at t size false e = on-frame file s at t size (frameAt file at) refl e
+on-step : (set : CharacterSet) (file : List ℕ) (s : Standing) (at t size : ℕ) (b : Bool) → cond b (Stop After) (ofFrame set file s at (frameAt file at)) ≡ On t size
+    → Framed set file at t size
+on-step set file s at t size true e = absurd (stop-on After t size e)
+on-step set file s at t size false e = on-frame set file s at t size (frameAt file at) refl e
 
-pub framed : (file : List ℕ) (s : Standing) (at t size : ℕ) → stepOf file s at ≡ On t size → Framed file at t size
+pub framed : (set : CharacterSet) (file : List ℕ) (s : Standing) (at t size : ℕ) → stepOf set file s at ≡ On t size → Framed set file at t size
 unfolding stepOf
-framed file s at t size e = on-step file s at t size (eqb (s .last) 99) e
+framed set file s at t size e = on-step set file s at t size (eqb (s .last) 99) e
 
 -- a table with a run of rows at base
 abbrev pub splice : List ℕ → ℕ → List ℕ → List ℕ

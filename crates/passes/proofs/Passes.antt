@@ -9,6 +9,8 @@ use borrow.Author.Tests.{leb-true}
 use lib.Dec.{leb, eqb}
 use lib.ListN.{length, drop, length-append}
 use lib.Seq.{sets, length-sets}
+use Rattle.text.specs.CharacterSet.{setOf}
+use Rattle.text.specs.declared.character_set.CharacterSet.{CharacterSet}
 use Rattle.frame.specs.Frames.{part, frameAt}
 use Rattle.frame.specs.declared.Frame.the-variants.{Cut, Whole}
 use Rattle.frame.proofs.Laws.{whole-within, whole-start}
@@ -30,38 +32,38 @@ use Rattle.passes.proofs.Capped.{figures-twice, ended-capped, row-cappe
 use Rattle.passes.proofs.Laws.{run-end, run-stop, run-on, rows-end, rows-cut, rows-on, Framed, framed, splice, splice-none, splice-more}
 
 -- both passes: the records passed, where the loop is, and how many records may still come
-pub record Place (file : List ℕ) (at : ℕ) (s : Standing) : Type 0 where
+pub record Place (set : CharacterSet) (file : List ℕ) (at : ℕ) (s : Standing) : Type 0 where
   pub past : List Entry
   pub fuel : ℕ
   pub within : at ≤ length file
   pub limit : length file ≤ 268_435_456
   pub few : length past ≤ at
   pub enough : length file ≤ at + fuel
-  pub stands : s ≡ cappedFigures (standing file past)
+  pub stands : s ≡ cappedFigures (standing set file past)
 
-pub place-roomy : (file : List ℕ) (at : ℕ) (s : Standing) → Place file at s → Roomy s
-place-roomy file at s p = subst Roomy (sym (p .stands)) (roomy file (p .past) (omega (arith, p .few, p .within, p .limit)))
+pub place-roomy : (set : CharacterSet) (file : List ℕ) (at : ℕ) (s : Standing) → Place set file at s → Roomy s
+place-roomy set file at s p = subst Roomy (sym (p .stands)) (roomy set file (p .past) (omega (arith, p .few, p .within, p .limit)))
 
-pub place-records : (file : List ℕ) (at : ℕ) (s : Standing) (p : Place file at s) → s .records .0 ≡ length (p .past)
-place-records file at s p = ap (λ (u : Standing). u .records .0) (p .stands) ∙ standing-records file (p .past)
+pub place-records : (set : CharacterSet) (file : List ℕ) (at : ℕ) (s : Standing) (p : Place set file at s) → s .records .0 ≡ length (p .past)
+place-records set file at s p = ap (λ (u : Standing). u .records .0) (p .stands) ∙ standing-records set file (p .past)
 
 -- what `standing::moved` gives for a record of type t at an offset
-abbrev pub Moves : List ℕ → Standing → ℕ → ℕ → Standing → Type 0
-Moves file s t at r =
-    (past : List Entry) (n : ℕ) → s ≡ cappedFigures (standing file past) → r ≡ cappedFigures (standing file (entry t at n ∷ past))
+abbrev pub Moves : CharacterSet → List ℕ → Standing → ℕ → ℕ → Standing → Type 0
+Moves set file s t at r =
+    (past : List Entry) (n : ℕ) → s ≡ cappedFigures (standing set file past) → r ≡ cappedFigures (standing set file (entry t at n ∷ past))
 
 -- sums that stop have stopped already
-stopped : (s u : Standing) → s ≡ cappedFigures u → cappedFigures s ≡ s
-stopped s u e = ap cappedFigures e ∙ figures-twice u ∙ sym e
+stopped : CharacterSet → (s u : Standing) → s ≡ cappedFigures u → cappedFigures s ≡ s
+stopped set s u e = ap cappedFigures e ∙ figures-twice set u ∙ sym e
 
-pub place-stopped : (file : List ℕ) (at : ℕ) (s : Standing) → Place file at s → cappedFigures s ≡ s
-place-stopped file at s p = stopped s (standing file (p .past)) (p .stands)
+pub place-stopped : (set : CharacterSet) (file : List ℕ) (at : ℕ) (s : Standing) → Place set file at s → cappedFigures s ≡ s
+place-stopped set file at s p = stopped set s (standing set file (p .past)) (p .stands)
 
-pub moves-stopped : (file : List ℕ) (at : ℕ) (s : Standing) → Place file at s → (t : ℕ) (r : Standing) → Moves file s t at r → cappedFigures r ≡ r
-moves-stopped file at s p t r m = stopped r (standing file (entry t at 0 ∷ p .past)) (m (p .past) 0 (p .stands))
+pub moves-stopped : (set : CharacterSet) (file : List ℕ) (at : ℕ) (s : Standing) → Place set file at s → (t : ℕ) (r : Standing) → Moves set file s t at r → cappedFigures r ≡ r
+moves-stopped set file at s p t r m = stopped set r (standing set file (entry t at 0 ∷ p .past)) (m (p .past) 0 (p .stands))
 
-pub place-first : (file : List ℕ) (s : Standing) → length file ≤ 268_435_456 → s ≡ cappedFigures (standing file []) → Place file 0 s
-place-first file s h e =
+pub place-first : (set : CharacterSet) (file : List ℕ) (s : Standing) → length file ≤ 268_435_456 → s ≡ cappedFigures (standing set file []) → Place set file 0 s
+place-first set file s h e =
     record {
       past = [];
       fuel = length file;
@@ -72,9 +74,9 @@ place-first file s h e =
       stands = e;
     }
 
-pub place-on : (file : List ℕ) (at : ℕ) (s : Standing) (p : Place file at s) (t size : ℕ) (r : Standing) → at < length file
-    → at + 4 + size ≤ length file → Moves file s t at r → Place file (at + 4 + size) r
-place-on file at s p t size r h l m =
+pub place-on : (set : CharacterSet) (file : List ℕ) (at : ℕ) (s : Standing) (p : Place set file at s) (t size : ℕ) (r : Standing) → at < length file
+    → at + 4 + size ≤ length file → Moves set file s t at r → Place set file (at + 4 + size) r
+place-on set file at s p t size r h l m =
     record {
       past = entry t at size ∷ p .past;
       fuel = p .fuel - 1;
@@ -86,35 +88,38 @@ place-on file at s p t size r h l m =
     }
 
 -- the first pass: the answer from here is the whole answer, and each record so far has its row
-pub record Survey (file : List ℕ) (at : ℕ) (s : Standing) : Type 0 where
-  pub place : Place file at s
-  pub same : run (length file) file 0 [] ≡ run (place .fuel) file at (place .past)
-  pub count : length (rowsOf file) ≡ 7 * length (place .past) + length (rowsFrom (place .fuel) file at (place .past))
+pub record Survey (set : CharacterSet) (file : List ℕ) (at : ℕ) (s : Standing) : Type 0 where
+  pub place : Place set file at s
+  pub same : run set (length file) file 0 [] ≡ run set (place .fuel) file at (place .past)
+  pub count : length (rowsOf file) ≡ 7 * length (place .past) + length (rowsFrom set (place .fuel) file at (place .past))
 
-pub survey-first : (file : List ℕ) (s : Standing) → length file ≤ 268_435_456 → s ≡ cappedFigures (standing file []) → Survey file 0 s
+pub survey-first : (set : CharacterSet) (file : List ℕ) (s : Standing) → set ≡ setOf file → length file ≤ 268_435_456
+    → s ≡ cappedFigures (standing set file []) → Survey set file 0 s
 unfolding place-first
-survey-first file s h e = record { place = place-first file s h e; same = refl; count = omega arith }
+survey-first set file s q h e =
+    let rows : length (rowsFrom set (length file) file 0 []) ≡ length (rowsOf file) = rw q in
+    record { place = place-first set file s h e; same = refl; count = omega (arith, rows) }
 
-module _ (file : List ℕ) (at : ℕ) (s : Standing) (v : Survey file at s) where
+module _ (set : CharacterSet) (file : List ℕ) (at : ℕ) (s : Standing) (v : Survey set file at s) where
   left : at < length file → 0 < v .place .fuel
   left h = omega (arith, v .place .enough)
 
-  step-here : {x : Step} → stepOf file s at ≡ x → stepOf file (standing file (v .place .past)) at ≡ x
+  step-here : {x : Step} → stepOf set file s at ≡ x → stepOf set file (standing set file (v .place .past)) at ≡ x
   step-here {x} e =
-      sym (step-capped (standing file (v .place .past)) file at) ∙ subst (λ (u : Standing). stepOf file u at ≡ x) (v .place .stands) e
+      sym (step-capped set (standing set file (v .place .past)) file at) ∙ subst (λ (u : Standing). stepOf set file u at ≡ x) (v .place .stands) e
 
-  pub survey-stop : at < length file → (fault : Fault) → stepOf file s at ≡ Stop fault
-      → run (length file) file 0 [] ≡ Refused fault (s .records .0 + 1) at
+  pub survey-stop : at < length file → (fault : Fault) → stepOf set file s at ≡ Stop fault
+      → run set (length file) file 0 [] ≡ Refused fault (s .records .0 + 1) at
   survey-stop h fault e =
       v .same
-      ∙ run-stop file at (v .place .past) (v .place .fuel) fault h (left h) (step-here e)
-      ∙ ap (λ (n : ℕ). Refused fault (n + 1) at) (sym (place-records file at s (v .place)))
+      ∙ run-stop set file at (v .place .past) (v .place .fuel) fault h (left h) (step-here e)
+      ∙ ap (λ (n : ℕ). Refused fault (n + 1) at) (sym (place-records set file at s (v .place)))
 
-  pub survey-end : length file ≤ at → run (length file) file 0 [] ≡ endedWith s at
+  pub survey-end : length file ≤ at → run set (length file) file 0 [] ≡ endedWith s at
   survey-end h =
       v .same
-      ∙ run-end file at (v .place .past) (v .place .fuel) h
-      ∙ sym (ended-capped (standing file (v .place .past)) at)
+      ∙ run-end set file at (v .place .past) (v .place .fuel) h
+      ∙ sym (ended-capped set (standing set file (v .place .past)) at)
       ∙ ap (λ (u : Standing). endedWith u at) (sym (v .place .stands))
 
   counted-pick : (b : Bool) → length (rowsOf file) ≡ 7 * s .records .0 → Counted file (cond b (Accepted (totalsOf s)) (Refused Open (s .records .0 + 1) at))
@@ -124,96 +129,103 @@ module _ (file : List ℕ) (at : ℕ) (s : Standing) (v : Survey file at s) wher
   pub counted-end : length file ≤ at → Counted file (endedWith s at)
   unfolding endedWith
   counted-end h =
-      let none = ap length (rows-end file at (v .place .past) (v .place .fuel) h) in
-      counted-pick (eqb (s .last) 99) (omega (arith, v .count, place-records file at s (v .place)))
+      let none = ap length (rows-end set file at (v .place .past) (v .place .fuel) h) in
+      counted-pick (eqb (s .last) 99) (omega (arith, v .count, place-records set file at s (v .place)))
 
-  pub survey-on : at < length file → (t size : ℕ) (r : Standing) → stepOf file s at ≡ On t size → Moves file s t at r → Survey file (at + 4 + size) r
+  pub survey-on : at < length file → (t size : ℕ) (r : Standing) → stepOf set file s at ≡ On t size → Moves set file s t at r → Survey set file (at + 4 + size) r
   unfolding place-on
   survey-on h t size r e m =
       let past = v .place .past in
       let fuel = v .place .fuel in
-      let f = framed file s at t size e in
+      let f = framed set file s at t size e in
       let begins = whole-start file at (f .start) size (f .whole) in
       let fits = whole-within file at (f .start) size (f .whole) in
-      let others = rowsFrom (fuel - 1) file (f .start + size) (entry t at size ∷ past) in
-      let row = rowOf file (standing file (entry t at size ∷ past)) t at size in
-      let rows : rowsFrom fuel file at past ≡ row ++ others = rows-on file at past fuel (f .start) size t h (left h) (f .whole) (f .type) in
-      let long : length (rowsFrom fuel file at past) ≡ 7 + length others = ap length rows ∙ length-append row others in
-      let there : length others ≡ length (rowsFrom (fuel - 1) file (at + 4 + size) (entry t at size ∷ past)) =
-      ap (λ (n : ℕ). length (rowsFrom (fuel - 1) file (n + size) (entry t at size ∷ past))) begins in
+      let others = rowsFrom set (fuel - 1) file (f .start + size) (entry t at size ∷ past) in
+      let row = rowOf set file (standing set file (entry t at size ∷ past)) t at size in
+      let rows : rowsFrom set fuel file at past ≡ row ++ others = rows-on set file at past fuel (f .start) size t h (left h) (f .whole) (f .type) in
+      let long : length (rowsFrom set fuel file at past) ≡ 7 + length others = ap length rows ∙ length-append row others in
+      let there : length others ≡ length (rowsFrom set (fuel - 1) file (at + 4 + size) (entry t at size ∷ past)) =
+      ap (λ (n : ℕ). length (rowsFrom set (fuel - 1) file (n + size) (entry t at size ∷ past))) begins in
       record {
-        place = place-on file at s (v .place) t size r h (omega arith) m;
-        same = v .same ∙ run-on file at past fuel t size h (left h) (step-here e);
+        place = place-on set file at s (v .place) t size r h (omega arith) m;
+        same = v .same ∙ run-on set file at past fuel t size h (left h) (step-here e);
         count = omega (arith, v .count);
       }
 
 -- a step that goes on stays within the file
-pub on-within : (file : List ℕ) (s : Standing) (at t size : ℕ) → stepOf file s at ≡ On t size → at + 4 + size ≤ length file
-on-within file s at t size e =
-    let f = framed file s at t size e in
+pub on-within : (set : CharacterSet) (file : List ℕ) (s : Standing) (at t size : ℕ) → stepOf set file s at ≡ On t size → at + 4 + size ≤ length file
+on-within set file s at t size e =
+    let f = framed set file s at t size e in
     omega (arith, whole-start file at (f .start) size (f .whole), whole-within file at (f .start) size (f .whole))
 
 pub splice-first : (t r : List ℕ) → splice t 0 r ≡ r ++ drop (length r) t
 splice-first t r = rw zero-add
 
 -- the second pass: the rows so far, and those from here, are the whole table
-pub record Fill (file table₀ : List ℕ) (at : ℕ) (s : Standing) (base : ℕ) (table : List ℕ) : Type 0 where
-  pub place : Place file at s
+pub record Fill (set : CharacterSet) (file table₀ : List ℕ) (at : ℕ) (s : Standing) (base : ℕ) (table : List ℕ) : Type 0 where
+  pub place : Place set file at s
   pub long : length table ≡ length table₀
-  pub room : base + length (rowsFrom (place .fuel) file at (place .past)) ≤ length table
-  pub same : splice table₀ 0 (rowsOf file) ≡ splice table base (rowsFrom (place .fuel) file at (place .past))
+  pub room : base + length (rowsFrom set (place .fuel) file at (place .past)) ≤ length table
+  pub same : splice table₀ 0 (rowsOf file) ≡ splice table base (rowsFrom set (place .fuel) file at (place .past))
 
-pub fill-first : (file table : List ℕ) (s : Standing) → length file ≤ 268_435_456 → length (rowsOf file) ≤ length table → s ≡ cappedFigures (standing file [])
-    → Fill file table 0 s 0 table
+pub fill-first : (set : CharacterSet) (file table : List ℕ) (s : Standing) → set ≡ setOf file → length file ≤ 268_435_456 → length (rowsOf file) ≤ length table
+    → s ≡ cappedFigures (standing set file []) → Fill set file table 0 s 0 table
 unfolding place-first
-fill-first file table s h l e = record { place = place-first file s h e; long = refl; room = omega arith; same = refl }
+fill-first set file table s q h l e =
+    let rows : rowsFrom set (length file) file 0 [] ≡ rowsOf file = rw q in
+    record {
+      place = place-first set file s h e;
+      long = refl;
+      room = omega (arith, ap length rows);
+      same = ap (splice table 0) (sym rows);
+    }
 
-module _ (file table₀ : List ℕ) (at : ℕ) (s : Standing) (base : ℕ) (table : List ℕ) (v : Fill file table₀ at s base table) where
+module _ (set : CharacterSet) (file table₀ : List ℕ) (at : ℕ) (s : Standing) (base : ℕ) (table : List ℕ) (v : Fill set file table₀ at s base table) where
   more : at < length file → 0 < v .place .fuel
   more h = omega (arith, v .place .enough)
 
   pub fill-cut : at < length file → frameAt file at ≡ Cut → table ≡ rowsOf file ++ drop (length (rowsOf file)) table₀
   fill-cut h e =
-      sym (v .same ∙ ap (splice table base) (rows-cut file at (v .place .past) (v .place .fuel) e h) ∙ splice-none table base)
+      sym (v .same ∙ ap (splice table base) (rows-cut set file at (v .place .past) (v .place .fuel) e h) ∙ splice-none table base)
       ∙ splice-first table₀ (rowsOf file)
 
   pub fill-end : length file ≤ at → table ≡ rowsOf file ++ drop (length (rowsOf file)) table₀
   fill-end h =
-      sym (v .same ∙ ap (splice table base) (rows-end file at (v .place .past) (v .place .fuel) h) ∙ splice-none table base)
+      sym (v .same ∙ ap (splice table base) (rows-end set file at (v .place .past) (v .place .fuel) h) ∙ splice-none table base)
       ∙ splice-first table₀ (rowsOf file)
 
-  module _ (h : at < length file) (start size t : ℕ) (e : frameAt file at ≡ Whole start size) (q : typeOf (part start size file) ≡ t) where
+  module _ (h : at < length file) (start size t : ℕ) (e : frameAt file at ≡ Whole start size) (q : typeOf set (part start size file) ≡ t) where
     others : List ℕ
-    others = rowsFrom (v .place .fuel - 1) file (start + size) (entry t at size ∷ v .place .past)
+    others = rowsFrom set (v .place .fuel - 1) file (start + size) (entry t at size ∷ v .place .past)
 
     row : List ℕ
-    row = rowOf file (standing file (entry t at size ∷ v .place .past)) t at size
+    row = rowOf set file (standing set file (entry t at size ∷ v .place .past)) t at size
 
-    rows-here : rowsFrom (v .place .fuel) file at (v .place .past) ≡ row ++ others
+    rows-here : rowsFrom set (v .place .fuel) file at (v .place .past) ≡ row ++ others
     unfolding row others
-    rows-here = rows-on file at (v .place .past) (v .place .fuel) start size t h (more h) e q
+    rows-here = rows-on set file at (v .place .past) (v .place .fuel) start size t h (more h) e q
 
     pub fill-room : base + 7 ≤ length table
     unfolding row others
     fill-room = omega (arith, v .room, ap length rows-here ∙ length-append row others)
 
-    pub fill-on : (r : Standing) (after : List ℕ) → Moves file s t at r → after ≡ sets table base (rowOf file r t at size)
-        → Fill file table₀ (start + size) r (base + 7) after
+    pub fill-on : (r : Standing) (after : List ℕ) → Moves set file s t at r → after ≡ sets table base (rowOf set file r t at size)
+        → Fill set file table₀ (start + size) r (base + 7) after
     unfolding row others place-on
     fill-on r after m w =
         let stands = m (v .place .past) size (v .place .stands) in
         let begins = whole-start file at start size e in
         let fits = whole-within file at start size e in
-        let whole = row-capped (standing file (entry t at size ∷ v .place .past)) file t at size in
+        let whole = row-capped set (standing set file (entry t at size ∷ v .place .past)) file t at size in
         let written : after ≡ sets table base row =
-        w ∙ ap (λ (u : Standing). sets table base (rowOf file u t at size)) stands ∙ ap (sets table base) whole in
-        let long : length (rowsFrom (v .place .fuel) file at (v .place .past)) ≡ 7 + length others = ap length rows-here ∙ length-append row others in
+        w ∙ ap (λ (u : Standing). sets table base (rowOf set file u t at size)) stands ∙ ap (sets table base) whole in
+        let long : length (rowsFrom set (v .place .fuel) file at (v .place .past)) ≡ 7 + length others = ap length rows-here ∙ length-append row others in
         let width = ap length written ∙ length-sets table base row in
-        let there : others ≡ rowsFrom (v .place .fuel - 1) file (at + 4 + size) (entry t at size ∷ v .place .past) =
-        ap (λ (n : ℕ). rowsFrom (v .place .fuel - 1) file (n + size) (entry t at size ∷ v .place .past)) begins in
-        subst (λ (n : ℕ). Fill file table₀ (n + size) r (base + 7) after) (sym begins)
+        let there : others ≡ rowsFrom set (v .place .fuel - 1) file (at + 4 + size) (entry t at size ∷ v .place .past) =
+        ap (λ (n : ℕ). rowsFrom set (v .place .fuel - 1) file (n + size) (entry t at size ∷ v .place .past)) begins in
+        subst (λ (n : ℕ). Fill set file table₀ (n + size) r (base + 7) after) (sym begins)
         (record {
-          place = place-on file at s (v .place) t size r h (omega arith) m;
+          place = place-on set file at s (v .place) t size r h (omega arith) m;
           long = width ∙ v .long;
           room = omega (arith, v .room, ap length there);
           same =

@@ -5,6 +5,7 @@ use mathlib.Core.Bool.{Bool, true, false}
 use mathlib.Core.List.{List}
 use lib.Dec.{leb, eqb}
 use lib.ListN.{length}
+use Rattle.text.specs.declared.character_set.CharacterSet.{CharacterSet}
 use Rattle.judge.specs.declared.Judged.{Judged}
 use Rattle.judge.specs.declared.Judged.the-variants.{Sound, WrongLength, WrongField}
 use Rattle.judge.specs.Alone.{typeOf, judgedAs}
@@ -27,14 +28,14 @@ unlessAlone judgements.UnknownType next = Faulty UnknownType
 unlessAlone (WrongField n) next = Faulty (Field n)
 
 -- LINK by lowest field, then TOTAL by lowest field
-unfoldable pub agreement : List ℕ → Standing → ℕ → ℕ → Turn
-agreement file s at t =
-    unless (eqb (linkFault file s t at) 0) (Faulty (Link (linkFault file s t at)))
-    (unless (eqb (totalFault file s t at) 0) (Faulty (Total (totalFault file s t at))) (Good t))
+unfoldable pub agreement : CharacterSet → List ℕ → Standing → ℕ → ℕ → Turn
+agreement set file s at t =
+    unless (eqb (linkFault set file s t at) 0) (Faulty (Link (linkFault set file s t at)))
+    (unless (eqb (totalFault set file s t at) 0) (Faulty (Total (totalFault set file s t at))) (Good t))
 
-unfoldable pub turnOf : List ℕ → Standing → ℕ → List ℕ → Turn
-turnOf file s at body =
+unfoldable pub turnOf : CharacterSet → List ℕ → Standing → ℕ → List ℕ → Turn
+turnOf set file s at body =
     unless (leb 2 (length body)) (Faulty Length)
-    (unless (isCarried (typeOf body)) (Faulty UnknownType)
-    (unless (mayFollow (s .inside) (s .last) (s .present) (typeOf body)) (Faulty Place)
-    (unlessAlone (judgedAs (typeOf body) body) (agreement file s at (typeOf body)))))
+    (unless (isCarried (typeOf set body)) (Faulty UnknownType)
+    (unless (mayFollow (s .inside) (s .last) (s .present) (typeOf set body)) (Faulty Place)
+    (unlessAlone (judgedAs set (typeOf set body) body) (agreement set file s at (typeOf set body)))))

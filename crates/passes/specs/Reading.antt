@@ -5,6 +5,8 @@ use mathlib.Core.Path.{_≡_}
 use mathlib.Core.List.{List, [], _∷_, _++_}
 use lib.Dec.{leb, eqb}
 use lib.ListN.{length, drop}
+use Rattle.text.specs.CharacterSet.{setOf}
+use Rattle.text.specs.declared.character_set.CharacterSet.{CharacterSet}
 use Rattle.measure.specs.Measures.{cappedSums}
 use Rattle.frame.specs.declared.Frame.{Frame}
 use Rattle.frame.specs.declared.Frame.the-variants.{Whole}
@@ -35,13 +37,13 @@ ofTurn size (Faulty fault) = Stop fault
 ofTurn size (Good t) = On t size
 
 -- CUT, and then the checks of the record that the length frames
-abbrev pub ofFrame : List ℕ → Standing → ℕ → Frame → Step
-ofFrame file s at frames.Cut = Stop Cut
-ofFrame file s at (Whole start size) = ofTurn size (turnOf file s at (part start size file))
+abbrev pub ofFrame : CharacterSet → List ℕ → Standing → ℕ → Frame → Step
+ofFrame set file s at frames.Cut = Stop Cut
+ofFrame set file s at (Whole start size) = ofTurn size (turnOf set file s at (part start size file))
 
 -- where bytes follow: AFTER, "any byte follows the 99", else the record that begins there
-unfoldable pub stepOf : List ℕ → Standing → ℕ → Step
-stepOf file s at = cond (eqb (s .last) 99) (Stop After) (ofFrame file s at (frameAt file at))
+unfoldable pub stepOf : CharacterSet → List ℕ → Standing → ℕ → Step
+stepOf set file s at = cond (eqb (s .last) 99) (Stop After) (ofFrame set file s at (frameAt file at))
 
 -- a fault is the answer; a good record joins those before it, and the reading goes on behind it
 abbrev pub afterStep : ℕ → List Entry → Step → (ℕ → List Entry → Answer) → Answer
@@ -52,20 +54,20 @@ afterStep at past (On t size) goOn = goOn (at + 4 + size) (entry t at size ∷ p
 unfoldable pub endedWith : Standing → ℕ → Answer
 endedWith s at = cond (eqb (s .last) 99) (Accepted (totalsOf s)) (Refused Open (s .records .0 + 1) at)
 
-abbrev pub ended : List ℕ → List Entry → ℕ → Answer
-ended file past at = endedWith (standing file past) at
+abbrev pub ended : CharacterSet → List ℕ → List Entry → ℕ → Answer
+ended set file past at = endedWith (standing set file past) at
 
 -- the answer from an offset on, behind the records of `past`, newest first; n is as many as may still come
-unfoldable pub run : ℕ → List ℕ → ℕ → List Entry → Answer
-run zero file at past = ended file past at
-run (suc n) file at past =
-    cond (leb (length file) at) (ended file past at)
-    (afterStep at past (stepOf file (standing file past) at) (λ next newer. run n file next newer))
+unfoldable pub run : CharacterSet → ℕ → List ℕ → ℕ → List Entry → Answer
+run set zero file at past = ended set file past at
+run set (suc n) file at past =
+    cond (leb (length file) at) (ended set file past at)
+    (afterStep at past (stepOf set file (standing set file past) at) (λ next newer. run set n file next newer))
 
 -- SIZE first
 unfoldable pub surveyed : List ℕ → Answer
 surveyed file =
-    cond (leb 1 (length file) && leb (length file) 268_435_456) (run (length file) file 0 []) (Refused Size 0 0)
+    cond (leb 1 (length file) && leb (length file) 268_435_456) (run (setOf file) (length file) file 0 []) (Refused Size 0 0)
 
 -- an accepted file has a row for each of its records
 abbrev pub Counted : List ℕ → Answer → Type 0

@@ -6,6 +6,7 @@ use measure::Items;
 use measure::Records;
 use measure::Sums;
 use standing::Standing;
+use text::CharacterSet;
 ghost use mathlib.Core.Bool.{cond};
 ghost use mathlib.Core.Path.{_≡_};
 ghost use mathlib.Core.List.{List, [], _∷_, _++_};
@@ -103,15 +104,15 @@ impl Fault {
 }
 
 // The last checks of a record that is sound alone and in its place: LINK, then TOTAL.
-fn agrees(file: &[u8], s: Standing, at: usize, kind: u64) -> Turn
+fn agrees(set: CharacterSet, file: &[u8], s: Standing, at: usize, kind: u64) -> Turn
     requires { ⌜ Roomy s ⌝ }
-    ensures { λ r. ⌜ r ≡ agreement (now (file .entry)) s at kind ⌝ }
+    ensures { λ r. ⌜ r ≡ agreement set (now (file .entry)) s at kind ⌝ }
 {
-    let link = agree::link_fault(file, s, kind, at);
+    let link = agree::link_fault(set, file, s, kind, at);
     if link != 0 {
         return Turn::Faulty(Fault::Link(link));
     }
-    let total = agree::total_fault(file, s, kind, at);
+    let total = agree::total_fault(set, file, s, kind, at);
     if total != 0 {
         return Turn::Faulty(Fault::Total(total));
     }
@@ -120,6 +121,7 @@ fn agrees(file: &[u8], s: Standing, at: usize, kind: u64) -> Turn
 
 // The checks of one record in its place, in document 01's order.
 fn judge_next<'a>(
+    set: CharacterSet,
     layouts: &'a [u64],
     file: &'a [u8],
     s: Standing,
@@ -127,29 +129,35 @@ fn judge_next<'a>(
     body: &'a [u8],
 ) -> Turn
     requires { ⌜ Packed (now layouts) × Roomy s ⌝ }
-    ensures { λ r. ⌜ r ≡ turnOf (now (file .entry)) s at (now (body .entry)) ⌝ }
+    ensures { λ r. ⌜ r ≡ turnOf set (now (file .entry)) s at (now (body .entry)) ⌝ }
 {
     if body.len() < 2 {
         return Turn::Faulty(Fault::Length);
     }
-    let kind = judge::type_of(body);
+    let kind = judge::type_of(set, body);
     if !order::is_carried(kind) {
         return Turn::Faulty(Fault::UnknownType);
     }
     if !order::may_follow(s.inside, s.last, s.present, kind) {
         return Turn::Faulty(Fault::Place);
     }
-    match judge::judge_as(layouts, kind, body) {
-        Judged::Sound => agrees(file, s, at, kind),
+    match judge::judge_as(set, layouts, kind, body) {
+        Judged::Sound => agrees(set, file, s, at, kind),
         Judged::WrongLength => Turn::Faulty(Fault::Length),
         Judged::UnknownType => Turn::Faulty(Fault::UnknownType),
         Judged::WrongField(n) => Turn::Faulty(Fault::Field(n)),
     }
 }
 
-fn record_at<'a>(layouts: &'a [u64], file: &'a [u8], s: Standing, at: usize) -> Step
+fn record_at<'a>(
+    set: CharacterSet,
+    layouts: &'a [u64],
+    file: &'a [u8],
+    s: Standing,
+    at: usize,
+) -> Step
     requires { ⌜ Packed (now layouts) × Roomy s ⌝ }
-    ensures { λ r. ⌜ r ≡ stepOf (now (file .entry)) s at ⌝ }
+    ensures { λ r. ⌜ r ≡ stepOf set (now (file .entry)) s at ⌝ }
 {
     if s.last == 99 {
         return Step::Stop(Fault::After);
@@ -157,6 +165,7 @@ fn record_at<'a>(layouts: &'a [u64], file: &'a [u8], s: Standing, at: usize) -> 
     match Cursor::at(at).frame(file) {
         Frame::Cut => Step::Stop(Fault::Cut),
         Frame::Whole(start, size) => match judge_next(
+            set,
             layouts,
             file,
             s,
@@ -200,15 +209,16 @@ fn survey_by<'a>(layouts: &'a [u64], file: &'a [u8]) -> Answer
     if 268_435_456 < file.len() {
         return Answer::Refused(Fault::Size, 0, 0);
     }
+    let set = text::set_of(file);
     let mut s = Standing::start();
     let mut at: usize = 0;
     while at < file.len() {
-        match record_at(layouts, file, s, at) {
+        match record_at(set, layouts, file, s, at) {
             Step::Stop(fault) => {
                 return Answer::Refused(fault, s.records.0 + 1, at);
             }
             Step::On(kind, size) => {
-                s = standing::moved(file, s, kind, at);
+                s = standing::moved(set, file, s, kind, at);
                 at = at + 4 + size;
             }
         }
@@ -238,20 +248,21 @@ fn debit_of_bundle(file: &[u8], s: Standing, offset: usize) -> u64
 }
 
 // An item's amount, and for a control record the debit cents as added up.
-fn amount_in(file: &[u8], s: Standing, kind: u64, offset: usize) -> u64
+fn amount_in(set: CharacterSet, file: &[u8], s: Standing, kind: u64, offset: usize) -> u64
     requires { ⌜ cappedFigures s ≡ s ⌝ }
-    ensures { λ r. ⌜ r ≡ amountIn (now (file .entry)) s kind offset ⌝ }
+    ensures { λ r. ⌜ r ≡ amountIn set (now (file .entry)) s kind offset ⌝ }
 {
     match kind {
         70 => debit_of_bundle(file, s, offset),
         90 => s.letter.debit.0,
         99 => s.whole.debit.0,
-        _ => standing::amount_at(file, kind, offset),
+        _ => standing::amount_at(set, file, kind, offset),
     }
 }
 
 // A record's row, from `base` on; `s` stands after the record.
 fn put_row(
+    set: CharacterSet,
     table: &mut [u64],
     base: usize,
     file: &[u8],
@@ -261,11 +272,11 @@ fn put_row(
     size: usize,
 )
     requires { ⌜ (base + 7 ≤ length (now table)) × (cappedFigures s ≡ s) ⌝ }
-    ensures { λ _. ⌜ now (table .exit) ≡ sets (now (table .entry)) base (rowOf (now (file .entry)) s kind offset size) ⌝ }
+    ensures { λ _. ⌜ now (table .exit) ≡ sets (now (table .entry)) base (rowOf set (now (file .entry)) s kind offset size) ⌝ }
 {
     let outside_letter = (kind == 1) | (kind == 99);
     let in_bundle = s.inside | (kind == 70);
-    let amount = amount_in(file, s, kind, offset);
+    let amount = amount_in(set, file, s, kind, offset);
     table[base] = kind;
     table[base + 1] = offset as u64;
     table[base + 2] = size as u64;
@@ -280,6 +291,7 @@ pub fn fill(file: &[u8], table: &mut [u64])
     requires { ⌜ (length (now file) ≤ 268_435_456) × (length (rowsOf (now file)) ≤ length (now table)) ⌝ }
     ensures { λ _. ⌜ now (table .exit) ≡ rowsOf (now (file .entry)) ++ drop (length (rowsOf (now (file .entry)))) (now (table .entry)) ⌝ }
 {
+    let set = text::set_of(file);
     let mut s = Standing::start();
     let mut at: usize = 0;
     let mut base: usize = 0;
@@ -289,9 +301,9 @@ pub fn fill(file: &[u8], table: &mut [u64])
                 return;
             }
             Frame::Whole(start, size) => {
-                let kind = judge::type_of(frame::part_of(file, start, size));
-                s = standing::moved(file, s, kind, at);
-                put_row(table, base, file, s, kind, at, size);
+                let kind = judge::type_of(set, frame::part_of(file, start, size));
+                s = standing::moved(set, file, s, kind, at);
+                put_row(set, table, base, file, s, kind, at, size);
                 base += 7;
                 at = start + size;
             }

@@ -4,6 +4,8 @@ use mathlib.Core.Bool.{Bool, true, false, _&&_}
 use mathlib.Core.List.{List, []}
 use lib.Dec.{leb, eqb}
 use lib.ListN.{length}
+use Rattle.text.specs.CharacterSet.{setOf}
+use Rattle.text.specs.declared.character_set.CharacterSet.{CharacterSet}
 use Rattle.frame.specs.declared.Frame.{Frame}
 use Rattle.frame.specs.declared.Frame.the-variants.{Cut, Whole}
 use Rattle.frame.specs.Frames.{part, frameAt}
@@ -71,16 +73,16 @@ whenSound UnknownType picture = TypeRefused
 whenSound (WrongField n) picture = FieldRefused n
 
 -- a body that starts at a place of the file: LENGTH below 2, TYPE "any type but 52", then LENGTH, FIELD, LENGTH, FIELD
-unfoldable pub inBody : ℕ → List ℕ → Found
-inBody start body =
+unfoldable pub inBody : CharacterSet → ℕ → List ℕ → Found
+inBody set start body =
     unless (leb 2 (length body)) LengthRefused
-    (unless (eqb (typeOf body) 52) TypeRefused
-    (whenSound (alone imageViewData body) (At (start + imageStart body) (imageSize body))))
+    (unless (eqb (typeOf set body) 52) TypeRefused
+    (whenSound (alone set imageViewData body) (At (start + imageStart set body) (imageSize set body))))
 
-abbrev pub inFrame : List ℕ → Frame → Found
-inFrame file Cut = CutRefused
-inFrame file (Whole start size) = inBody start (part start size file)
+abbrev pub inFrame : CharacterSet → List ℕ → Frame → Found
+inFrame set file Cut = CutRefused
+inFrame set file (Whole start size) = inBody set start (part start size file)
 
 -- SIZE, CUT, and the record's own faults
 unfoldable pub pictureAt : List ℕ → ℕ → Found
-pictureAt file offset = unless (sizeAllowed file) SizeRefused (inFrame file (frameAt file offset))
+pictureAt file offset = unless (sizeAllowed file) SizeRefused (inFrame (setOf file) file (frameAt file offset))

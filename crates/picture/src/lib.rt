@@ -3,9 +3,11 @@ use frame::Cursor;
 use frame::Frame;
 use judge::Judged;
 use layout::ImageViewData;
+use text::CharacterSet;
 ghost use mathlib.Core.Path.{_≡_};
 ghost use Prim.Native.Nat.{_+_, _≤_};
 ghost use lib.ListN.{length};
+ghost use Rattle.ascii_copy.specs.AsciiCopy.{asciiCopy, Begins};
 ghost use Rattle.picture.specs.Picture.{numberOf, fieldOf, startOf, sizeOf, bytesOf, inBody, pictureAt};
 
 // What the picture call finds at an offset of a file.
@@ -79,26 +81,29 @@ impl Found {
 }
 
 // The picture of a record whose body starts at a place of the file.
-fn in_body(start: usize, body: &[u8]) -> Found
+fn in_body(set: CharacterSet, start: usize, body: &[u8]) -> Found
     requires { ⌜ start + length (now body) ≤ 268_435_456 ⌝ }
-    ensures { λ r. ⌜ r ≡ inBody start (now (body .entry)) ⌝ }
+    ensures { λ r. ⌜ r ≡ inBody set start (now (body .entry)) ⌝ }
 {
     if body.len() < 2 {
         return Found::LengthRefused;
     }
-    if judge::type_of(body) != ImageViewData::TYPE {
+    if judge::type_of(set, body) != ImageViewData::TYPE {
         return Found::TypeRefused;
     }
-    match judge::judge_image(body) {
-        Judged::Sound => Found::At(start + judge::image_start(body), judge::image_size(body)),
+    match judge::judge_image(set, body) {
+        Judged::Sound => Found::At(
+            start + judge::image_start(set, body),
+            judge::image_size(set, body),
+        ),
         Judged::WrongLength => Found::LengthRefused,
         Judged::UnknownType => Found::TypeRefused,
         Judged::WrongField(n) => Found::FieldRefused(n),
     }
 }
 
-// The companion call: what the picture call finds. Any file and any offset get their answer.
-pub fn find_picture(file: &[u8], offset: usize) -> Found
+// What stands at an offset. Any file and any offset get their answer.
+fn found_at(file: &[u8], offset: usize) -> Found
     ensures { λ r. ⌜ r ≡ pictureAt (now (file .entry)) offset ⌝ }
 {
     if file.len() < 1 {
@@ -107,16 +112,28 @@ pub fn find_picture(file: &[u8], offset: usize) -> Found
     if 268_435_456 < file.len() {
         return Found::SizeRefused;
     }
+    let set = text::set_of(file);
     match Cursor::at(offset).frame(file) {
         Frame::Cut => Found::CutRefused,
-        Frame::Whole(start, size) => in_body(start, frame::part_of(file, start, size)),
+        Frame::Whole(start, size) => in_body(set, start, frame::part_of(file, start, size)),
     }
 }
 
-// The picture call: the Image Data part of the 52 whose length field stands at an offset, or an empty part.
-pub fn picture(file: &[u8], offset: usize) -> &[u8]
-    ensures { λ r. ⌜ now r ≡ bytesOf (now (file .entry)) (pictureAt (now (file .entry)) offset) ⌝ }
+// The companion call: what the picture call finds. At every offset where a record begins as the lengths frame the file, it is what is found in
+// the file's ASCII copy (request 5).
+pub fn find_picture(file: &[u8], offset: usize) -> Found
+    ensures found { λ r. ⌜ r ≡ pictureAt (now (file .entry)) offset ⌝ }
+    ensures copy { λ r. ⌜ (Begins (now (file .entry)) offset → r ≡ pictureAt (asciiCopy (now (file .entry))) offset) ⌝ }
 {
-    let found = find_picture(file, offset);
+    found_at(file, offset)
+}
+
+// The picture call: the Image Data part of the 52 whose length field stands at an offset, or an empty part. Image Data is Binary and never
+// translated: where a record begins, the part is that of the file's ASCII copy (request 5).
+pub fn picture(file: &[u8], offset: usize) -> &[u8]
+    ensures bytes { λ r. ⌜ now r ≡ bytesOf (now (file .entry)) (pictureAt (now (file .entry)) offset) ⌝ }
+    ensures copy { λ r. ⌜ (Begins (now (file .entry)) offset → now r ≡ bytesOf (asciiCopy (now (file .entry))) (pictureAt (asciiCopy (now (file .entry))) offset)) ⌝ }
+{
+    let found = found_at(file, offset);
     frame::part_of(file, found.start(), found.size())
 }

@@ -2,6 +2,7 @@
 use libc::STDIN_FILENO;
 use libc::STDOUT_FILENO;
 use picture::Found;
+use text::CharacterSet;
 
 fn say(word: &[u8], n: usize) {
     io::write_all(STDOUT_FILENO, word);
@@ -31,6 +32,6 @@ fn main() {
     }
     let mut word = [0u8; 32];
     let digits = os::arg(1, &mut word);
-    let offset = text::number_in(&word[..digits]);
+    let offset = text::number_in(CharacterSet::Ascii, &word[..digits]);
     say_found(picture::find_picture(&file[..got], offset as usize));
 }

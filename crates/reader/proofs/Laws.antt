@@ -14,14 +14,20 @@ use Rattle.passes.specs.Reading.{surveyed, answerOf, tableOf}
 use Rattle.file_as_records.proofs.LengthFields.{Bytes}
 use Rattle.arrangement.specs.Arranged.{Arranged}
 use Rattle.arrangement.proofs.Theorem.{arranged}
+use Rattle.read_as_copy.specs.AsItsCopy.{AsItsCopy}
+use Rattle.read_as_copy.proofs.Theorem.{answer-of-copy, table-of-copy}
 
 abbrev pub Meets : List ℕ → List ℕ → Answer → List ℕ → Type 0
 Meets file table answer after =
-    (answer ≡ answerOf file (length table)) × ((after ≡ tableOf file table) × Arranged file table answer after)
+    (answer ≡ answerOf file (length table))
+    × ((after ≡ tableOf file table) × (Arranged file table answer after × AsItsCopy file table answer after))
 
 module _ (file table : List ℕ) (bytes : Bytes file) where
   meets : (answer : Answer) (after : List ℕ) → answer ≡ answerOf file (length table) → after ≡ tableOf file table → Meets file table answer after
-  meets answer after e t = (e, (t, arranged file table answer after bytes e t))
+  meets answer after e t = (e, (t, (arranged file table answer after bytes e t, copied)))
+    where
+      copied : AsItsCopy file table answer after
+      copied = record { same-answer = e ∙ sym (answer-of-copy file (length table)); same-rows = t ∙ sym (table-of-copy file table) }
 
   pub no-room : (t : Totals) → surveyed file ≡ Accepted t → length table / 7 < t .records .0 → Meets file table (Refused Room (t .records .0) 0) table
   unfolding answerOf tableOf

@@ -5,12 +5,14 @@ ghost use mathlib.Core.Path.{_≡_};
 ghost use lib.ListN.{length};
 ghost use Rattle.passes.specs.Reading.{answerOf, tableOf};
 ghost use Rattle.arrangement.specs.Arranged.{Arranged};
+ghost use Rattle.read_as_copy.specs.AsItsCopy.{AsItsCopy};
 
 // The answer to a file, and in the lent table the rows of an accepted one.
 pub fn read(file: &[u8], table: &mut [u64]) -> Answer
     ensures answer { λ r. ⌜ r ≡ answerOf (now (file .entry)) (length (now (table .entry))) ⌝ }
     ensures rows { λ _. ⌜ now (table .exit) ≡ tableOf (now (file .entry)) (now (table .entry)) ⌝ }
     ensures arranged { λ r. ⌜ Arranged (now (file .entry)) (now (table .entry)) r (now (table .exit)) ⌝ }
+    ensures copy { λ r. ⌜ AsItsCopy (now (file .entry)) (now (table .entry)) r (now (table .exit)) ⌝ }
 {
     let answer = passes::survey(file);
     match answer {

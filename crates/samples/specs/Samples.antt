@@ -5,6 +5,8 @@ use mathlib.Core.List.{List, [], _∷_, _++_, map}
 use mathlib.Core.Path.{_≡_, refl}
 use lib.Dec.{eqb}
 use lib.ListN.{length, replicate}
+use Rattle.text.specs.declared.character_set.CharacterSet.the-variants.{Ascii}
+use Rattle.text.specs.Capitals.{capital}
 use Rattle.text.specs.DataTypes.{ofType}
 use Rattle.text.specs.Number.{number}
 use Rattle.field.specs.Values.{isCode}
@@ -32,7 +34,7 @@ dash = 0x2D ∷ []
 
 -- a record alone is sound as it stands, and has a wrong LENGTH with a byte more
 abbrev pub endsThere : Layout → List ℕ → Bool
-endsThere k body = eqb (numberOf (alone k body)) 0 && eqb (numberOf (alone k (body ++ 0x20 ∷ []))) 4
+endsThere k body = eqb (numberOf (alone Ascii k body)) 0 && eqb (numberOf (alone Ascii k (body ++ 0x20 ∷ []))) 4
 
 -- the fixed part of a 52 with 1,000 image bytes and no other part: type, routing number, date, blank fields 4 to 8, clipping origin
 -- and coordinates, ancillary data indicator, and the seven lengths
@@ -71,11 +73,11 @@ P n test = record { name = n; holds = test }
 abbrev pub samples : List Sample
 samples =
     -- "routing 123456780 passes"; "123456781 not"
-    P 1 (isTTTTAAAAC (digits (1 ∷ 2 ∷ 3 ∷ 4 ∷ 5 ∷ 6 ∷ 7 ∷ 8 ∷ 0 ∷ []))) ∷
-    P 2 (not (isTTTTAAAAC (digits (1 ∷ 2 ∷ 3 ∷ 4 ∷ 5 ∷ 6 ∷ 7 ∷ 8 ∷ 1 ∷ [])))) ∷
+    P 1 (isTTTTAAAAC Ascii (digits (1 ∷ 2 ∷ 3 ∷ 4 ∷ 5 ∷ 6 ∷ 7 ∷ 8 ∷ 0 ∷ []))) ∷
+    P 2 (not (isTTTTAAAAC Ascii (digits (1 ∷ 2 ∷ 3 ∷ 4 ∷ 5 ∷ 6 ∷ 7 ∷ 8 ∷ 1 ∷ [])))) ∷
     -- "date 20050230 passes"; "19921231 not"
-    P 3 (isDate (digits (2 ∷ 0 ∷ 0 ∷ 5 ∷ 0 ∷ 2 ∷ 3 ∷ 0 ∷ []))) ∷
-    P 4 (not (isDate (digits (1 ∷ 9 ∷ 9 ∷ 2 ∷ 1 ∷ 2 ∷ 3 ∷ 1 ∷ [])))) ∷
+    P 3 (isDate Ascii (digits (2 ∷ 0 ∷ 0 ∷ 5 ∷ 0 ∷ 2 ∷ 3 ∷ 0 ∷ []))) ∷
+    P 4 (not (isDate Ascii (digits (1 ∷ 9 ∷ 9 ∷ 2 ∷ 1 ∷ 2 ∷ 3 ∷ 1 ∷ [])))) ∷
     -- "bytes 00 00 7D 00 are 32,000"
     P 5 (eqb (lengthIn (0x00 ∷ 0x00 ∷ 0x7D ∷ 0x00 ∷ [])) 32_000) ∷
     -- "a 52 with 1,000 image bytes and no other part is 1,139 long"
@@ -89,17 +91,17 @@ samples =
     P 11 (eqb (misplaced (1 ∷ 10 ∷ 90 ∷ 99 ∷ [])) 0) ∷
     -- request 1, a form that passes and one that does not: 12345-678 and 1234-5678 as TTTTT-FFF; the same as TTTT-AAAA; a blank before and behind
     -- eight digits as bTTTTAAAA; 1234 and blanks, and 12, a blank, 34 and blanks as NNNNNNNNN
-    P 12 (isTTTTT-FFF (digits (1 ∷ 2 ∷ 3 ∷ 4 ∷ 5 ∷ []) ++ dash ++ digits (6 ∷ 7 ∷ 8 ∷ []))) ∷
-    P 13 (not (isTTTTT-FFF (digits (1 ∷ 2 ∷ 3 ∷ 4 ∷ []) ++ dash ++ digits (5 ∷ 6 ∷ 7 ∷ 8 ∷ [])))) ∷
-    P 14 (isTTTT-AAAA (digits (1 ∷ 2 ∷ 3 ∷ 4 ∷ []) ++ dash ++ digits (5 ∷ 6 ∷ 7 ∷ 8 ∷ []))) ∷
-    P 15 (not (isTTTT-AAAA (digits (1 ∷ 2 ∷ 3 ∷ 4 ∷ 5 ∷ []) ++ dash ++ digits (6 ∷ 7 ∷ 8 ∷ [])))) ∷
-    P 16 (isbTTTTAAAA (blanks 1 ++ digits (1 ∷ 2 ∷ 3 ∷ 4 ∷ 5 ∷ 6 ∷ 7 ∷ 8 ∷ []))) ∷
-    P 17 (not (isbTTTTAAAA (digits (1 ∷ 2 ∷ 3 ∷ 4 ∷ 5 ∷ 6 ∷ 7 ∷ 8 ∷ []) ++ blanks 1))) ∷
-    P 18 (isNNNNNNNNN (digits (1 ∷ 2 ∷ 3 ∷ 4 ∷ []) ++ blanks 5)) ∷
-    P 19 (not (isNNNNNNNNN (digits (1 ∷ 2 ∷ []) ++ blanks 1 ++ digits (3 ∷ 4 ∷ []) ++ blanks 4))) ∷
+    P 12 (isTTTTT-FFF Ascii (digits (1 ∷ 2 ∷ 3 ∷ 4 ∷ 5 ∷ []) ++ dash ++ digits (6 ∷ 7 ∷ 8 ∷ []))) ∷
+    P 13 (not (isTTTTT-FFF Ascii (digits (1 ∷ 2 ∷ 3 ∷ 4 ∷ []) ++ dash ++ digits (5 ∷ 6 ∷ 7 ∷ 8 ∷ [])))) ∷
+    P 14 (isTTTT-AAAA Ascii (digits (1 ∷ 2 ∷ 3 ∷ 4 ∷ []) ++ dash ++ digits (5 ∷ 6 ∷ 7 ∷ 8 ∷ []))) ∷
+    P 15 (not (isTTTT-AAAA Ascii (digits (1 ∷ 2 ∷ 3 ∷ 4 ∷ 5 ∷ []) ++ dash ++ digits (6 ∷ 7 ∷ 8 ∷ [])))) ∷
+    P 16 (isbTTTTAAAA Ascii (blanks 1 ++ digits (1 ∷ 2 ∷ 3 ∷ 4 ∷ 5 ∷ 6 ∷ 7 ∷ 8 ∷ []))) ∷
+    P 17 (not (isbTTTTAAAA Ascii (digits (1 ∷ 2 ∷ 3 ∷ 4 ∷ 5 ∷ 6 ∷ 7 ∷ 8 ∷ []) ++ blanks 1))) ∷
+    P 18 (isNNNNNNNNN Ascii (digits (1 ∷ 2 ∷ 3 ∷ 4 ∷ []) ++ blanks 5)) ∷
+    P 19 (not (isNNNNNNNNN Ascii (digits (1 ∷ 2 ∷ []) ++ blanks 1 ++ digits (3 ∷ 4 ∷ []) ++ blanks 4))) ∷
     -- nine digits with a wrong check digit: 01.4, which lists the non-financial number, and 20.10, which does not
-    P 20 (fitsSome (listing (TTTTAAAAC ∷ TTTTT-FFF ∷ NNNNNNNNN ∷ [])) (digits (1 ∷ 2 ∷ 3 ∷ 4 ∷ 5 ∷ 6 ∷ 7 ∷ 8 ∷ 1 ∷ []))) ∷
-    P 21 (not (fitsSome (listing (TTTTAAAAC ∷ TTTTT-FFF ∷ [])) (digits (1 ∷ 2 ∷ 3 ∷ 4 ∷ 5 ∷ 6 ∷ 7 ∷ 8 ∷ 1 ∷ [])))) ∷
+    P 20 (fitsSome Ascii (listing (TTTTAAAAC ∷ TTTTT-FFF ∷ NNNNNNNNN ∷ [])) (digits (1 ∷ 2 ∷ 3 ∷ 4 ∷ 5 ∷ 6 ∷ 7 ∷ 8 ∷ 1 ∷ []))) ∷
+    P 21 (not (fitsSome Ascii (listing (TTTTAAAAC ∷ TTTTT-FFF ∷ [])) (digits (1 ∷ 2 ∷ 3 ∷ 4 ∷ 5 ∷ 6 ∷ 7 ∷ 8 ∷ 1 ∷ [])))) ∷
     -- request 2: a 61 directly in a cash letter, before, between and behind its bundles, one of 61s alone; before the first cash letter, PLACE
     -- at 2, and between two, at 4; 61s leave a bundle's kind to its first 25 or 31, PLACE at 7
     P 22 (eqb (misplaced (1 ∷ 10 ∷ 61 ∷ 50 ∷ 52 ∷ 20 ∷ 61 ∷ 61 ∷ 70 ∷ 61 ∷ 20 ∷ 25 ∷ 61 ∷ 50 ∷ 52 ∷ 70 ∷ 61 ∷ 90 ∷ 99 ∷ [])) 0) ∷
@@ -108,10 +110,10 @@ samples =
     P 25 (eqb (misplaced (1 ∷ 10 ∷ 20 ∷ 61 ∷ 25 ∷ 61 ∷ 31 ∷ [])) 7) ∷
     -- a 61 is 84 bytes long; its field 11 takes 11 and 21, and not 12 and 20
     P 26 (eqb (length (credit (blanks 2))) 84 && endsThere creditRecord (credit (blanks 2))) ∷
-    P 27 (eqb (numberOf (alone creditRecord (credit (digits (1 ∷ 1 ∷ []))))) 0) ∷
-    P 28 (eqb (fieldOf (alone creditRecord (credit (digits (1 ∷ 2 ∷ []))))) 11) ∷
-    P 29 (eqb (fieldOf (alone creditRecord (credit (digits (2 ∷ 0 ∷ []))))) 11) ∷
-    P 30 (eqb (numberOf (alone creditRecord (credit (digits (2 ∷ 1 ∷ []))))) 0) ∷
+    P 27 (eqb (numberOf (alone Ascii creditRecord (credit (digits (1 ∷ 1 ∷ []))))) 0) ∷
+    P 28 (eqb (fieldOf (alone Ascii creditRecord (credit (digits (1 ∷ 2 ∷ []))))) 11) ∷
+    P 29 (eqb (fieldOf (alone Ascii creditRecord (credit (digits (2 ∷ 0 ∷ []))))) 11) ∷
+    P 30 (eqb (numberOf (alone Ascii creditRecord (credit (digits (2 ∷ 1 ∷ []))))) 0) ∷
     []
 
 abbrev pub allHold : List Sample → Bool
@@ -120,5 +122,5 @@ allHold (s ∷ ss) = s .holds && allHold ss
 
 -- every sample of the table is as the documents say
 pub samples-hold : allHold samples ≡ true
-unfolding ofType number isCode isDate isTTTTAAAAC partedBy isNNNNNNNNN fitsSome isHoursMinutes isHoursMinutesSeconds follows meets holds judged lineHolds firstWrong firstWrongPart statedSizes follows-last mayFollow
+unfolding ofType number isCode isDate isTTTTAAAAC partedBy isNNNNNNNNN fitsSome isHoursMinutes isHoursMinutesSeconds follows meets holds judged lineHolds firstWrong firstWrongPart statedSizes follows-last mayFollow capital
 samples-hold = refl

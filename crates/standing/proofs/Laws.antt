@@ -4,6 +4,7 @@ use mathlib.Core.List.{List, [], _∷_}
 use mathlib.Core.Bool.{Bool, true, false, _&&_, not, cond}
 use lib.Dec.{eqb}
 use borrow.Author.Tests.{eqb-true}
+use Rattle.text.specs.declared.character_set.CharacterSet.{CharacterSet}
 use Rattle.layout.specs.Layouts.{checkDetail}
 use Rattle.measure.specs.Measures.{noSums, together, cappedSums, Small}
 use Rattle.measure.proofs.Capped.{capped-small, capped-sums-since}
@@ -22,9 +23,9 @@ use Rattle.standing.specs.History.{Entry, characters, field, isDebit, is
 use Rattle.standing.specs.Standing.{standing, cappedFigures, Roomy}
 
 -- the number of a few characters
-pub few-digits : (file : List ℕ) (offset first size k : ℕ) → size ≤ k → number (characters file offset first size) < 10 ^ k
-few-digits file offset first size k h =
-    number-below (characters file offset first size) k (omega (arith, length-take size (drop (offset + 4 + (first - 1)) file)))
+pub few-digits : (set : CharacterSet) (file : List ℕ) (offset first size k : ℕ) → size ≤ k → number set (characters file offset first size) < 10 ^ k
+few-digits set file offset first size k h =
+    number-below set (characters file offset first size) k (omega (arith, length-take size (drop (offset + 4 + (first - 1)) file)))
 
 -- what one record adds leaves room for more
 pub one-roomy : {n : ℕ} → n ≤ 1 → n < 0x4000_0000_0000_0000
@@ -35,10 +36,10 @@ amount-roomy true h = omega arith
 amount-roomy false h = omega arith
 
 -- a 61 is a credit where it is no debit
-pub credit-else : (file : List ℕ) (t offset : ℕ) → eqb t 61 && not (isDebit file t offset) ≡ isCredit file t offset
-credit-else file t offset = by (eqb t 61) refl
+pub credit-else : (set : CharacterSet) (file : List ℕ) (t offset : ℕ) → eqb t 61 && not (isDebit set file t offset) ≡ isCredit set file t offset
+credit-else set file t offset = by (eqb t 61) refl
   where
-    by : (b : Bool) → eqb t 61 ≡ b → eqb t 61 && not (isDebit file t offset) ≡ isCredit file t offset
+    by : (b : Bool) → eqb t 61 ≡ b → eqb t 61 && not (isDebit set file t offset) ≡ isCredit set file t offset
     by true e = rw (eqb-true t 61 e)
     by false e = rw e
 
@@ -61,9 +62,9 @@ pub assembled : {last last′ : ℕ} {inside inside′ : Bool} {present present�
     (record { last = last′; inside = inside′; present = present′; holder = holder′; records = records′; letters = letters′; bundles = bundles′; opened = opened′; items = items′; ordinal = ordinal′; whole = whole′; letter = letter′; bundle = bundle′; micr = micr′; addenda = addenda′; bofd = bofd′; endorser = endorser′; shown = shown′; stated = stated′; item = item′; header = header′; heading = heading′; indicator = indicator′; signature = signature′ })
 assembled e0 e1 e2 e3 e4 e5 e6 e7 e8 e9 e10 e11 e12 e13 e14 e15 e16 e17 e18 e19 e20 e21 e22 e23 = rw (e0, e1, e2, e3, e4, e5, e6, e7, e8, e9, e10, e11, e12, e13, e14, e15, e16, e17, e18, e19, e20, e21, e22, e23)
 
-pub standing-records : (file : List ℕ) (past : List Entry) → standing file past .records .0 ≡ length past
+pub standing-records : (set : CharacterSet) (file : List ℕ) (past : List Entry) → standing set file past .records .0 ≡ length past
 unfolding standing
-standing-records file past = refl
+standing-records set file past = refl
 
 -- sums over few records are small
 picked : (t : Bool) {x m : ℕ} → x ≤ m → cond t 0 x ≤ m
@@ -84,8 +85,8 @@ micr-pick true true y h = omega arith
 micr-pick true false y h = omega arith
 micr-pick false valid y h = omega arith
 
-micr-small : (file : List ℕ) (t offset : ℕ) → micrOf file t offset ≤ 10 ^ 10
-micr-small file t offset = micr-pick (eqb t 25) (eqb (number (field checkDetail 10 file offset)) 1) _ (few-digits file offset 48 10 10 (omega arith))
+micr-small : (set : CharacterSet) (file : List ℕ) (t offset : ℕ) → micrOf set file t offset ≤ 10 ^ 10
+micr-small set file t offset = micr-pick (eqb t 25) (eqb (number set (field checkDetail 10 file offset)) 1) _ (few-digits set file offset 48 10 10 (omega arith))
 
 -- sums whose counts are those of so many records; their cents stop by themselves
 pub record Below (s : Sums) (n : ℕ) : Type 0 where
@@ -97,14 +98,14 @@ below-pick : (t : Bool) (s : Sums) (n : ℕ) → Below s n → Below (cond t noS
 below-pick true s n h = record { debits = omega arith; credits = omega arith; views = omega arith }
 below-pick false s n h = h
 
-sums-below : (begins : Entry → Bool) (file : List ℕ) (past : List Entry) → Below (sumsSince begins file past) (length past)
-sums-below begins file [] = record { debits = omega arith; credits = omega arith; views = omega arith }
-sums-below begins file (r ∷ rs) =
-    let older = sums-below begins file rs in
-    below-pick (begins r) (together (adds file (r .type) (r .offset)) (sumsSince begins file rs)) (length (r ∷ rs))
+sums-below : (set : CharacterSet) (begins : Entry → Bool) (file : List ℕ) (past : List Entry) → Below (sumsSince set begins file past) (length past)
+sums-below set begins file [] = record { debits = omega arith; credits = omega arith; views = omega arith }
+sums-below set begins file (r ∷ rs) =
+    let older = sums-below set begins file rs in
+    below-pick (begins r) (together (adds set file (r .type) (r .offset)) (sumsSince set begins file rs)) (length (r ∷ rs))
     (record {
-      debits = omega (arith, older .debits, one-small (isDebit file (r .type) (r .offset)));
-      credits = omega (arith, older .credits, one-small (isCredit file (r .type) (r .offset)));
+      debits = omega (arith, older .debits, one-small (isDebit set file (r .type) (r .offset)));
+      credits = omega (arith, older .credits, one-small (isCredit set file (r .type) (r .offset)));
       views = omega (arith, older .views, one-small (eqb (r .type) 50));
     })
 
@@ -119,9 +120,9 @@ small s n h b =
     }
 
 -- the figures of as many records as a file can have leave room for one more
-pub roomy : (file : List ℕ) (past : List Entry) → length past ≤ 268_435_456 → Roomy (cappedFigures (standing file past))
+pub roomy : (set : CharacterSet) (file : List ℕ) (past : List Entry) → length past ≤ 268_435_456 → Roomy (cappedFigures (standing set file past))
 unfolding standing
-roomy file past h =
+roomy set file past h =
     let count : (begins : Entry → Bool) (sort : ℕ → Bool) → countSince begins sort past ≤ length past * 1 =
     λ begins sort. sum-small begins (λ r. one (sort (r .type))) 1 (λ r. one-small (sort (r .type))) past in
     record {
@@ -131,10 +132,10 @@ roomy file past h =
       opened = omega (arith, count (is 10) (λ t. eqb t 20));
       items = omega (arith, count never isItem);
       ordinal = omega (arith, count (is 20) isItem);
-      whole = small (sumsSince never file past) (length past) h (sums-below never file past);
-      letter = small (sumsSince (is 10) file past) (length past) h (sums-below (is 10) file past);
-      bundle = small (sumsSince (is 20) file past) (length past) h (sums-below (is 20) file past);
-      micr = omega (arith, sum-small (is 20) (λ r. micrOf file (r .type) (r .offset)) (10 ^ 10) (λ r. micr-small file (r .type) (r .offset)) past);
+      whole = small (sumsSince set never file past) (length past) h (sums-below set never file past);
+      letter = small (sumsSince set (is 10) file past) (length past) h (sums-below set (is 10) file past);
+      bundle = small (sumsSince set (is 20) file past) (length past) h (sums-below set (is 20) file past);
+      micr = omega (arith, sum-small (is 20) (λ r. micrOf set file (r .type) (r .offset)) (10 ^ 10) (λ r. micr-small set file (r .type) (r .offset)) past);
       addenda = omega (arith, count isItemEntry isAddendum);
       bofd = omega (arith, count isItemEntry isBofdAddendum);
       endorser = omega (arith, count isItemEntry isEndorserAddendum);

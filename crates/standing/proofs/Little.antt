@@ -6,6 +6,7 @@ use mathlib.Core.Bool.{Bool, true, false, _||_}
 use mathlib.Core.Path.{_≡_, refl}
 use mathlib.Core.List.{List, [], _∷_}
 use lib.Dec.{eqb}
+use Rattle.text.specs.declared.character_set.CharacterSet.{CharacterSet}
 use Rattle.measure.specs.Measures.{records}
 use Rattle.order.specs.MayFollow.{isOneOf, isAddendum}
 use Rattle.standing.specs.History.{Entry, entry, one, isBofdAddendum, isEndorserAddendum}
@@ -50,10 +51,10 @@ movedALittle t s =
       signature = s .signature;
     }
 
-pub little-moves : (file : List ℕ) (past : List Entry) (t offset n : ℕ) → isOneOf t changingMuch ≡ false
-    → movedALittle t (cappedFigures (standing file past)) ≡ cappedFigures (standing file (entry t offset n ∷ past))
+pub little-moves : (set : CharacterSet) (file : List ℕ) (past : List Entry) (t offset n : ℕ) → isOneOf t changingMuch ≡ false
+    → movedALittle t (cappedFigures (standing set file past)) ≡ cappedFigures (standing set file (entry t offset n ∷ past))
 unfolding standing
-little-moves file past t offset n h =
+little-moves set file past t offset n h =
     let no10 = neither (eqb t 10) (isOneOf t (20 ∷ 25 ∷ 31 ∷ 50 ∷ 61 ∷ 70 ∷ [])) h in
     let no20 = neither (eqb t 20) (isOneOf t (25 ∷ 31 ∷ 50 ∷ 61 ∷ 70 ∷ [])) (no10 .1) in
     let no25 = neither (eqb t 25) (isOneOf t (31 ∷ 50 ∷ 61 ∷ 70 ∷ [])) (no20 .1) in

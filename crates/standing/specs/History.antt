@@ -4,6 +4,7 @@ use mathlib.Core.Bool.{Bool, true, false, _&&_, _||_, not, cond}
 use mathlib.Core.List.{List, [], _∷_, map}
 use lib.Dec.{eqb}
 use lib.ListN.{length, getD}
+use Rattle.text.specs.declared.character_set.CharacterSet.{CharacterSet}
 use Rattle.text.specs.Capitals.{capital}
 use Rattle.text.specs.Number.{number}
 use Rattle.frame.specs.Frames.{part}
@@ -35,54 +36,54 @@ abbrev pub field : Layout → ℕ → List ℕ → ℕ → List ℕ
 field k n file offset = fieldIn (k .lines) n file offset
 
 -- the amount of an item, in cents: field 6 of a 25 or a 31, field 7 of a 61
-abbrev pub amountOf : List ℕ → ℕ → ℕ → ℕ
-amountOf file t offset =
-    cond (eqb t 25) (number (field checkDetail 6 file offset))
-    (cond (eqb t 31) (number (field returnRecord 6 file offset))
-    (cond (eqb t 61) (number (field creditRecord 7 file offset)) 0))
+abbrev pub amountOf : CharacterSet → List ℕ → ℕ → ℕ → ℕ
+amountOf set file t offset =
+    cond (eqb t 25) (number set (field checkDetail 6 file offset))
+    (cond (eqb t 31) (number set (field returnRecord 6 file offset))
+    (cond (eqb t 61) (number set (field creditRecord 7 file offset)) 0))
 
 -- "Usage indicator 9 makes a debit, any other defined value a credit" (request 2): field 2 of a 61. Every 25 and 31 is a debit.
-abbrev pub isDebit : List ℕ → ℕ → ℕ → Bool
-isDebit file t offset = isCheckOrReturn t || (eqb t 61 && eqb (number (field creditRecord 2 file offset)) 9)
+abbrev pub isDebit : CharacterSet → List ℕ → ℕ → ℕ → Bool
+isDebit set file t offset = isCheckOrReturn t || (eqb t 61 && eqb (number set (field creditRecord 2 file offset)) 9)
 
-abbrev pub isCredit : List ℕ → ℕ → ℕ → Bool
-isCredit file t offset = eqb t 61 && not (eqb (number (field creditRecord 2 file offset)) 9)
+abbrev pub isCredit : CharacterSet → List ℕ → ℕ → ℕ → Bool
+isCredit set file t offset = eqb t 61 && not (eqb (number set (field creditRecord 2 file offset)) 9)
 
 -- "cents of the 25s whose MICR Valid Indicator is 1": field 10
-abbrev pub micrOf : List ℕ → ℕ → ℕ → ℕ
-micrOf file t offset = cond (eqb t 25 && eqb (number (field checkDetail 10 file offset)) 1) (amountOf file t offset) 0
+abbrev pub micrOf : CharacterSet → List ℕ → ℕ → ℕ → ℕ
+micrOf set file t offset = cond (eqb t 25 && eqb (number set (field checkDetail 10 file offset)) 1) (amountOf set file t offset) 0
 
 -- the addenda that an item states: field 12 of a 25, field 8 of a 31
-abbrev pub statedBy : List ℕ → ℕ → ℕ → ℕ
-statedBy file t offset =
-    cond (eqb t 25) (number (field checkDetail 12 file offset))
-    (cond (eqb t 31) (number (field returnRecord 8 file offset)) 0)
+abbrev pub statedBy : CharacterSet → List ℕ → ℕ → ℕ → ℕ
+statedBy set file t offset =
+    cond (eqb t 25) (number set (field checkDetail 12 file offset))
+    (cond (eqb t 31) (number set (field returnRecord 8 file offset)) 0)
 
 -- field 8 of a cash letter header (N, E, I or F, in either case), and field 10 of an image view detail
-abbrev pub indicatorIn : List ℕ → ℕ → ℕ
-indicatorIn file offset = capital (getD (field cashLetterHeader 8 file offset) 0 0)
+abbrev pub indicatorIn : CharacterSet → List ℕ → ℕ → ℕ
+indicatorIn set file offset = capital set (getD (field cashLetterHeader 8 file offset) 0 0)
 
-abbrev pub signatureIn : List ℕ → ℕ → ℕ
-signatureIn file offset = number (field imageViewDetail 10 file offset)
+abbrev pub signatureIn : CharacterSet → List ℕ → ℕ → ℕ
+signatureIn set file offset = number set (field imageViewDetail 10 file offset)
 
 abbrev pub one : Bool → ℕ
 one true = 1
 one false = 0
 
 -- what one record adds to the sums of each level
-abbrev pub adds : List ℕ → ℕ → ℕ → Sums
-adds file t offset =
-    sums (one (isDebit file t offset)) (cond (isDebit file t offset) (amountOf file t offset) 0) (one (isCredit file t offset))
-    (cond (isCredit file t offset) (amountOf file t offset) 0) (one (eqb t 50))
+abbrev pub adds : CharacterSet → List ℕ → ℕ → ℕ → Sums
+adds set file t offset =
+    sums (one (isDebit set file t offset)) (cond (isDebit set file t offset) (amountOf set file t offset) 0) (one (isCredit set file t offset))
+    (cond (isCredit set file t offset) (amountOf set file t offset) 0) (one (eqb t 50))
 
 -- a measure added up over the records after the newest at which a level begins
 abbrev pub sumSince : (Entry → Bool) → (Entry → ℕ) → List Entry → ℕ
 sumSince begins measure [] = 0
 sumSince begins measure (r ∷ rs) = cond (begins r) 0 (measure r + sumSince begins measure rs)
 
-abbrev pub sumsSince : (Entry → Bool) → List ℕ → List Entry → Sums
-sumsSince begins file [] = noSums
-sumsSince begins file (r ∷ rs) = cond (begins r) noSums (together (adds file (r .type) (r .offset)) (sumsSince begins file rs))
+abbrev pub sumsSince : CharacterSet → (Entry → Bool) → List ℕ → List Entry → Sums
+sumsSince set begins file [] = noSums
+sumsSince set begins file (r ∷ rs) = cond (begins r) noSums (together (adds set file (r .type) (r .offset)) (sumsSince set begins file rs))
 
 -- a figure of the newest record that passes a test, 0 where there is none
 abbrev pub atNewest : (Entry → Bool) → (Entry → ℕ) → List Entry → ℕ

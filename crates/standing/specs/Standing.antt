@@ -3,13 +3,14 @@ use Prim.Native.Nat.{ℕ, _+_, _<_}
 use mathlib.Core.List.{List, map}
 use lib.Dec.{eqb}
 use lib.ListN.{length}
+use Rattle.text.specs.declared.character_set.CharacterSet.{CharacterSet}
 use Rattle.measure.specs.Measures.{cents, items, records, cappedSums, Small}
 use Rattle.order.specs.MayFollow.{isItem, isAddendum, lastOf, isOpen, itemTypeInBundle, newestItemType}
 use Rattle.standing.specs.History.{Entry, micrOf, statedBy, indicatorIn, signatureIn, sumSince, sumsSince, atNewest, never, is, isItemEntry, countSince, isBofdAddendum, isEndorserAddendum}
 use Rattle.standing.specs.declared.Standing.{Standing}
 
-unfoldable pub standing : List ℕ → List Entry → Standing
-standing file past =
+unfoldable pub standing : CharacterSet → List ℕ → List Entry → Standing
+standing set file past =
     record {
       last = lastOf (map (λ (r : Entry). r .type) past);
       inside = isOpen (map (λ (r : Entry). r .type) past);
@@ -21,20 +22,20 @@ standing file past =
       opened = countSince (is 10) (λ t. eqb t 20) past;
       items = items (countSince never isItem past);
       ordinal = countSince (is 20) isItem past;
-      whole = sumsSince never file past;
-      letter = sumsSince (is 10) file past;
-      bundle = sumsSince (is 20) file past;
-      micr = cents (sumSince (is 20) (λ r. micrOf file (r .type) (r .offset)) past);
+      whole = sumsSince set never file past;
+      letter = sumsSince set (is 10) file past;
+      bundle = sumsSince set (is 20) file past;
+      micr = cents (sumSince (is 20) (λ r. micrOf set file (r .type) (r .offset)) past);
       addenda = countSince isItemEntry isAddendum past;
       bofd = countSince isItemEntry isBofdAddendum past;
       endorser = countSince isItemEntry isEndorserAddendum past;
       shown = countSince isItemEntry (λ t. eqb t 50) past;
-      stated = atNewest isItemEntry (λ r. statedBy file (r .type) (r .offset)) past;
+      stated = atNewest isItemEntry (λ r. statedBy set file (r .type) (r .offset)) past;
       item = atNewest isItemEntry (λ r. r .offset) past;
       header = atNewest (is 20) (λ r. r .offset) past;
       heading = atNewest (is 10) (λ r. r .offset) past;
-      indicator = atNewest (is 10) (λ r. indicatorIn file (r .offset)) past;
-      signature = atNewest (is 50) (λ r. signatureIn file (r .offset)) past;
+      indicator = atNewest (is 10) (λ r. indicatorIn set file (r .offset)) past;
+      signature = atNewest (is 50) (λ r. signatureIn set file (r .offset)) past;
     }
 
 -- the same figures as the code carries them along, where sums of cents stop at what no control field can state

@@ -4,12 +4,14 @@ use measure::Items;
 use measure::Records;
 use measure::Sums;
 use measure::Views;
+use text::CharacterSet;
 ghost use mathlib.Core.Path.{_≡_};
 ghost use mathlib.Core.Bool.{true, false, _||_, cond};
 ghost use mathlib.Core.List.{List, [], _∷_};
 ghost use Prim.Native.Nat.{ℕ, _+_, _-_, _<_, _≤_};
 ghost use lib.Dec.{eqb};
 ghost use lib.ListN.{getD};
+ghost use Rattle.text.specs.declared.character_set.CharacterSet.{CharacterSet};
 ghost use Rattle.text.specs.Number.{number};
 ghost use Rattle.measure.specs.Measures.{Small};
 ghost use Rattle.order.specs.MayFollow.{isOneOf, isCheckOrReturn, isItem};
@@ -53,7 +55,7 @@ pub struct Standing {
 
 impl Standing {
     pub fn start() -> Self
-        ensures { λ r. ⌜ ((file : List ℕ) → r ≡ cappedFigures (standing file [])) ⌝ }
+        ensures { λ r. ⌜ ((set : CharacterSet) (file : List ℕ) → r ≡ cappedFigures (standing set file [])) ⌝ }
     {
         Standing {
             last: 0,
@@ -113,41 +115,41 @@ pub fn characters_at(file: &[u8], offset: usize, first: usize, size: usize) -> &
 }
 
 // The number there.
-pub fn number_at(file: &[u8], offset: usize, first: usize, size: usize) -> u64
-    ensures { λ r. ⌜ r ≡ number (characters (now (file .entry)) offset first size) ⌝ }
+pub fn number_at(set: CharacterSet, file: &[u8], offset: usize, first: usize, size: usize) -> u64
+    ensures { λ r. ⌜ r ≡ number set (characters (now (file .entry)) offset first size) ⌝ }
 {
-    text::number_in(characters_at(file, offset, first, size))
+    text::number_in(set, characters_at(file, offset, first, size))
 }
 
 // An item's amount (25 and 31, field 6, positions 48 to 57; 61, field 7, positions 49 to 62), 0 of any other record.
-pub fn amount_at(file: &[u8], kind: u64, offset: usize) -> u64
-    ensures { λ r. ⌜ (r ≡ amountOf (now (file .entry)) kind offset) × (r < 100_000_000_000_000) ⌝ }
+pub fn amount_at(set: CharacterSet, file: &[u8], kind: u64, offset: usize) -> u64
+    ensures { λ r. ⌜ (r ≡ amountOf set (now (file .entry)) kind offset) × (r < 100_000_000_000_000) ⌝ }
 {
     match kind {
-        25 => number_at(file, offset, 48, 10),
-        31 => number_at(file, offset, 48, 10),
-        61 => number_at(file, offset, 49, 14),
+        25 => number_at(set, file, offset, 48, 10),
+        31 => number_at(set, file, offset, 48, 10),
+        61 => number_at(set, file, offset, 49, 14),
         _ => 0,
     }
 }
 
 // Every 25 and 31 is a debit, and a 61 whose Record Usage Indicator (field 2, position 3) is 9.
-fn is_debit_at(file: &[u8], kind: u64, offset: usize) -> bool
-    ensures { λ r. ⌜ r ≡ isDebit (now (file .entry)) kind offset ⌝ }
+fn is_debit_at(set: CharacterSet, file: &[u8], kind: u64, offset: usize) -> bool
+    ensures { λ r. ⌜ r ≡ isDebit set (now (file .entry)) kind offset ⌝ }
 {
     if kind == 61 {
-        return number_at(file, offset, 3, 1) == 9;
+        return number_at(set, file, offset, 3, 1) == 9;
     }
     order::is_check_or_return(kind)
 }
 
 // The debit that a record adds, where it is a 25 whose MICR Valid Indicator (field 10, position 75) is 1.
-fn micr_at(file: &[u8], kind: u64, offset: usize, amount: u64) -> u64
-    requires { ⌜ amount ≡ adds (now file) kind offset .debit .0 ⌝ }
-    ensures { λ r. ⌜ (r ≡ micrOf (now (file .entry)) kind offset) × (r ≤ amount) ⌝ }
+fn micr_at(set: CharacterSet, file: &[u8], kind: u64, offset: usize, amount: u64) -> u64
+    requires { ⌜ amount ≡ adds set (now file) kind offset .debit .0 ⌝ }
+    ensures { λ r. ⌜ (r ≡ micrOf set (now (file .entry)) kind offset) × (r ≤ amount) ⌝ }
 {
     if kind == 25 {
-        if number_at(file, offset, 75, 1) == 1 {
+        if number_at(set, file, offset, 75, 1) == 1 {
             return amount;
         }
     }
@@ -155,12 +157,12 @@ fn micr_at(file: &[u8], kind: u64, offset: usize, amount: u64) -> u64
 }
 
 // The addenda that an item states: 25, field 12, positions 77 and 78; 31, field 8, positions 73 and 74.
-fn stated_at(file: &[u8], kind: u64, offset: usize) -> u64
-    ensures { λ r. ⌜ r ≡ statedBy (now (file .entry)) kind offset ⌝ }
+fn stated_at(set: CharacterSet, file: &[u8], kind: u64, offset: usize) -> u64
+    ensures { λ r. ⌜ r ≡ statedBy set (now (file .entry)) kind offset ⌝ }
 {
     match kind {
-        25 => number_at(file, offset, 77, 2),
-        31 => number_at(file, offset, 73, 2),
+        25 => number_at(set, file, offset, 77, 2),
+        31 => number_at(set, file, offset, 73, 2),
         _ => 0,
     }
 }
@@ -175,10 +177,10 @@ fn first_of(s: &[u8]) -> u8
 }
 
 // 10, field 8, position 43.
-fn indicator_at(file: &[u8], offset: usize) -> u8
-    ensures { λ r. ⌜ r ≡ indicatorIn (now (file .entry)) offset ⌝ }
+fn indicator_at(set: CharacterSet, file: &[u8], offset: usize) -> u8
+    ensures { λ r. ⌜ r ≡ indicatorIn set (now (file .entry)) offset ⌝ }
 {
-    text::capital_of(first_of(characters_at(file, offset, 43, 1)))
+    text::capital_of(set, first_of(characters_at(file, offset, 43, 1)))
 }
 
 pub fn one_if(test: bool) -> u64
@@ -214,12 +216,12 @@ fn views_at(file: &[u8], kind: u64, offset: usize) -> u64
 }
 
 // What one record adds to the sums of each level.
-fn added_at(file: &[u8], kind: u64, offset: usize) -> Sums
-    ensures { λ r. ⌜ (r ≡ adds (now (file .entry)) kind offset) × Small r ⌝ }
+fn added_at(set: CharacterSet, file: &[u8], kind: u64, offset: usize) -> Sums
+    ensures { λ r. ⌜ (r ≡ adds set (now (file .entry)) kind offset) × Small r ⌝ }
 {
-    let debit = is_debit_at(file, kind, offset);
+    let debit = is_debit_at(set, file, kind, offset);
     let credit = (kind == 61) & !debit;
-    let cents = amount_at(file, kind, offset);
+    let cents = amount_at(set, file, kind, offset);
     let views = views_at(file, kind, offset);
     Sums {
         debits: Items(one_if(debit)),
@@ -231,20 +233,20 @@ fn added_at(file: &[u8], kind: u64, offset: usize) -> Sums
 }
 
 // Field 8 of the newest cash letter header, and field 10 of the newest image view detail (position 29).
-fn indicator_after(file: &[u8], kind: u64, offset: usize, older: u8) -> u8
-    ensures { λ r. ⌜ r ≡ cond (eqb kind 10) (indicatorIn (now (file .entry)) offset) older ⌝ }
+fn indicator_after(set: CharacterSet, file: &[u8], kind: u64, offset: usize, older: u8) -> u8
+    ensures { λ r. ⌜ r ≡ cond (eqb kind 10) (indicatorIn set (now (file .entry)) offset) older ⌝ }
 {
     if kind == 10 {
-        return indicator_at(file, offset);
+        return indicator_at(set, file, offset);
     }
     older
 }
 
-fn signature_after(file: &[u8], kind: u64, offset: usize, older: u64) -> u64
-    ensures { λ r. ⌜ r ≡ cond (eqb kind 50) (signatureIn (now (file .entry)) offset) older ⌝ }
+fn signature_after(set: CharacterSet, file: &[u8], kind: u64, offset: usize, older: u64) -> u64
+    ensures { λ r. ⌜ r ≡ cond (eqb kind 50) (signatureIn set (now (file .entry)) offset) older ⌝ }
 {
     if kind == 50 {
-        return number_at(file, offset, 29, 1);
+        return number_at(set, file, offset, 29, 1);
     }
     older
 }
@@ -275,15 +277,15 @@ fn holder_after(kind: u64, older: u64) -> u64
 }
 
 // The figures with one record more of any type.
-fn moved_in_full(file: &[u8], s: Standing, kind: u64, offset: usize) -> Standing
+fn moved_in_full(set: CharacterSet, file: &[u8], s: Standing, kind: u64, offset: usize) -> Standing
     requires { ⌜ Roomy s ⌝ }
-    ensures { λ r. ⌜ ((past : List Entry) (n : ℕ) → s ≡ cappedFigures (standing (now (file .entry)) past) → r ≡ cappedFigures (standing (now (file .entry)) (entry kind offset n ∷ past))) ⌝ }
+    ensures { λ r. ⌜ ((past : List Entry) (n : ℕ) → s ≡ cappedFigures (standing set (now (file .entry)) past) → r ≡ cappedFigures (standing set (now (file .entry)) (entry kind offset n ∷ past))) ⌝ }
 {
     let item = order::is_item(kind);
     let letter = kind == 10;
     let bundle = kind == 20;
-    let added = added_at(file, kind, offset);
-    let micr = micr_at(file, kind, offset, added.debit.0);
+    let added = added_at(set, file, kind, offset);
+    let micr = micr_at(set, file, kind, offset, added.debit.0);
     Standing {
         last: kind,
         inside: inside_after(kind, s.inside),
@@ -303,12 +305,12 @@ fn moved_in_full(file: &[u8], s: Standing, kind: u64, offset: usize) -> Standing
         bofd: since(item, one_if((kind == 26) | (kind == 32)), s.bofd),
         endorser: since(item, one_if((kind == 28) | (kind == 35)), s.endorser),
         shown: since(item, one_if(kind == 50), s.shown),
-        stated: newest(item, stated_at(file, kind, offset), s.stated),
+        stated: newest(item, stated_at(set, file, kind, offset), s.stated),
         item: newest(item, offset as u64, s.item as u64) as usize,
         header: newest(bundle, offset as u64, s.header as u64) as usize,
         heading: newest(letter, offset as u64, s.heading as u64) as usize,
-        indicator: indicator_after(file, kind, offset, s.indicator),
-        signature: signature_after(file, kind, offset, s.signature),
+        indicator: indicator_after(set, file, kind, offset, s.indicator),
+        signature: signature_after(set, file, kind, offset, s.signature),
     }
 }
 
@@ -329,7 +331,7 @@ fn changes_much(kind: u64) -> bool
 // The figures with one record more of another type.
 fn moved_a_little(mut s: Standing, kind: u64) -> Standing
     requires { ⌜ Roomy s × (isOneOf kind (10 ∷ 20 ∷ 25 ∷ 31 ∷ 50 ∷ 61 ∷ 70 ∷ []) ≡ false) ⌝ }
-    ensures { λ r. ⌜ ((file : List ℕ) (past : List Entry) (offset n : ℕ) → s ≡ cappedFigures (standing file past) → r ≡ cappedFigures (standing file (entry kind offset n ∷ past))) ⌝ }
+    ensures { λ r. ⌜ ((set : CharacterSet) (file : List ℕ) (past : List Entry) (offset n : ℕ) → s ≡ cappedFigures (standing set file past) → r ≡ cappedFigures (standing set file (entry kind offset n ∷ past))) ⌝ }
 {
     let records = Records(s.records.0 + 1);
     let addenda = since(false, one_if(order::is_addendum(kind)), s.addenda);
@@ -344,12 +346,12 @@ fn moved_a_little(mut s: Standing, kind: u64) -> Standing
 }
 
 // The figures with one record more, whose length field stands at an offset.
-pub fn moved(file: &[u8], s: Standing, kind: u64, offset: usize) -> Standing
+pub fn moved(set: CharacterSet, file: &[u8], s: Standing, kind: u64, offset: usize) -> Standing
     requires { ⌜ Roomy s ⌝ }
-    ensures { λ r. ⌜ ((past : List Entry) (n : ℕ) → s ≡ cappedFigures (standing (now (file .entry)) past) → r ≡ cappedFigures (standing (now (file .entry)) (entry kind offset n ∷ past))) ⌝ }
+    ensures { λ r. ⌜ ((past : List Entry) (n : ℕ) → s ≡ cappedFigures (standing set (now (file .entry)) past) → r ≡ cappedFigures (standing set (now (file .entry)) (entry kind offset n ∷ past))) ⌝ }
 {
     if changes_much(kind) {
-        return moved_in_full(file, s, kind, offset);
+        return moved_in_full(set, file, s, kind, offset);
     }
     moved_a_little(s, kind)
 }

@@ -7,12 +7,14 @@ use native.Mathlib.Nat.{not-suc-le-zero}
 use native.Mathlib.Omega.{arith}
 use borrow.Author.Tests.{leb-true, eqb-true, eqb-false, ne-eqb}
 use lib.Dec.{leb, eqb}
+use Rattle.text.specs.declared.character_set.CharacterSet.{CharacterSet}
+use Rattle.text.specs.declared.character_set.CharacterSet.the-variants.{Ascii, Ebcdic}
 use Rattle.text.specs.Ranges.{within}
 use Rattle.text.specs.Characters.{isBlank, isNumeric}
 use Rattle.text.specs.declared.data_types.DataType.the-variants.{ANS}
 use Rattle.text.specs.DataTypes.{every, admits, blankAfter}
 
-and-left : (a b : Bool) → a && b ≡ true → a ≡ true
+pub and-left : (a b : Bool) → a && b ≡ true → a ≡ true
 and-left true b e = refl
 and-left false b e = cc
 
@@ -46,22 +48,25 @@ same-equal false true e = e
 same-equal false false e = refl
 
 -- at every value of a byte
-pub printable-range : (x : ℕ) → x < 256 → within 0x20 0x7E x ≡ admits ANS x
+pub printable-range : (x : ℕ) → x < 256 → within 0x20 0x7E x ≡ admits Ascii ANS x
 printable-range x h =
-    same-equal (within 0x20 0x7E x) (admits ANS x)
-    (passes-below 256 (λ (y : ℕ). same (within 0x20 0x7E y) (admits ANS y)) refl x h)
+    same-equal (within 0x20 0x7E x) (admits Ascii ANS x)
+    (passes-below 256 (λ (y : ℕ). same (within 0x20 0x7E y) (admits Ascii ANS y)) refl x h)
 
-digit-not-blank : (x : ℕ) → isNumeric x ≡ true → isBlank x ≡ false
-digit-not-blank x e =
+digit-not-blank : (set : CharacterSet) (x : ℕ) → isNumeric set x ≡ true → isBlank set x ≡ false
+digit-not-blank Ascii x e =
     let low = leb-true 0x30 x (and-left (leb 0x30 x) (leb x 0x39) e) in
     ne-eqb x 0x20 (λ q. omega arith)
+digit-not-blank Ebcdic x e =
+    let low = leb-true 0xF0 x (and-left (leb 0xF0 x) (leb x 0xF9) e) in
+    ne-eqb x 0x40 (λ q. omega arith)
 
-never-both : (b : Bool) → b && false ≡ false
+pub never-both : (b : Bool) → b && false ≡ false
 never-both true = refl
 never-both false = refl
 
-pub digits-have-no-gap : (before : Bool) (xs : List ℕ) → every isNumeric xs ≡ true → blankAfter before xs ≡ false
-digits-have-no-gap before [] e = refl
-digits-have-no-gap before (x ∷ xs) e =
-    rw (digit-not-blank x (and-left (isNumeric x) (every isNumeric xs) e), never-both before)
-    (digits-have-no-gap (before || isNumeric x) xs (and-right (isNumeric x) (every isNumeric xs) e))
+pub digits-have-no-gap : (set : CharacterSet) (before : Bool) (xs : List ℕ) → every (isNumeric set) xs ≡ true → blankAfter set before xs ≡ false
+digits-have-no-gap set before [] e = refl
+digits-have-no-gap set before (x ∷ xs) e =
+    rw (digit-not-blank set x (and-left (isNumeric set x) (every (isNumeric set) xs) e), never-both before)
+    (digits-have-no-gap set (before || isNumeric set x) xs (and-right (isNumeric set x) (every (isNumeric set) xs) e))

@@ -10,11 +10,14 @@ use borrow.Author.Tests.{leb-true}
 use lib.Dec.{leb}
 use lib.ListN.{length, getD, take, drop, drop-of-length-le, length-take}
 use lib.Seq.{drop-cons}
+use Rattle.text.specs.declared.character_set.CharacterSet.{CharacterSet}
+use Rattle.text.specs.declared.character_set.CharacterSet.the-variants.{Ascii, Ebcdic}
+use Rattle.text.specs.Ranges.{within}
 use Rattle.text.specs.Characters.{isBlank, isNumeric}
 use Rattle.text.specs.declared.data_types.DataType.{DataType}
 use Rattle.text.specs.declared.data_types.DataType.the-variants.{Binary}
 use Rattle.text.specs.DataTypes.{every, some, blankAfter, blankEmbedded, admits, keepsDigitsTogether, ofType}
-use Rattle.text.specs.Number.{digit, valueAfter, number}
+use Rattle.text.specs.Number.{codeOfZero, digit, valueAfter, number}
 
 -- what is left at i is the element there and what is left after it
 pub rest : (s : List ℕ) (i : ℕ) → i < length s → drop i s ≡ getD s i 0 ∷ drop (i + 1) s
@@ -53,8 +56,8 @@ module _ (test : ℕ → Bool) (s : List ℕ) (i : ℕ) where
   some-ends h = rw (drop-of-length-le s h)
 
 -- Whether a blank stands embedded in what is left, where `before` says that a digit came, and `gap` that a blank came after one.
-abbrev pub embeddedFrom : Bool → Bool → List ℕ → Bool
-embeddedFrom before gap xs = (gap && some isNumeric xs) || blankAfter before xs
+abbrev pub embeddedFrom : CharacterSet → Bool → Bool → List ℕ → Bool
+embeddedFrom set before gap xs = (gap && some (isNumeric set) xs) || blankAfter set before xs
 
 -- a gap and now a digit: embedded
 gap-closed : (gap digit more rest : Bool) → gap && digit ≡ true → (gap && (digit || more)) || rest ≡ true
@@ -74,26 +77,26 @@ gap-carried false digit true true more rest e = refl
 gap-carried false digit true false more rest e = refl
 gap-carried false digit false blank more rest e = refl
 
-module _ (s : List ℕ) (i : ℕ) (before gap : Bool) where
-  pub embedded-found : i < length s → gap && isNumeric (getD s i 0) ≡ true → embeddedFrom before gap (drop i s) ≡ true
-  embedded-found h e = rw (rest s i h) (gap-closed gap (isNumeric (getD s i 0)) _ _ e)
+module _ (set : CharacterSet) (s : List ℕ) (i : ℕ) (before gap : Bool) where
+  pub embedded-found : i < length s → gap && isNumeric set (getD s i 0) ≡ true → embeddedFrom set before gap (drop i s) ≡ true
+  embedded-found h e = rw (rest s i h) (gap-closed gap (isNumeric set (getD s i 0)) _ _ e)
 
-  pub embedded-goes-on : i < length s → gap && isNumeric (getD s i 0) ≡ false
-      → embeddedFrom before gap (drop i s) ≡ embeddedFrom (before || isNumeric (getD s i 0)) (gap || (before && isBlank (getD s i 0))) (drop (i + 1) s)
-  embedded-goes-on h e = rw (rest s i h) (gap-carried gap (isNumeric (getD s i 0)) before (isBlank (getD s i 0)) _ _ e)
+  pub embedded-goes-on : i < length s → gap && isNumeric set (getD s i 0) ≡ false
+      → embeddedFrom set before gap (drop i s) ≡ embeddedFrom set (before || isNumeric set (getD s i 0)) (gap || (before && isBlank set (getD s i 0))) (drop (i + 1) s)
+  embedded-goes-on h e = rw (rest s i h) (gap-carried gap (isNumeric set (getD s i 0)) before (isBlank set (getD s i 0)) _ _ e)
 
-  pub embedded-ends : length s ≤ i → embeddedFrom before gap (drop i s) ≡ false
+  pub embedded-ends : length s ≤ i → embeddedFrom set before gap (drop i s) ≡ false
   embedded-ends h = rw (drop-of-length-le s h) (no-digit gap)
     where
       no-digit : (g : Bool) → (g && false) || false ≡ false
       no-digit true = refl
       no-digit false = refl
 
-module _ (sum : ℕ) (s : List ℕ) (i : ℕ) where
-  pub value-goes-on : i < length s → valueAfter sum (drop i s) ≡ valueAfter (sum * 10 + digit (getD s i 0)) (drop (i + 1) s)
+module _ (set : CharacterSet) (sum : ℕ) (s : List ℕ) (i : ℕ) where
+  pub value-goes-on : i < length s → valueAfter set sum (drop i s) ≡ valueAfter set (sum * 10 + digit set (getD s i 0)) (drop (i + 1) s)
   value-goes-on h = rw (rest s i h)
 
-  pub value-ends : length s ≤ i → valueAfter sum (drop i s) ≡ sum
+  pub value-ends : length s ≤ i → valueAfter set sum (drop i s) ≡ sum
   value-ends h = rw (drop-of-length-le s h)
 
 pub ten-more : (i : ℕ) → 10 ^ (i + 1) ≡ 10 ^ i * 10
@@ -103,40 +106,47 @@ pub ten-top : (i : ℕ) → i ≤ 18 → 10 ^ i ≤ 10 ^ 18
 ten-top i h = pow-le-pow-right (omega arith) h
 
 -- binary data is of its type, whatever it is
-pub binary-passes : (xs : List ℕ) → true ≡ ofType Binary xs
+pub binary-passes : (set : CharacterSet) (xs : List ℕ) → true ≡ ofType set Binary xs
 unfolding ofType
-binary-passes [] = refl
-binary-passes (x ∷ xs) = binary-passes xs
+binary-passes set [] = refl
+binary-passes set (x ∷ xs) = binary-passes set xs
 
 -- the type of a field by what its loops find, at a type that is known
-module _ (t known : DataType) (xs : List ℕ) (e : t ≡ known) where
-  pub together : keepsDigitsTogether known ≡ true → every (admits known) xs && not (blankEmbedded xs) ≡ ofType t xs
+module _ (set : CharacterSet) (t known : DataType) (xs : List ℕ) (e : t ≡ known) where
+  pub together : keepsDigitsTogether known ≡ true → every (admits set known) xs && not (blankEmbedded set xs) ≡ ofType set t xs
   unfolding ofType
   together k = rw (e, k)
 
-  pub apart : keepsDigitsTogether known ≡ false → every (admits known) xs ≡ ofType t xs
+  pub apart : keepsDigitsTogether known ≡ false → every (admits set known) xs ≡ ofType set t xs
   unfolding ofType
-  apart k = rw (e, k) (sym (and-true (every (admits known) xs)))
+  apart k = rw (e, k) (sym (and-true (every (admits set known) xs)))
+
+-- a character is a digit by its place after the zero of its set
+pub digit-told : (set : CharacterSet) (x : ℕ) → digit set x ≡ cond (within (codeOfZero set) (codeOfZero set + 9) x) (x - codeOfZero set) 0
+digit-told Ascii x = refl
+digit-told Ebcdic x = refl
 
 -- a digit is at most 9, and a run of k digits has a number below the k-th power of ten
-digit-test : (a b : Bool) (x : ℕ) → (b ≡ true → x ≤ 0x39) → cond (a && b) (x - 0x30) 0 ≤ 9
-digit-test true true x h = omega (arith, h refl)
-digit-test true false x h = omega arith
-digit-test false b x h = omega arith
+digit-test : (a b : Bool) (first x : ℕ) → (b ≡ true → x ≤ first + 9) → cond (a && b) (x - first) 0 ≤ 9
+digit-test true true first x h = omega (arith, h refl)
+digit-test true false first x h = omega arith
+digit-test false b first x h = omega arith
 
-digit-small : (x : ℕ) → digit x ≤ 9
-digit-small x = digit-test (leb 0x30 x) (leb x 0x39) x (λ e. leb-true x 0x39 e)
+digit-small : (set : CharacterSet) (x : ℕ) → digit set x ≤ 9
+digit-small set x =
+    rw (digit-told set x)
+    (digit-test (leb (codeOfZero set) x) (leb x (codeOfZero set + 9)) (codeOfZero set) x (leb-true x (codeOfZero set + 9)))
 
-value-below : (v : ℕ) (xs : List ℕ) → valueAfter v xs < (v + 1) * 10 ^ length xs
-value-below v [] = omega arith
-value-below v (x ∷ xs) =
-    let step : v * 10 + digit x + 1 ≤ (v + 1) * 10 = omega (arith, digit-small x) in
+value-below : (set : CharacterSet) (v : ℕ) (xs : List ℕ) → valueAfter set v xs < (v + 1) * 10 ^ length xs
+value-below set v [] = omega arith
+value-below set v (x ∷ xs) =
+    let step : v * 10 + digit set x + 1 ≤ (v + 1) * 10 = omega (arith, digit-small set x) in
     rw (pow-suc 10 (length xs), mul-comm (10 ^ length xs) 10, ← mul-assoc (v + 1) 10 (10 ^ length xs))
-    (lt-of-lt-of-le (value-below (v * 10 + digit x) xs) (mul-le-mul-right (10 ^ length xs) step))
+    (lt-of-lt-of-le (value-below set (v * 10 + digit set x) xs) (mul-le-mul-right (10 ^ length xs) step))
 
-pub number-below : (xs : List ℕ) (k : ℕ) → length xs ≤ k → number xs < 10 ^ k
+pub number-below : (set : CharacterSet) (xs : List ℕ) (k : ℕ) → length xs ≤ k → number set xs < 10 ^ k
 unfolding number
-number-below xs k h =
-    let all = value-below 0 (take 19 xs) in
+number-below set xs k h =
+    let all = value-below set 0 (take 19 xs) in
     let short : length (take 19 xs) ≤ k = omega (arith, length-take 19 xs) in
     omega (arith, all, pow-le-pow-right {n = 10} (omega arith) short)

@@ -1,4 +1,5 @@
 pub mod Ranges
+pub mod CharacterSet
 pub mod Characters
 pub mod Capitals
 pub mod DataTypes

@@ -5,7 +5,7 @@
 
 /// Whether the proved library carries EBCDIC. While it does not, nothing in EBCDIC is put to it: `compare`, `tests`, `fuzz` and `bench` run
 /// as they did before request 5. With `true` the files, records, seeds, points of coverage and timings in EBCDIC join.
-pub const EBCDIC_CARRIED: bool = false;
+pub const EBCDIC_CARRIED: bool = true;
 
 /// A character set. Characters are spoken of by their ASCII bytes.
 #[derive(Clone, Copy, Debug, PartialEq, Eq, PartialOrd, Ord)]

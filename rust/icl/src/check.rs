@@ -1,20 +1,22 @@
 //! `icl check`: the line of the scope document for each file.
 
+use x9180::{CharacterSet, Reading, Refusal};
+
 use crate::args::Args;
 use crate::input::{bytes, judged, Input};
 use crate::screen::{coloured, complain, print, Colour};
 use crate::stop::{Stop, DONE, REFUSED, TROUBLE};
-use crate::words::{self, counted, sums};
+use crate::words::{self, counted, set_told, sums};
 
 pub fn run(args: Args) -> Result<u8, Stop> {
     let files = args.several()?;
     let mut status = DONE;
     for file in files {
-        let result = match bytes(file) {
-            Ok(Input::Bytes(bytes)) => judged(file, &bytes),
+        let (set, result) = match bytes(file) {
+            Ok(Input::Bytes(bytes)) => (set_told(CharacterSet::of(&bytes)), judged(file, &bytes)),
             Ok(Input::TooLarge(refusal, line)) => {
                 complain(&line);
-                Err(refusal)
+                (None, Err(refusal))
             }
             Err(Stop::Message(_, message)) => {
                 complain(&message);
@@ -23,23 +25,28 @@ pub fn run(args: Args) -> Result<u8, Stop> {
             }
             Err(other) => return Err(other),
         };
-        let (line, explanation) = match &result {
-            Ok(reading) => (coloured(&reading.line(), Colour::Green), accepted(&reading.totals())),
-            Err(refusal) => (coloured(&refusal.line(), Colour::Red), format!("{refusal:#}")),
-        };
+        let (line, explanation) = told(&result);
         let mut text = match files.len() {
             1 => format!("{line}\n"),
             _ => format!("{}: {line}\n", words::name(file)),
         };
-        if args.has("--explain") {
-            explanation.lines().for_each(|line| text.push_str(&format!("  {line}\n")));
-        }
+        let explanation = Some(explanation).filter(|_| args.has("--explain"));
+        let below = set.iter().chain(&explanation).flat_map(|words| words.lines());
+        below.for_each(|line| text.push_str(&format!("  {line}\n")));
         print(&text)?;
         if result.is_err() {
             status = status.max(REFUSED);
         }
     }
     Ok(status)
+}
+
+/// The line for a file, and the plain words that explain it.
+fn told(result: &Result<Reading, Refusal>) -> (String, String) {
+    match result {
+        Ok(reading) => (coloured(&reading.line(), Colour::Green), accepted(&reading.totals())),
+        Err(refusal) => (coloured(&refusal.line(), Colour::Red), format!("{refusal:#}")),
+    }
 }
 
 fn accepted(totals: &x9180::Totals) -> String {

@@ -14,7 +14,8 @@ use:
   icl COMMAND --help
   icl --version
 
-FILE is the name of a file, or - for standard input; it has at most 268435456 bytes (256 MiB).
+FILE is the name of a file, or - for standard input; it has at most 268435456 bytes (256 MiB). Its
+characters are ASCII, or EBCDIC (code page 037) where its bytes 5 and 6 are F0 F1; they are shown as text.
 After -- every word is a name, even one that begins with a dash.
 Exit status: 0 all accepted and done; 1 a file or picture was refused; 2 something could not be
 read or written, or the command was not understood. With NO_COLOR set there are no colours.
@@ -26,11 +27,13 @@ icl check [--explain] FILE...
 Prints a line for each file:
   accepted records R letters L bundles B items I views V debit D     (D in cents)
   refused N record R field F offset O                                (the first fault found)
-With several files each line is preceded by the file's name. A file of more than 268435456 bytes
-is refused with number 1, and told on standard error besides.
+With several files each line is preceded by the file's name. Below the line of a file in EBCDIC stands
+  character set: EBCDIC (code page 037)
+A file of more than 268435456 bytes is refused with number 1, and told on standard error besides.
   --explain   adds the fault in plain words: the number's name, the record and field with their
-              names in the standard, the bytes found there, and what they disagree with; for an
-              accepted file the debits and the credits it adds up to
+              names in the standard, the bytes found there, and what they disagree with (in EBCDIC
+              also a byte that is no character); for an accepted file the debits and the credits
+              it adds up to
 
 N is 1 SIZE, 2 ROOM, 3 CUT, 4 LENGTH, 5 TYPE, 6 PLACE, 7 FIELD, 8 LINK, 9 TOTAL, 10 OPEN or 11 AFTER.
 Exit status: 0 all accepted, 1 some refused, 2 something could not be read.
@@ -56,7 +59,8 @@ Prints the cash letters, bundles, items, addenda and views of an accepted file, 
 debits and credits, and the routing numbers, dates and sequence numbers as they stand in the file. A credit
 (type 61) in a bundle is one of its items; those directly in a cash letter stand between its bundles as
 credit record 1, 2 and so on. With Record Usage Indicator 9 it is a debit adjustment and counts as a debit.
-The offset beside a picture is the one that icl picture takes.
+The offset beside a picture is the one that icl picture takes. Below the first line of a file in EBCDIC
+stands its character set; its fields are shown translated.
 Exit status: 0 accepted, 1 refused (told on standard error), 2 it could not be read.
 ";
 

@@ -4,7 +4,7 @@ use std::ffi::OsStr;
 use std::fs::File;
 use std::io::{stdin, Read};
 
-use x9180::{Reading, Refusal, LIMIT};
+use x9180::{CharacterSet, Reading, Refusal, LIMIT};
 
 use crate::screen::{with_clock, Progress};
 use crate::stop::{Stop, REFUSED};
@@ -85,11 +85,12 @@ pub fn accepted(file: &OsStr) -> Result<(Vec<u8>, Reading), Stop> {
     let bytes = within_limit(file)?;
     match judged(file, &bytes) {
         Ok(reading) => Ok((bytes, reading)),
-        Err(refusal) => Err(refused(file, &refusal)),
+        Err(refusal) => Err(refused(file, &bytes, &refusal)),
     }
 }
 
 /// The line for a refusal where its numbers are not what was asked for.
-pub fn refused(file: &OsStr, refusal: &Refusal) -> Stop {
-    Stop::Message(REFUSED, format!("{}: {}: {refusal}", words::spoken(file), refusal.line()))
+pub fn refused(file: &OsStr, bytes: &[u8], refusal: &Refusal) -> Stop {
+    let set = words::set_told(CharacterSet::of(bytes)).map_or_else(String::new, |set| format!("; {set}"));
+    Stop::Message(REFUSED, format!("{}: {}: {refusal}{set}", words::spoken(file), refusal.line()))
 }

@@ -21,7 +21,7 @@ pub fn one(args: Args) -> Result<u8, Stop> {
             _ => return Err(Stop::Usage(format!("{} is no offset: a decimal number is needed", words::name(offset)))),
         };
     let bytes = input::within_limit(file)?;
-    let picture = x9180::picture(&bytes, offset).map_err(|refusal| input::refused(file, &refusal))?;
+    let picture = x9180::picture(&bytes, offset).map_err(|refusal| input::refused(file, &bytes, &refusal))?;
     if out == "-" {
         let mut out = stdout().lock();
         out.write_all(picture).and_then(|()| out.flush()).map_err(Stop::output)?;
@@ -65,7 +65,7 @@ pub fn all(args: Args) -> Result<u8, Stop> {
     let mut progress = Progress::new();
     let mut written = 0;
     for (done, (name, offset)) in views.iter().enumerate() {
-        let picture = x9180::picture(&bytes, *offset).map_err(|refusal| input::refused(file, &refusal))?;
+        let picture = x9180::picture(&bytes, *offset).map_err(|refusal| input::refused(file, &bytes, &refusal))?;
         staging.write(name, picture).map_err(|error| trouble(&folder.join(name), &error))?;
         written += picture.len() as u64;
         progress.show(|| format!("writing pictures: {done} of {}", views.len()));
@@ -117,12 +117,12 @@ fn named_views_of(item: &Item<'_>, item_name: &str, bytes: &[u8]) -> Vec<(PathBu
 
 /// The ending that clause 21.5 gives for the view's format.
 fn ending(view: &View<'_>, bytes: &[u8]) -> &'static str {
-    match view.detail().and_then(|row| row.field(bytes, 5)) {
-        Some(b"00" | b"23" | b"24") => "tif",
-        Some(b"21") => "jpg",
-        Some(b"22") => "png",
-        Some(b"25") => "jp2",
-        Some(b"26") => "ica",
+    match view.detail().and_then(|row| row.text(bytes, 5)).as_deref() {
+        Some("00" | "23" | "24") => "tif",
+        Some("21") => "jpg",
+        Some("22") => "png",
+        Some("25") => "jp2",
+        Some("26") => "ica",
         _ => "img",
     }
 }

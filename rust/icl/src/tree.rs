@@ -7,7 +7,7 @@ use x9180::{Bundle, Content, Field, Form, Item, ItemKind, Letter, Reading, Row, 
 use crate::args::Args;
 use crate::input;
 use crate::stop::{Stop, DONE};
-use crate::words::{amount, counted, sums};
+use crate::words::{amount, counted, set_told, sums};
 
 /// Lines of fields are broken before they grow longer than this.
 const WIDTH: usize = 110;
@@ -31,6 +31,9 @@ impl<Out: Write> Tree<'_, Out> {
         let (records, letters) = (counted(totals.records, "record"), counted(totals.letters, "cash letter"));
         let bundles = counted(totals.bundles, "bundle");
         writeln!(self.out, "file: {records}, {letters}, {bundles}, {}", sums(&totals))?;
+        if let Some(line) = set_told(reading.character_set()) {
+            writeln!(self.out, "    {line}")?;
+        }
         self.fields(4, reading.header().into_iter().chain(reading.control()))?;
         reading.letters().try_for_each(|letter| self.letter(&letter))
     }
@@ -65,9 +68,9 @@ impl<Out: Write> Tree<'_, Out> {
     }
 
     fn view(&mut self, indent: usize, view: &View<'_>) -> Result<()> {
-        let side = match view.detail().and_then(|row| row.field(self.file, 8)) {
-            Some(b"0") => "front",
-            Some(b"1") => "back",
+        let side = match view.detail().and_then(|row| row.text(self.file, 8)).as_deref() {
+            Some("0") => "front",
+            Some("1") => "back",
             _ => "side not told",
         };
         let picture = x9180::picture(self.file, view.offset()).map_or(0, <[u8]>::len);
@@ -76,17 +79,18 @@ impl<Out: Write> Tree<'_, Out> {
         self.fields(indent + 4, view.detail())
     }
 
-    /// Fields of records as they stand in the file, those that are wanted. A conditional field left blank is not shown.
+    /// Fields of records as they stand in the file, those that are wanted, translated where it is in EBCDIC. A conditional field left blank
+    /// is not shown.
     fn fields<'r>(&mut self, indent: usize, rows: impl IntoIterator<Item = &'r Row>) -> Result<()> {
         let mut line = String::new();
         for row in rows {
             for field in row.kind().map_or(&[][..], |kind| kind.fields) {
-                let Some(bytes) = row.field(self.file, field.number).filter(|_| is_wanted(field)) else { continue };
-                let blank = bytes.iter().all(|byte| *byte == b' ');
+                let Some(text) = row.text(self.file, field.number).filter(|_| is_wanted(field)) else { continue };
+                let blank = text.chars().all(|character| character == ' ');
                 if blank && field.usage == Usage::Conditional {
                     continue;
                 }
-                let shown = format!("{} \"{}\"", field.name, String::from_utf8_lossy(bytes));
+                let shown = format!("{} \"{text}\"", field.name);
                 if !line.is_empty() && indent + line.len() + 2 + shown.len() > WIDTH {
                     writeln!(self.out, "{:indent$}{line},", "")?;
                     line.clear();

@@ -1,9 +1,9 @@
-//! How things are said: names of files, errors of the system, amounts, counts and sums.
+//! How things are said: names of files, errors of the system, amounts, counts, sums and character sets.
 
 use std::ffi::OsStr;
 use std::io::{Error, ErrorKind};
 
-use x9180::Totals;
+use x9180::{CharacterSet, Totals};
 
 /// A name as it is printed: control characters escaped, so that a name stays on its line.
 pub fn name(name: &OsStr) -> String {
@@ -67,6 +67,14 @@ pub fn sums(totals: &Totals) -> String {
 /// A count with its noun: `1 item`, `2 items`.
 pub fn counted(count: u64, noun: &str) -> String {
     format!("{} {noun}{}", grouped(count), if count == 1 { "" } else { "s" })
+}
+
+/// The set of a file that is not in ASCII. Of the others nothing is said, as before request 5.
+pub fn set_told(set: CharacterSet) -> Option<String> {
+    match set {
+        CharacterSet::Ascii => None,
+        CharacterSet::Ebcdic => Some("character set: EBCDIC (code page 037)".to_string()),
+    }
 }
 
 #[cfg(test)]

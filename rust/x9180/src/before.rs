@@ -1,6 +1,7 @@
 //! The records before a fault, as far as the plain words speak of them. The library has found no fault in these, and this module decides
 //! nothing.
 
+use crate::character_set::CharacterSet;
 use crate::digits::number_in;
 use crate::kinds::Kind;
 use crate::shown::shown;
@@ -11,16 +12,17 @@ use crate::sums::{Stated, Sums};
 struct Earlier<'f> {
     ordinal: u64,
     kind: &'static Kind,
+    set: CharacterSet,
     body: &'f [u8],
 }
 
 impl<'f> Earlier<'f> {
     fn field(&self, number: u64) -> Option<&'f [u8]> {
-        self.body.get(self.kind.range(self.body, number)?)
+        self.body.get(self.kind.range(self.set, self.body, number)?)
     }
 
     fn number(&self, field: u64) -> Option<u64> {
-        number_in(self.field(field)?)
+        number_in(self.set, self.field(field)?)
     }
 
     fn is_credit(&self) -> bool {
@@ -39,7 +41,7 @@ impl<'f> Earlier<'f> {
     /// `field 8, Cash Letter Record Type Indicator, of record 2 is "N"`
     fn says(&self, number: u64) -> Option<String> {
         let name = self.kind.field(number)?.name;
-        Some(format!("field {number}, {name}, of record {} is {}", self.ordinal, shown(self.field(number)?)))
+        Some(format!("field {number}, {name}, of record {} is {}", self.ordinal, shown(self.set, self.field(number)?)))
     }
 }
 
@@ -76,13 +78,14 @@ struct OfItem {
 impl<'f> Before<'f> {
     /// Walks the lengths from the start to the record at this offset.
     pub fn walk(file: &'f [u8], offset: u64) -> Before<'f> {
+        let set = CharacterSet::of(file);
         let mut before = Before::default();
         let mut left = &file[..usize::try_from(offset).unwrap_or(usize::MAX).min(file.len())];
         for ordinal in 1.. {
             let Some((length, after)) = left.split_first_chunk() else { break };
             let Some((body, after)) = after.split_at_checked(u32::from_be_bytes(*length) as usize) else { break };
-            let Some(kind) = Kind::of_body(body) else { break };
-            before.enter(Earlier { ordinal, kind, body });
+            let Some(kind) = Kind::of_body(set, body) else { break };
+            before.enter(Earlier { ordinal, kind, set, body });
             left = after;
         }
         before
@@ -124,9 +127,9 @@ impl<'f> Before<'f> {
         self.of_item = OfItem::default();
         let cents = record.cents();
         match record.kind.number {
-            25 => self.add(|sums| sums.add_check(cents, record.field(10) == Some(b"1"))),
+            25 => self.add(|sums| sums.add_check(cents, record.number(10) == Some(1))),
             31 => self.add(|sums| sums.add_return(cents)),
-            _ => self.add(|sums| sums.add_credit(cents, record.field(2) == Some(b"9"))),
+            _ => self.add(|sums| sums.add_credit(cents, record.number(2) == Some(9))),
         }
         if !record.is_credit() {
             self.check_or_return = Some(record);
@@ -286,19 +289,22 @@ mod tests {
     /// In accepted files the sums that the words would give are those that the control records state.
     #[test]
     fn the_sums_are_those_of_accepted_files() {
-        let samples = concat!(env!("CARGO_MANIFEST_DIR"), "/../../peer/samples");
-        let seeds = concat!(env!("CARGO_MANIFEST_DIR"), "/../../fuzz/seeds");
-        let mut compared = 0;
-        for folder in [samples, seeds] {
-            let paths = std::fs::read_dir(folder).unwrap().map(|entry| entry.unwrap().path());
+        let root = std::path::Path::new(env!("CARGO_MANIFEST_DIR")).join("../..");
+        let mut compared = [0; 2];
+        for folder in ["peer/samples", "peer/samples/ebcdic", "fuzz/seeds", "fuzz/seeds-ebcdic"] {
+            let paths = std::fs::read_dir(root.join(folder)).unwrap().map(|entry| entry.unwrap().path());
             for path in paths.filter(|path| path.is_file()) {
-                compared += compare(&std::fs::read(&path).unwrap(), &path.display().to_string());
+                let (file, name) = (std::fs::read(&path).unwrap(), path.display().to_string());
+                compared[CharacterSet::of(&file).number() as usize] += compare(&file, &name);
             }
         }
         for index in 0..1_000 {
-            compared += compare(&peer_reader::stream::file(61, index).bytes, &format!("file {index}"));
+            let ascii = peer_reader::stream::file(61, index).bytes;
+            let ebcdic = peer_reader::copy::to_ebcdic(&ascii);
+            compared[0] += compare(&ascii, &format!("file {index}"));
+            compared[1] += compare(&ebcdic, &format!("file {index} in EBCDIC"));
         }
-        assert!(compared > 1_000, "{compared} sums compared");
+        assert!(compared.iter().all(|compared| *compared > 1_000), "{compared:?} sums compared");
     }
 
     /// Compares the sums at every record of a file that is accepted, and tells how many there were.
@@ -310,7 +316,7 @@ mod tests {
             assert_eq!(before.last.map_or(0, |last| last.ordinal), record - 1, "{name}");
             for field in row.kind().unwrap().fields {
                 let counted = before.counted(row.record_type, field.number, record);
-                let stated = number_in(row.field(file, field.number).unwrap());
+                let stated = number_in(CharacterSet::of(file), row.field(file, field.number).unwrap());
                 if let (Some(counted), Some(stated)) = (counted, stated) {
                     assert_eq!(counted, u128::from(stated), "{name} record {record} field {}", field.number);
                     compared += 1;

@@ -1,4 +1,4 @@
-//! The two calls of include/x9180.h. All unsafe code of the crate stands here. It imports the row that the library fills, and no other
+//! The calls of include/x9180.h. All unsafe code of the crate stands here. It imports the row that the library fills, and no other
 //! module.
 
 use crate::row::Row;
@@ -6,6 +6,7 @@ use crate::row::Row;
 extern "C" {
     fn x9_read(file: *const u8, file_len: usize, table: *mut u64, table_len: usize, answer: *mut u64) -> u64;
     fn x9_picture(file: *const u8, file_len: usize, offset: u64, place: *mut u64) -> u64;
+    fn x9_record_in(body: *const u8, body_len: usize, set: u64, answer: *mut u64) -> u64;
 }
 
 /// Reads a file into rows and gives the twelve numbers of the answer.
@@ -25,4 +26,12 @@ pub(crate) fn picture(file: &[u8], offset: u64) -> [u64; 4] {
     // SAFETY: the file's pointer goes with its own length, and the place has the four numbers that the call fills.
     unsafe { x9_picture(file.as_ptr(), file.len(), offset, place.as_mut_ptr()) };
     place
+}
+
+/// Judges a record's body in the set of this number and gives the two numbers of the answer.
+pub(crate) fn record(body: &[u8], set: u64) -> [u64; 2] {
+    let mut answer = [0; 2];
+    // SAFETY: the body's pointer goes with its own length, and the answer has the two numbers that the call fills.
+    unsafe { x9_record_in(body.as_ptr(), body.len(), set, answer.as_mut_ptr()) };
+    answer
 }

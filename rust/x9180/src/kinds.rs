@@ -1,7 +1,8 @@
 //! The kinds of record and their fields: numbers, names, positions, data types and values as clauses 7 to 35 of
 //! ANS X9.100-180-2006 print them. The table serves to find a field's bytes and to speak of it; what is right in a file, the
-//! proved library alone decides. Of the crate's modules it imports `digits` alone.
+//! proved library alone decides. Of the crate's modules it imports `digits` and `character_set` alone.
 
+use crate::character_set::CharacterSet;
 use crate::digits::number_in;
 
 /// A kind of record that the standard describes. Those without fields here are named so that a refusal can speak of them.
@@ -116,9 +117,17 @@ impl Kind {
         KINDS.iter().find(|kind| kind.number == number)
     }
 
-    /// The kind that a record's first two characters name.
-    pub fn of_body(body: &[u8]) -> Option<&'static Kind> {
-        Kind::of(number_in(body.get(..2)?)?)
+    /// The kind that a record's first two characters name, in the set of its file.
+    ///
+    /// ```
+    /// use x9180::{CharacterSet, Kind};
+    ///
+    /// assert_eq!(Kind::of_body(CharacterSet::Ascii, b"25"), Kind::of(25));
+    /// assert_eq!(Kind::of_body(CharacterSet::Ebcdic, &[0xF2, 0xF5]), Kind::of(25));
+    /// assert_eq!(Kind::of_body(CharacterSet::Ebcdic, b"25"), None);
+    /// ```
+    pub fn of_body(set: CharacterSet, body: &[u8]) -> Option<&'static Kind> {
+        Kind::of(number_in(set, body.get(..2)?)?)
     }
 
     /// The field with this number.
@@ -136,15 +145,15 @@ impl Kind {
     }
 
     /// Where a field stands within a body of this kind, counted from 0: `None` where there is no such field, or the body does
-    /// not reach so far, or a length that sizes it is no number.
-    pub fn range(&self, body: &[u8], number: u64) -> Option<std::ops::Range<usize>> {
+    /// not reach so far, or a length that sizes it is no number in the set.
+    pub fn range(&self, set: CharacterSet, body: &[u8], number: u64) -> Option<std::ops::Range<usize>> {
         if let Place::Positions(first, last) = self.field(number)?.place {
             return (last <= body.len()).then_some(first - 1..last);
         }
         let mut start = self.fixed_length();
         for field in self.fields {
             if let Place::SizedBy(sizing) = field.place {
-                let end = start.checked_add(self.length_in(body, sizing)?)?;
+                let end = start.checked_add(self.length_in(set, body, sizing)?)?;
                 if field.number == number {
                     return (end <= body.len()).then_some(start..end);
                 }
@@ -155,10 +164,10 @@ impl Kind {
     }
 
     /// The length that a body of this kind should have: its fixed part and the variable fields as its own lengths state them.
-    pub fn stated_length(&self, body: &[u8]) -> Option<usize> {
+    pub fn stated_length(&self, set: CharacterSet, body: &[u8]) -> Option<usize> {
         self.fields.iter().try_fold(self.fixed_length(), |length, field| match field.place {
             Place::Positions(..) => Some(length),
-            Place::SizedBy(sizing) => length.checked_add(self.length_in(body, sizing)?),
+            Place::SizedBy(sizing) => length.checked_add(self.length_in(set, body, sizing)?),
         })
     }
 
@@ -167,9 +176,9 @@ impl Kind {
         self.fields.iter().any(|field| matches!(field.place, Place::SizedBy(_)))
     }
 
-    fn length_in(&self, body: &[u8], sizing: u64) -> Option<usize> {
+    fn length_in(&self, set: CharacterSet, body: &[u8], sizing: u64) -> Option<usize> {
         match self.field(sizing)?.place {
-            Place::Positions(first, last) => usize::try_from(number_in(body.get(first - 1..last)?)?).ok(),
+            Place::Positions(first, last) => usize::try_from(number_in(set, body.get(first - 1..last)?)?).ok(),
             Place::SizedBy(_) => None,
         }
     }

@@ -17,6 +17,9 @@
 //! A cash letter holds bundles, and credits between them ([`Letter::contents`]); the items of a bundle are checks or returns, and credits among
 //! them ([`Bundle::items`]). Every item is a debit or a credit ([`Item::is_debit`]), and every level has the sums of both ([`Totals`]).
 //!
+//! The characters of a file are ASCII or EBCDIC ([`CharacterSet`]), which the file itself tells. Rows, totals and pictures come alike from
+//! both; [`Row::text`] gives a field as text from either.
+//!
 //! No call panics, whatever the bytes. The words of a refusal are not proved: they tell what stands in the file at the place that the
 //! proved library names.
 #![warn(missing_docs)]
@@ -25,12 +28,13 @@
 // right of it on a line below. `tests/imports.rs` fails if two of them come to import each other.
 //
 //     explain → before → sums
-//     explain → before → shown
-//     explain → refusal → kinds → digits
-//     before → kinds → digits
-//     ffi → row → kinds → digits
-//     reading → row → kinds → digits
+//     explain → before → shown → character_set
+//     explain → refusal → kinds → digits → character_set
+//     before → kinds → digits → character_set
+//     ffi → row → kinds → digits → character_set
+//     reading → row → kinds → digits → character_set
 mod before;
+mod character_set;
 mod digits;
 mod explain;
 mod ffi;
@@ -41,6 +45,7 @@ mod row;
 mod shown;
 mod sums;
 
+pub use character_set::CharacterSet;
 pub use kinds::{DataType, Field, Form, Kind, Place, RoutingForm, Usage, KINDS};
 pub use reading::{Bundle, Content, Item, ItemKind, Letter, Reading, Totals, View};
 pub use refusal::{Number, Refusal};
@@ -111,6 +116,31 @@ pub fn picture(file: &[u8], offset: u64) -> Result<&[u8], Refusal> {
         // The library's contract puts the part inside the file; were it not, nothing would be handed out.
         Number::ACCEPTED => part().ok_or_else(|| explain::picture(file, Number::CUT, 0, offset)),
         refused => Err(explain::picture(file, refused, field, offset)),
+    }
+}
+
+/// Judges one record alone, from its body (the bytes after the four-byte length), in the character set of its file, which a body does not
+/// tell. The answer is `TYPE`, `LENGTH` or `FIELD` where it is refused.
+///
+/// ```
+/// use x9180::{CharacterSet, Number};
+///
+/// # fn main() -> Result<(), Box<dyn std::error::Error>> {
+/// let file = std::fs::read("../../samples/ebcdic-with-pictures.x9")?;
+/// let reading = x9180::read(&file)?;
+/// for body in reading.rows().iter().filter_map(|row| row.body(&file)) {
+///     x9180::record(reading.character_set(), body)?;
+///     let refusal = x9180::record(CharacterSet::Ascii, body).unwrap_err();
+///     assert_eq!(refusal.number(), Number::TYPE);
+/// }
+/// # Ok(())
+/// # }
+/// ```
+pub fn record(set: CharacterSet, body: &[u8]) -> Result<(), Refusal> {
+    let [number, field] = ffi::record(body, set.number());
+    match Number(number) {
+        Number::ACCEPTED => Ok(()),
+        refused => Err(explain::record(set, body, refused, field)),
     }
 }
 

@@ -1,6 +1,7 @@
 //! What an accepted file holds: its rows and totals, and the levels that the rows' ordinals set out. Of the crate's modules it imports
-//! `row` alone.
+//! `row` and `character_set` alone.
 
+use crate::character_set::CharacterSet;
 use crate::row::Row;
 
 /// Counts and cents, of a whole file or of one of its parts.
@@ -65,9 +66,10 @@ impl Totals {
     }
 }
 
-/// An accepted file: its totals, and a row for each record.
+/// An accepted file: its totals, a row for each record, and the set of its characters.
 #[derive(Clone, Debug, PartialEq, Eq)]
 pub struct Reading {
+    character_set: CharacterSet,
     rows: Vec<Row>,
     totals: Totals,
     /// The offsets of the Credit/Reconciliation Records that make debits, rising. A row does not tell it, and the file need not be kept.
@@ -81,7 +83,12 @@ impl Reading {
         let mut debit_adjustments = Vec::new();
         debit_adjustments.try_reserve_exact(adjustments().count()).ok()?;
         debit_adjustments.extend(adjustments());
-        Some(Reading { rows, totals, debit_adjustments })
+        Some(Reading { character_set: CharacterSet::of(file), rows, totals, debit_adjustments })
+    }
+
+    /// The set that the file's characters are in. It makes no difference to the rows and totals; [`Row::text`] goes by it.
+    pub fn character_set(&self) -> CharacterSet {
+        self.character_set
     }
 
     /// A row for each record, in the order of the file.

@@ -107,8 +107,8 @@ impl Refusal {
         self.number
     }
 
-    /// The record at fault, from 1. For `ROOM` the rows needed. 0 for `SIZE`, and from [`picture`](crate::picture), which counts no
-    /// records.
+    /// The record at fault, from 1. For `ROOM` the rows needed. 0 for `SIZE`, and from [`picture`](crate::picture) and
+    /// [`record`](crate::record), which count no records.
     pub fn record(&self) -> u64 {
         self.record
     }
@@ -118,7 +118,7 @@ impl Refusal {
         self.field
     }
 
-    /// The offset of the record's length field.
+    /// The offset of the record's length field; 0 from [`record`](crate::record).
     pub fn offset(&self) -> u64 {
         self.offset
     }
@@ -134,7 +134,7 @@ impl Refusal {
     }
 
     /// The bytes found at the fault, the first 64 of them where there are more: the field's, or those that should be a length or a
-    /// type. Never a picture's.
+    /// type. Never a picture's. They are as they stand in the file; [`CharacterSet::text`](crate::CharacterSet::text) translates them.
     pub fn found(&self) -> &[u8] {
         &self.words.found
     }

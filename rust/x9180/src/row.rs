@@ -1,6 +1,9 @@
-//! One record of an accepted file, as its row in the table tells of it. Of the crate's modules it imports `kinds` alone.
+//! One record of an accepted file, as its row in the table tells of it. Of the crate's modules it imports `kinds`, `digits` and
+//! `character_set` alone.
 
-use crate::kinds::Kind;
+use crate::character_set::CharacterSet;
+use crate::digits::number_in;
+use crate::kinds::{DataType, Kind};
 
 /// One record of an accepted file: the seven numbers of its row in the table, in their order.
 #[derive(Clone, Copy, Debug, Default, PartialEq, Eq)]
@@ -37,7 +40,7 @@ impl Row {
         file.get(start..start.checked_add(usize::try_from(self.length).ok()?)?)
     }
 
-    /// The bytes of one field, in the file that was read.
+    /// The bytes of one field, in the file that was read, as they stand there: of an EBCDIC file in EBCDIC. [`Row::text`] translates them.
     ///
     /// ```
     /// # fn main() -> Result<(), Box<dyn std::error::Error>> {
@@ -49,7 +52,26 @@ impl Row {
     /// ```
     pub fn field<'f>(&self, file: &'f [u8], number: u64) -> Option<&'f [u8]> {
         let body = self.body(file)?;
-        body.get(self.kind()?.range(body, number)?)
+        body.get(self.kind()?.range(CharacterSet::of(file), body, number)?)
+    }
+
+    /// The characters of one field, in the file that was read, whatever set that is in. `None` for a Binary field, which holds no
+    /// characters.
+    ///
+    /// ```
+    /// # fn main() -> Result<(), Box<dyn std::error::Error>> {
+    /// for name in ["../../samples/two-letters-with-pictures.x9", "../../samples/ebcdic-with-pictures.x9"] {
+    ///     let file = std::fs::read(name)?;
+    ///     let header = x9180::read(&file)?.rows()[0];
+    ///     assert_eq!(header.text(&file, 6).as_deref(), Some("20240116")); // File Creation Date
+    /// }
+    /// # Ok(())
+    /// # }
+    /// ```
+    pub fn text(&self, file: &[u8], number: u64) -> Option<String> {
+        let is_binary = self.kind()?.field(number)?.data_type == DataType::Binary;
+        let bytes = self.field(file, number).filter(|_| !is_binary)?;
+        CharacterSet::of(file).text(bytes)
     }
 
     /// Whether the record is an item's first: a Check Detail, a Return or a Credit/Reconciliation Record (clause 35.4 counts all three).
@@ -65,6 +87,7 @@ impl Row {
     /// Whether the record is a Credit/Reconciliation Record that makes a debit: its Record Usage Indicator is 9, "Debit Adjustment"
     /// (clause 26.2).
     pub(crate) fn is_debit_adjustment(&self, file: &[u8]) -> bool {
-        self.record_type == 61 && self.field(file, 2) == Some(b"9")
+        let usage = || number_in(CharacterSet::of(file), self.field(file, 2)?);
+        self.record_type == 61 && usage() == Some(9)
     }
 }

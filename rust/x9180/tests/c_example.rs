@@ -1,4 +1,4 @@
-//! The C example, compiled and run on the samples with pictures: every line worked out by hand.
+//! The C example, compiled and run on the samples with pictures, in ASCII and EBCDIC: every line worked out by hand.
 
 use std::path::{Path, PathBuf};
 use std::process::Command;
@@ -34,6 +34,8 @@ fn prints_the_place_of_every_picture() {
     let credits = run("samples/credits-with-pictures.x9");
     let checks = run("samples/two-letters-with-pictures.x9");
     let refused = run("peer/samples/damaged-24-credit-as-debit.x9");
+    let checks_in_ebcdic = run("samples/ebcdic-with-pictures.x9");
+    let refused_in_ebcdic = run("peer/samples/ebcdic/damaged-8-micr-total.x9");
     std::fs::remove_dir_all(&folder).unwrap();
 
     // Credits: 33,364 cents in letter 1 and 131,000 in letter 2.
@@ -61,4 +63,7 @@ letter 2 credit 1: picture of 178 bytes at 7521
                  letter 1 bundle 1 item 1: picture of 179 bytes at 766\n";
     assert!(checks.0 == Some(0) && checks.1.starts_with(start) && checks.1.lines().count() == 9, "{}", checks.1);
     assert_eq!(refused, (Some(1), "refused 9 record 10 field 3 offset 764\n".to_string()));
+    // It prints no characters of a file, so that the set makes no difference (request 5).
+    assert_eq!(checks_in_ebcdic, checks);
+    assert_eq!(refused_in_ebcdic, (Some(1), "refused 9 record 7 field 4 offset 563\n".to_string()));
 }

@@ -1,16 +1,18 @@
 //! Files of the independent generator: the levels of accepted ones, the words of refused ones.
 
+use peer_reader::copy::to_ebcdic;
 use peer_reader::random::Random;
 use peer_reader::stream::{file, shaped};
 use x9180::{picture, read, Bundle, Content, Item, ItemKind, Letter, Number, Row, Totals};
 
-/// In every accepted file the levels hold each row once, in order, and their sums are those that the library added up and that the
-/// control records state.
+/// In every accepted file, of either set, the levels hold each row once, in order, and their sums are those that the library added up and
+/// that the control records state.
 #[test]
 fn levels_hold_every_row() {
     let (mut accepted, mut seen) = (0, Seen::default());
-    for index in (0..4_000).filter(|index| index % 5_000 != 2_500) {
-        let file = file(9, index).bytes;
+    for index in (0..8_000).filter(|index| index / 2 % 5_000 != 2_500) {
+        let ascii = file(9, index / 2).bytes;
+        let file = if index % 2 == 0 { ascii } else { to_ebcdic(&ascii) };
         let Ok(reading) = read(&file) else { continue };
         let mut walk = Walk { file: &file, rows: vec![reading.rows()[0]], sums: Totals::default(), seen };
         for letter in reading.letters() {
@@ -24,8 +26,8 @@ fn levels_hold_every_row() {
         seen = walk.seen;
         accepted += 1;
     }
-    assert!(accepted > 800 && seen.pictures > 800, "{accepted} files, {seen:?}");
-    assert!(seen.credits_in_letters > 100 && seen.credits_in_bundles > 100 && seen.debit_adjustments > 20, "{seen:?}");
+    assert!(accepted > 1_600 && seen.pictures > 1_600, "{accepted} files, {seen:?}");
+    assert!(seen.credits_in_letters > 200 && seen.credits_in_bundles > 200 && seen.debit_adjustments > 40, "{seen:?}");
 }
 
 #[derive(Clone, Copy, Debug, Default)]
@@ -91,7 +93,7 @@ impl Walk<'_> {
 
     fn item(&mut self, item: &Item<'_>) {
         let first = item.rows()[0];
-        let is_credit = first.record_type == 61 && first.field(self.file, 2) != Some(b"9");
+        let is_credit = first.record_type == 61 && first.text(self.file, 2).unwrap() != "9";
         assert_eq!(item.is_debit(), !is_credit);
         self.seen.debit_adjustments += u64::from(first.record_type == 61 && !is_credit);
         self.sums.items += 1;
@@ -115,7 +117,7 @@ impl Walk<'_> {
 
     /// The number that a control field states.
     fn stated(&self, control: &Row, field: u64) -> u64 {
-        std::str::from_utf8(control.field(self.file, field).unwrap()).unwrap().parse().unwrap()
+        control.text(self.file, field).unwrap().parse().unwrap()
     }
 }
 

@@ -279,14 +279,13 @@ fn what_a_sender_often_gets_wrong() {
     );
     assert!(words.ends_with("the records may lack the four-byte length before each"), "{words}");
 
+    // A file in EBCDIC that does not begin with a 01 counts as ASCII.
     let mut ebcdic = sound.clone();
-    ebcdic[4..6].copy_from_slice(&[0xF0, 0xF1]);
+    ebcdic[4..6].copy_from_slice(&[0xF1, 0xF0]);
     let refusal = read(&ebcdic).unwrap_err();
-    assert_eq!((refusal.number(), refusal.found()), (Number::TYPE, [0xF0, 0xF1].as_slice()));
-    assert!(
-        refusal.to_string().ends_with("these are digits in EBCDIC; the characters of a file are to be ASCII"),
-        "{refusal}"
-    );
+    assert_eq!((refusal.number(), refusal.found()), (Number::TYPE, [0xF1, 0xF0].as_slice()));
+    let end = "these are digits in EBCDIC, and the file is read as ASCII, since its bytes 5 and 6 are not F0 F1";
+    assert!(refusal.to_string().ends_with(end), "{refusal}");
 }
 
 #[test]
@@ -333,11 +332,11 @@ fn sizes() {
 #[test]
 fn no_panic_on_damage() {
     let mut files = Vec::new();
-    for name in ["peer/samples", "fuzz/seeds"] {
+    for name in ["peer/samples", "peer/samples/ebcdic", "fuzz/seeds", "fuzz/seeds-ebcdic"] {
         let paths = std::fs::read_dir(folder(name)).unwrap().map(|entry| entry.unwrap().path());
         files.extend(paths.filter(|path| path.is_file()).map(|path| std::fs::read(path).unwrap()));
     }
-    assert!(files.len() > 50);
+    assert!(files.len() > 250);
     let look = |file: &[u8]| {
         if let Err(refusal) = read(file) {
             assert!(format!("{refusal:#}").len() > 10);

@@ -19,7 +19,7 @@ size-requires : tie.Need-size-requires
 size-requires c κs = search needs
 
 returns : tie.Need-returns
-returns c = record { number = rw (sym (c .before .before .before .before .before .find-picture .ensures)) (c .before .before .before .before .number .ensures); place = rw (sym (c .before .before .before .before .before .find-picture .ensures), c .before .before .before .before .number .ensures, c .before .before .before .field .ensures, c .before .before .start .ensures, c .before .size .ensures) }
+returns c = record { number = rw (sym (c .before .before .before .before .before .find-picture .ensures .0)) (c .before .before .before .before .number .ensures); place = rw (sym (c .before .before .before .before .before .find-picture .ensures .0), c .before .before .before .before .number .ensures, c .before .before .before .field .ensures, c .before .before .start .ensures, c .before .size .ensures) }
 
 pub x9-picture-spec : {M : Type 1} → statement M
 x9-picture-spec =

@@ -23,13 +23,13 @@ same-length : tie.Need-same-length
 same-length c = search needs
 
 returns : tie.Need-returns
-returns c = record { number = rw (sym (c .before .before .before .before .before .before .before .read .ensures .0) ∙ c .before .before .before .totals .given .1); rows = c .before .before .before .before .before .before .before .read .ensures .1 .0; answer = rw (sym (c .before .before .before .before .before .before .before .read .ensures .0) ∙ c .before .before .before .totals .given .1); arranged = of-answer (c .before .before .before .before .before .before .before .read .ensures .0) (c .before .before .before .before .before .before .before .read .ensures .1 .1) }
+returns c = record { number = rw (sym (c .before .before .before .before .before .before .before .read .ensures .0) ∙ c .before .before .before .totals .given .1); rows = c .before .before .before .before .before .before .before .read .ensures .1 .0; answer = rw (sym (c .before .before .before .before .before .before .before .read .ensures .0) ∙ c .before .before .before .totals .given .1); arranged = of-answer (c .before .before .before .before .before .before .before .read .ensures .0) (c .before .before .before .before .before .before .before .read .ensures .1 .1 .0) }
 
 same-length-2 : tie.Need-same-length-2
 same-length-2 c = search needs
 
 returns-2 : tie.Need-returns-2
-returns-2 c = record { number = rw ((sym (c .before .before .before .before .before .before .before .before .read .ensures .0) ∙ c .before .before .before .before .fault .given .1), c .before .before .number .ensures); rows = c .before .before .before .before .before .before .before .before .read .ensures .1 .0; answer = rw ((sym (c .before .before .before .before .before .before .before .before .read .ensures .0) ∙ c .before .before .before .before .fault .given .1), c .before .before .number .ensures, c .before .field .ensures); arranged = of-answer (c .before .before .before .before .before .before .before .before .read .ensures .0) (c .before .before .before .before .before .before .before .before .read .ensures .1 .1) }
+returns-2 c = record { number = rw ((sym (c .before .before .before .before .before .before .before .before .read .ensures .0) ∙ c .before .before .before .before .fault .given .1), c .before .before .number .ensures); rows = c .before .before .before .before .before .before .before .before .read .ensures .1 .0; answer = rw ((sym (c .before .before .before .before .before .before .before .before .read .ensures .0) ∙ c .before .before .before .before .fault .given .1), c .before .before .number .ensures, c .before .field .ensures); arranged = of-answer (c .before .before .before .before .before .before .before .before .read .ensures .0) (c .before .before .before .before .before .before .before .before .read .ensures .1 .1 .0) }
 
 pub x9-read-spec : {M : Type 1} → statement M
 x9-read-spec =

@@ -1,19 +1,12 @@
-use mathlib.Core.Path.{_≡_, refl, sym, ap, _∙_}
 use borrow.Author.Needs.{needs}
 use Rattle.abi.proofs.x9_record.Statement.{statement}
 use Rattle.abi.proofs.x9_record.Tie as tie
 
-judge-record-requires : tie.Need-judge-record-requires
-judge-record-requires c κs = search needs
-
-number-requires : tie.Need-number-requires
-number-requires c κs = search needs
-
-field-requires : tie.Need-field-requires
-field-requires c κs = search needs
+judge-in-requires : tie.Need-judge-in-requires
+judge-in-requires c κs = search needs
 
 returns : tie.Need-returns
-returns c = record { number = rw (sym (c .before .before .before .judge-record .ensures)) (c .before .before .number .ensures); answer = rw (sym (c .before .before .before .judge-record .ensures), c .before .before .number .ensures, c .before .field .ensures) }
+returns c = c .judge-in .ensures
 
 pub x9-record-spec : {M : Type 1} → statement M
-x9-record-spec = tie.close (tie.spec judge-record-requires number-requires field-requires returns)
+x9-record-spec = tie.close (tie.spec judge-in-requires returns)

@@ -18,7 +18,7 @@ number-at-requires : tie.Need-number-at-requires
 number-at-requires c κs = search needs
 
 returns-2 : tie.Need-returns-2
-returns-2 c = rw (c .number-at .ensures, sym (ap (every isBlank) (c .before .before .before .characters-at .ensures)), sym (c .before .before .all-blank .ensures), c .before .if1 .left)
+returns-2 c = rw (c .number-at .ensures, sym (ap (every (isBlank (c .before .before .before .before .before .args .set))) (c .before .before .before .characters-at .ensures)), sym (c .before .before .all-blank .ensures), c .before .if1 .left)
 
 pub states-micr-spec : {M : Type 1} → statement M
 states-micr-spec =

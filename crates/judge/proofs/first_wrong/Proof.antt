@@ -14,10 +14,10 @@ use Rattle.judge.proofs.first_wrong.Statement.{statement}
 use Rattle.judge.proofs.first_wrong.Tie as tie
 
 abbrev Inv-loop : tie.InvT-loop
-Inv-loop lines body i₀ i = (i ≤ length lines) × (firstWrong (linesFrom (i + 1) (drop i lines)) body ≡ firstWrong (linesFrom 1 lines) body)
+Inv-loop set lines body i₀ i = (i ≤ length lines) × (firstWrong set (linesFrom (i + 1) (drop i lines)) body ≡ firstWrong set (linesFrom 1 lines) body)
 
 abbrev μ-loop : tie.MeasureT-loop
-μ-loop lines body i₀ i = length lines - i
+μ-loop set lines body i₀ i = length lines - i
 
 loop-holds : tie.Need-loop-holds Inv-loop μ-loop
 loop-holds c = (search needs, refl)
@@ -36,7 +36,7 @@ add-result : tie.Need-add-result Inv-loop μ-loop
 add-result c = search needs
 
 returns : tie.Need-returns Inv-loop μ-loop
-returns c = sym (wrong-here (now (c .before .before .before .before .before .before .before .args .lines)) (now (c .before .before .before .before .before .before .before .args .body)) (c .before .before .before .before .loop .i + 1) (c .before .before .before .before .loop .i) (search needs) (sym (c .before .line-holds .ensures (c .before .before .before .before .loop .i + 1)) ∙ not-true _ (c .if1 .taken))) ∙ c .before .before .before .before .loop .inv .1
+returns c = sym (wrong-here (c .before .before .before .before .before .before .before .args .set) (now (c .before .before .before .before .before .before .before .args .lines)) (now (c .before .before .before .before .before .before .before .args .body)) (c .before .before .before .before .loop .i + 1) (c .before .before .before .before .loop .i) (search needs) (sym (c .before .line-holds .ensures (c .before .before .before .before .loop .i + 1)) ∙ not-true _ (c .if1 .taken))) ∙ c .before .before .before .before .loop .inv .1
 
 add-i : tie.Need-add-i Inv-loop μ-loop
 add-i c = search needs
@@ -45,10 +45,10 @@ loop-less : tie.Need-loop-less Inv-loop μ-loop
 loop-less c = search needs
 
 loop-again : tie.Need-loop-again Inv-loop μ-loop
-loop-again c = (search needs, sym (wrong-later (now (c .before .before .before .before .before .before .before .args .lines)) (now (c .before .before .before .before .before .before .before .args .body)) (c .before .before .before .before .loop .i + 1) (c .before .before .before .before .loop .i) (search needs) (sym (c .before .line-holds .ensures (c .before .before .before .before .loop .i + 1)) ∙ not-false _ (c .if1 .left))) ∙ c .before .before .before .before .loop .inv .1)
+loop-again c = (search needs, sym (wrong-later (c .before .before .before .before .before .before .before .args .set) (now (c .before .before .before .before .before .before .before .args .lines)) (now (c .before .before .before .before .before .before .before .args .body)) (c .before .before .before .before .loop .i + 1) (c .before .before .before .before .loop .i) (search needs) (sym (c .before .line-holds .ensures (c .before .before .before .before .loop .i + 1)) ∙ not-false _ (c .if1 .left))) ∙ c .before .before .before .before .loop .inv .1)
 
 returns-2 : tie.Need-returns-2 Inv-loop μ-loop
-returns-2 c = sym (wrong-none (now (c .before .before .before .before .args .lines)) (now (c .before .before .before .before .args .body)) (c .before .loop .i + 1) (c .before .loop .i) (search needs)) ∙ c .before .loop .inv .1
+returns-2 c = sym (wrong-none (c .before .before .before .before .args .set) (now (c .before .before .before .before .args .lines)) (now (c .before .before .before .before .args .body)) (c .before .loop .i + 1) (c .before .loop .i) (search needs)) ∙ c .before .loop .inv .1
 
 pub first-wrong-spec : {M : Type 1} → statement M
 first-wrong-spec =

@@ -16,13 +16,13 @@ use Rattle.judge.proofs.first_wrong_part.Statement.{statement}
 use Rattle.judge.proofs.first_wrong_part.Tie as tie
 
 abbrev Inv-loop : tie.InvT-loop
-Inv-loop first parts start body at₀ i₀ at i = (i ≤ length parts) × (firstWrongPart (sizedFrom (first + i) (drop i parts)) body (drop at body) ≡ firstWrongPart (sizedFrom first parts) body (drop start body))
+Inv-loop set first parts start body at₀ i₀ at i = (i ≤ length parts) × (firstWrongPart set (sizedFrom (first + i) (drop i parts)) body (drop at body) ≡ firstWrongPart set (sizedFrom first parts) body (drop start body))
 
 abbrev μ-loop : tie.MeasureT-loop
-μ-loop first parts start body at₀ i₀ at i = length parts - i
+μ-loop set first parts start body at₀ i₀ at i = length parts - i
 
 loop-holds : tie.Need-loop-holds Inv-loop μ-loop
-loop-holds c = (search needs, ap (λ (k : ℕ). firstWrongPart (sizedFrom k (now (c .before .before .args .parts))) (now (c .before .before .args .body)) (drop (c .before .before .args .start) (now (c .before .before .args .body)))) (add-zero (c .before .before .args .first)))
+loop-holds c = (search needs, ap (λ (k : ℕ). firstWrongPart (c .before .before .args .set) (sizedFrom k (now (c .before .before .args .parts))) (now (c .before .before .args .body)) (drop (c .before .before .args .start) (now (c .before .before .args .body)))) (add-zero (c .before .before .args .first)))
 
 mul-packed : tie.Need-mul-packed Inv-loop μ-loop
 mul-packed c = search needs
@@ -46,7 +46,7 @@ add-result : tie.Need-add-result Inv-loop μ-loop
 add-result c = search needs
 
 returns : tie.Need-returns Inv-loop μ-loop
-returns c = sym (part-wrong (now (c .before .before .before .before .before .before .before .before .before .before .args .parts)) (now (c .before .before .before .before .before .before .before .before .before .before .args .body)) (c .before .before .before .before .before .before .before .before .before .before .args .first + c .before .before .before .before .before .before .before .loop .i) (c .before .before .before .before .before .before .before .loop .i) (drop (c .before .before .before .before .before .before .before .loop .at) (now (c .before .before .before .before .before .before .before .before .before .before .args .body))) (search needs) (rw (sym (c .before .before .before .before .stated-size .ensures (c .before .before .before .before .before .before .before .before .before .before .args .first + c .before .before .before .before .before .before .before .loop .i)), sym (c .before .before .part-of .ensures), sym (c .before .before .before .data-type-of .ensures)) (sym (c .before .of-type .ensures) ∙ not-true _ (c .if1 .taken)))) ∙ c .before .before .before .before .before .before .before .loop .inv .1
+returns c = sym (part-wrong (c .before .before .before .before .before .before .before .before .before .before .args .set) (now (c .before .before .before .before .before .before .before .before .before .before .args .parts)) (now (c .before .before .before .before .before .before .before .before .before .before .args .body)) (c .before .before .before .before .before .before .before .before .before .before .args .first + c .before .before .before .before .before .before .before .loop .i) (c .before .before .before .before .before .before .before .loop .i) (drop (c .before .before .before .before .before .before .before .loop .at) (now (c .before .before .before .before .before .before .before .before .before .before .args .body))) (search needs) (rw (sym (c .before .before .before .before .stated-size .ensures (c .before .before .before .before .before .before .before .before .before .before .args .first + c .before .before .before .before .before .before .before .loop .i)), sym (c .before .before .part-of .ensures), sym (c .before .before .before .data-type-of .ensures)) (sym (c .before .of-type .ensures) ∙ not-true _ (c .if1 .taken)))) ∙ c .before .before .before .before .before .before .before .loop .inv .1
 
 past-requires : tie.Need-past-requires Inv-loop μ-loop
 past-requires c κs = search needs
@@ -58,10 +58,10 @@ loop-less : tie.Need-loop-less Inv-loop μ-loop
 loop-less c = search needs
 
 loop-again : tie.Need-loop-again Inv-loop μ-loop
-loop-again c = (search needs, rw (c .past .ensures, c .before .before .before .before .before .stated-size .ensures (c .before .before .before .before .before .before .before .before .before .before .before .args .first + c .before .before .before .before .before .before .before .before .loop .i), sym (add-assoc (c .before .before .before .before .before .before .before .before .before .before .before .args .first) (c .before .before .before .before .before .before .before .before .loop .i) 1)) (ap (λ (l : List ℕ). firstWrongPart (sizedFrom ((c .before .before .before .before .before .before .before .before .before .before .before .args .first + c .before .before .before .before .before .before .before .before .loop .i) + 1) (drop (c .before .before .before .before .before .before .before .before .loop .i + 1) (now (c .before .before .before .before .before .before .before .before .before .before .before .args .parts)))) (now (c .before .before .before .before .before .before .before .before .before .before .before .args .body)) l) (sym (past-part (now (c .before .before .before .before .before .before .before .before .before .before .before .args .body)) (c .before .before .before .before .before .before .before .before .loop .at) (statedSize (sizedOf (c .before .before .before .before .before .before .before .before .before .before .before .args .first + c .before .before .before .before .before .before .before .before .loop .i) (getD (now (c .before .before .before .before .before .before .before .before .before .before .before .args .parts)) (c .before .before .before .before .before .before .before .before .loop .i) 0)) (now (c .before .before .before .before .before .before .before .before .before .before .before .args .body))))) ∙ sym (part-right (now (c .before .before .before .before .before .before .before .before .before .before .before .args .parts)) (now (c .before .before .before .before .before .before .before .before .before .before .before .args .body)) (c .before .before .before .before .before .before .before .before .before .before .before .args .first + c .before .before .before .before .before .before .before .before .loop .i) (c .before .before .before .before .before .before .before .before .loop .i) (drop (c .before .before .before .before .before .before .before .before .loop .at) (now (c .before .before .before .before .before .before .before .before .before .before .before .args .body))) (search needs) (rw (sym (c .before .before .before .before .before .stated-size .ensures (c .before .before .before .before .before .before .before .before .before .before .before .args .first + c .before .before .before .before .before .before .before .before .loop .i)), sym (c .before .before .before .part-of .ensures), sym (c .before .before .before .before .data-type-of .ensures)) (sym (c .before .before .of-type .ensures) ∙ not-false _ (c .before .if1 .left)))) ∙ c .before .before .before .before .before .before .before .before .loop .inv .1))
+loop-again c = (search needs, rw (c .past .ensures, c .before .before .before .before .before .stated-size .ensures (c .before .before .before .before .before .before .before .before .before .before .before .args .first + c .before .before .before .before .before .before .before .before .loop .i), sym (add-assoc (c .before .before .before .before .before .before .before .before .before .before .before .args .first) (c .before .before .before .before .before .before .before .before .loop .i) 1)) (ap (λ (l : List ℕ). firstWrongPart (c .before .before .before .before .before .before .before .before .before .before .before .args .set) (sizedFrom ((c .before .before .before .before .before .before .before .before .before .before .before .args .first + c .before .before .before .before .before .before .before .before .loop .i) + 1) (drop (c .before .before .before .before .before .before .before .before .loop .i + 1) (now (c .before .before .before .before .before .before .before .before .before .before .before .args .parts)))) (now (c .before .before .before .before .before .before .before .before .before .before .before .args .body)) l) (sym (past-part (now (c .before .before .before .before .before .before .before .before .before .before .before .args .body)) (c .before .before .before .before .before .before .before .before .loop .at) (statedSize (c .before .before .before .before .before .before .before .before .before .before .before .args .set) (sizedOf (c .before .before .before .before .before .before .before .before .before .before .before .args .first + c .before .before .before .before .before .before .before .before .loop .i) (getD (now (c .before .before .before .before .before .before .before .before .before .before .before .args .parts)) (c .before .before .before .before .before .before .before .before .loop .i) 0)) (now (c .before .before .before .before .before .before .before .before .before .before .before .args .body))))) ∙ sym (part-right (c .before .before .before .before .before .before .before .before .before .before .before .args .set) (now (c .before .before .before .before .before .before .before .before .before .before .before .args .parts)) (now (c .before .before .before .before .before .before .before .before .before .before .before .args .body)) (c .before .before .before .before .before .before .before .before .before .before .before .args .first + c .before .before .before .before .before .before .before .before .loop .i) (c .before .before .before .before .before .before .before .before .loop .i) (drop (c .before .before .before .before .before .before .before .before .loop .at) (now (c .before .before .before .before .before .before .before .before .before .before .before .args .body))) (search needs) (rw (sym (c .before .before .before .before .before .stated-size .ensures (c .before .before .before .before .before .before .before .before .before .before .before .args .first + c .before .before .before .before .before .before .before .before .loop .i)), sym (c .before .before .before .part-of .ensures), sym (c .before .before .before .before .data-type-of .ensures)) (sym (c .before .before .of-type .ensures) ∙ not-false _ (c .before .if1 .left)))) ∙ c .before .before .before .before .before .before .before .before .loop .inv .1))
 
 returns-2 : tie.Need-returns-2 Inv-loop μ-loop
-returns-2 c = sym (part-none (now (c .before .before .before .before .args .parts)) (now (c .before .before .before .before .args .body)) (c .before .before .before .before .args .first + c .before .loop .i) (c .before .loop .i) (drop (c .before .loop .at) (now (c .before .before .before .before .args .body))) (search needs)) ∙ c .before .loop .inv .1
+returns-2 c = sym (part-none (c .before .before .before .before .args .set) (now (c .before .before .before .before .args .parts)) (now (c .before .before .before .before .args .body)) (c .before .before .before .before .args .first + c .before .loop .i) (c .before .loop .i) (drop (c .before .loop .at) (now (c .before .before .before .before .args .body))) (search needs)) ∙ c .before .loop .inv .1
 
 pub first-wrong-part-spec : {M : Type 1} → statement M
 first-wrong-part-spec =

@@ -20,11 +20,11 @@ slice-aggregate-sizes-before c = search needs
 
 sizes-before-requires : tie.Need-sizes-before-requires
 unfolding statedSizes
-sizes-before-requires c κs = (search needs, omega (arith, sound-fills 139 (imageViewData .lines) (sizedParts imageViewData) (now (c .before .before .args .body)) (c .before .before .pre .0)))
+sizes-before-requires c κs = (search needs, omega (arith, sound-fills (c .before .before .args .set) 139 (imageViewData .lines) (sizedParts imageViewData) (now (c .before .before .args .body)) (c .before .before .pre .0)))
 
 add-result : tie.Need-add-result
 unfolding statedSizes
-add-result c = omega (arith, sound-fills 139 (imageViewData .lines) (sizedParts imageViewData) (now (c .before .before .before .args .body)) (c .before .before .before .pre .0), c .sizes-before .ensures 22)
+add-result c = omega (arith, sound-fills (c .before .before .before .args .set) 139 (imageViewData .lines) (sizedParts imageViewData) (now (c .before .before .before .args .body)) (c .before .before .before .pre .0), c .sizes-before .ensures 22)
 
 returns : tie.Need-returns
 returns c = ap (λ (k : ℕ). 139 + k) (c .sizes-before .ensures 22)

@@ -38,7 +38,7 @@ sizes-fill-requires c κs = search needs
 
 returns-4 : tie.Need-returns-4
 unfolding judged
-returns-4 c = simp (le-leb (c .before .before .before .before .before .before .before .before .before .args .fixed) (length (now (c .before .before .before .before .before .before .before .before .before .args .body))) (c .before .before .before .before .before .if1 .left), length-allowed (now (c .before .before .before .before .before .before .before .before .before .args .parts)) (length (now (c .before .before .before .before .before .before .before .before .before .args .lines)) + 1) (length (now (c .before .before .before .before .before .before .before .before .before .args .body))) (c .before .before .before .before .before .before .before .before .before .args .fixed) ∙ ap not (c .before .before .before .before .if2 .left), sym (c .before .before .before .first-wrong .ensures) ∙ c .before .before .if3 .left, eqb-sub (length (now (c .before .before .before .before .before .before .before .before .before .args .body))) (c .before .before .before .before .before .before .before .before .before .args .fixed) (statedSizes (sizedFrom (length (now (c .before .before .before .before .before .before .before .before .before .args .lines)) + 1) (now (c .before .before .before .before .before .before .before .before .before .args .parts))) (now (c .before .before .before .before .before .before .before .before .before .args .body))) (c .before .before .before .before .before .if1 .left) ∙ sym (c .before .sizes-fill .ensures (length (now (c .before .before .before .before .before .before .before .before .before .args .lines)) + 1)) ∙ not-true _ (c .if4 .taken))
+returns-4 c = simp (le-leb (c .before .before .before .before .before .before .before .before .before .args .fixed) (length (now (c .before .before .before .before .before .before .before .before .before .args .body))) (c .before .before .before .before .before .if1 .left), length-allowed (now (c .before .before .before .before .before .before .before .before .before .args .parts)) (length (now (c .before .before .before .before .before .before .before .before .before .args .lines)) + 1) (length (now (c .before .before .before .before .before .before .before .before .before .args .body))) (c .before .before .before .before .before .before .before .before .before .args .fixed) ∙ ap not (c .before .before .before .before .if2 .left), sym (c .before .before .before .first-wrong .ensures) ∙ c .before .before .if3 .left, eqb-sub (length (now (c .before .before .before .before .before .before .before .before .before .args .body))) (c .before .before .before .before .before .before .before .before .before .args .fixed) (statedSizes (c .before .before .before .before .before .before .before .before .before .args .set) (sizedFrom (length (now (c .before .before .before .before .before .before .before .before .before .args .lines)) + 1) (now (c .before .before .before .before .before .before .before .before .before .args .parts))) (now (c .before .before .before .before .before .before .before .before .before .args .body))) (c .before .before .before .before .before .if1 .left) ∙ sym (c .before .sizes-fill .ensures (length (now (c .before .before .before .before .before .before .before .before .before .args .lines)) + 1)) ∙ not-true _ (c .if4 .taken))
 
 add-first-wrong-part : tie.Need-add-first-wrong-part
 add-first-wrong-part c = search needs
@@ -48,11 +48,11 @@ first-wrong-part-requires c κs = search needs
 
 returns-5 : tie.Need-returns-5
 unfolding judged
-returns-5 c = simp (le-leb (c .before .before .before .before .before .before .before .before .before .before .before .args .fixed) (length (now (c .before .before .before .before .before .before .before .before .before .before .before .args .body))) (c .before .before .before .before .before .before .before .if1 .left), length-allowed (now (c .before .before .before .before .before .before .before .before .before .before .before .args .parts)) (length (now (c .before .before .before .before .before .before .before .before .before .before .before .args .lines)) + 1) (length (now (c .before .before .before .before .before .before .before .before .before .before .before .args .body))) (c .before .before .before .before .before .before .before .before .before .before .before .args .fixed) ∙ ap not (c .before .before .before .before .before .before .if2 .left), sym (c .before .before .before .before .before .first-wrong .ensures) ∙ c .before .before .before .before .if3 .left, eqb-sub (length (now (c .before .before .before .before .before .before .before .before .before .before .before .args .body))) (c .before .before .before .before .before .before .before .before .before .before .before .args .fixed) (statedSizes (sizedFrom (length (now (c .before .before .before .before .before .before .before .before .before .before .before .args .lines)) + 1) (now (c .before .before .before .before .before .before .before .before .before .before .before .args .parts))) (now (c .before .before .before .before .before .before .before .before .before .before .before .args .body))) (c .before .before .before .before .before .before .before .if1 .left) ∙ sym (c .before .before .before .sizes-fill .ensures (length (now (c .before .before .before .before .before .before .before .before .before .before .before .args .lines)) + 1)) ∙ not-false _ (c .before .before .if4 .left), sym (c .before .first-wrong-part .ensures), ne-eqb _ _ (c .if5 .taken))
+returns-5 c = simp (le-leb (c .before .before .before .before .before .before .before .before .before .before .before .args .fixed) (length (now (c .before .before .before .before .before .before .before .before .before .before .before .args .body))) (c .before .before .before .before .before .before .before .if1 .left), length-allowed (now (c .before .before .before .before .before .before .before .before .before .before .before .args .parts)) (length (now (c .before .before .before .before .before .before .before .before .before .before .before .args .lines)) + 1) (length (now (c .before .before .before .before .before .before .before .before .before .before .before .args .body))) (c .before .before .before .before .before .before .before .before .before .before .before .args .fixed) ∙ ap not (c .before .before .before .before .before .before .if2 .left), sym (c .before .before .before .before .before .first-wrong .ensures) ∙ c .before .before .before .before .if3 .left, eqb-sub (length (now (c .before .before .before .before .before .before .before .before .before .before .before .args .body))) (c .before .before .before .before .before .before .before .before .before .before .before .args .fixed) (statedSizes (c .before .before .before .before .before .before .before .before .before .before .before .args .set) (sizedFrom (length (now (c .before .before .before .before .before .before .before .before .before .before .before .args .lines)) + 1) (now (c .before .before .before .before .before .before .before .before .before .before .before .args .parts))) (now (c .before .before .before .before .before .before .before .before .before .before .before .args .body))) (c .before .before .before .before .before .before .before .if1 .left) ∙ sym (c .before .before .before .sizes-fill .ensures (length (now (c .before .before .before .before .before .before .before .before .before .before .before .args .lines)) + 1)) ∙ not-false _ (c .before .before .if4 .left), sym (c .before .first-wrong-part .ensures), ne-eqb _ _ (c .if5 .taken))
 
 returns-6 : tie.Need-returns-6
 unfolding judged
-returns-6 c = simp (le-leb (c .before .before .before .before .before .before .before .before .before .before .before .args .fixed) (length (now (c .before .before .before .before .before .before .before .before .before .before .before .args .body))) (c .before .before .before .before .before .before .before .if1 .left), length-allowed (now (c .before .before .before .before .before .before .before .before .before .before .before .args .parts)) (length (now (c .before .before .before .before .before .before .before .before .before .before .before .args .lines)) + 1) (length (now (c .before .before .before .before .before .before .before .before .before .before .before .args .body))) (c .before .before .before .before .before .before .before .before .before .before .before .args .fixed) ∙ ap not (c .before .before .before .before .before .before .if2 .left), sym (c .before .before .before .before .before .first-wrong .ensures) ∙ c .before .before .before .before .if3 .left, eqb-sub (length (now (c .before .before .before .before .before .before .before .before .before .before .before .args .body))) (c .before .before .before .before .before .before .before .before .before .before .before .args .fixed) (statedSizes (sizedFrom (length (now (c .before .before .before .before .before .before .before .before .before .before .before .args .lines)) + 1) (now (c .before .before .before .before .before .before .before .before .before .before .before .args .parts))) (now (c .before .before .before .before .before .before .before .before .before .before .before .args .body))) (c .before .before .before .before .before .before .before .if1 .left) ∙ sym (c .before .before .before .sizes-fill .ensures (length (now (c .before .before .before .before .before .before .before .before .before .before .before .args .lines)) + 1)) ∙ not-false _ (c .before .before .if4 .left), sym (c .before .first-wrong-part .ensures) ∙ c .if5 .left)
+returns-6 c = simp (le-leb (c .before .before .before .before .before .before .before .before .before .before .before .args .fixed) (length (now (c .before .before .before .before .before .before .before .before .before .before .before .args .body))) (c .before .before .before .before .before .before .before .if1 .left), length-allowed (now (c .before .before .before .before .before .before .before .before .before .before .before .args .parts)) (length (now (c .before .before .before .before .before .before .before .before .before .before .before .args .lines)) + 1) (length (now (c .before .before .before .before .before .before .before .before .before .before .before .args .body))) (c .before .before .before .before .before .before .before .before .before .before .before .args .fixed) ∙ ap not (c .before .before .before .before .before .before .if2 .left), sym (c .before .before .before .before .before .first-wrong .ensures) ∙ c .before .before .before .before .if3 .left, eqb-sub (length (now (c .before .before .before .before .before .before .before .before .before .before .before .args .body))) (c .before .before .before .before .before .before .before .before .before .before .before .args .fixed) (statedSizes (c .before .before .before .before .before .before .before .before .before .before .before .args .set) (sizedFrom (length (now (c .before .before .before .before .before .before .before .before .before .before .before .args .lines)) + 1) (now (c .before .before .before .before .before .before .before .before .before .before .before .args .parts))) (now (c .before .before .before .before .before .before .before .before .before .before .before .args .body))) (c .before .before .before .before .before .before .before .if1 .left) ∙ sym (c .before .before .before .sizes-fill .ensures (length (now (c .before .before .before .before .before .before .before .before .before .before .before .args .lines)) + 1)) ∙ not-false _ (c .before .before .if4 .left), sym (c .before .first-wrong-part .ensures) ∙ c .if5 .left)
 
 pub judge-body-spec : {M : Type 1} → statement M
 judge-body-spec =

@@ -12,7 +12,7 @@ use Rattle.judge.proofs.judge_by.Statement.{statement}
 use Rattle.judge.proofs.judge_by.Tie as tie
 
 returns : tie.Need-returns
-returns c = own-nothing (c .before .before .before .args .own .now) (search needs) (c .before .before .before .args .body .now)
+returns c = own-nothing (c .before .before .before .args .set) (c .before .before .before .args .own .now) (search needs) (c .before .before .before .args .body .now)
 
 shared-slice-read-header : tie.Need-shared-slice-read-header
 shared-slice-read-header c = search needs
@@ -55,15 +55,15 @@ part-judge-body-end-2 c = let w : Whole (c .before .before .before .before .befo
 
 judge-body-requires : tie.Need-judge-body-requires
 judge-body-requires c κs = (
-  few-lent (c .before .before .before .before .before .before .before .before .before .args .own .now) (c .before .before .before .before .fields-in .result + 1 - c .before .before .before .parts-in .result) (c .before .before .before .before .fields-in .result + 1) (not-none (length (c .before .before .before .before .before .before .before .before .before .args .own .now)) (c .before .before .before .before .before .before .if1 .left)) (c .before .before .before .before .before .before .before .before .before .pre) (ap (λ (k : ℕ). k + 1) (c .before .before .before .before .fields-in .ensures)) (ap (λ (k : ℕ). c .before .before .before .before .fields-in .result + 1 - k) (c .before .before .before .parts-in .ensures)),
-  subst (λ (n : ℕ). every (liesWithin n) (take ((c .before .before .before .before .fields-in .result + 1 - c .before .before .before .parts-in .result) - 1) (drop 1 (c .before .before .before .before .before .before .before .before .before .args .own .now))) ≡ true) (sym (c .before .before .length-in .ensures)) (lines-within (c .before .before .before .before .before .before .before .before .before .args .own .now) (c .before .before .before .before .fields-in .result + 1 - c .before .before .before .parts-in .result) (c .before .before .before .before .fields-in .result + 1) (not-none (length (c .before .before .before .before .before .before .before .before .before .args .own .now)) (c .before .before .before .before .before .before .if1 .left)) (c .before .before .before .before .before .before .before .before .before .pre) (ap (λ (k : ℕ). k + 1) (c .before .before .before .before .fields-in .ensures)) (ap (λ (k : ℕ). c .before .before .before .before .fields-in .result + 1 - k) (c .before .before .before .parts-in .ensures))),
+  few-lent (c .before .before .before .before .before .before .before .before .before .args .set) (c .before .before .before .before .before .before .before .before .before .args .own .now) (c .before .before .before .before .fields-in .result + 1 - c .before .before .before .parts-in .result) (c .before .before .before .before .fields-in .result + 1) (not-none (length (c .before .before .before .before .before .before .before .before .before .args .own .now)) (c .before .before .before .before .before .before .if1 .left)) (c .before .before .before .before .before .before .before .before .before .pre) (ap (λ (k : ℕ). k + 1) (c .before .before .before .before .fields-in .ensures)) (ap (λ (k : ℕ). c .before .before .before .before .fields-in .result + 1 - k) (c .before .before .before .parts-in .ensures)),
+  subst (λ (n : ℕ). every (liesWithin n) (take ((c .before .before .before .before .fields-in .result + 1 - c .before .before .before .parts-in .result) - 1) (drop 1 (c .before .before .before .before .before .before .before .before .before .args .own .now))) ≡ true) (sym (c .before .before .length-in .ensures)) (lines-within (c .before .before .before .before .before .before .before .before .before .args .set) (c .before .before .before .before .before .before .before .before .before .args .own .now) (c .before .before .before .before .fields-in .result + 1 - c .before .before .before .parts-in .result) (c .before .before .before .before .fields-in .result + 1) (not-none (length (c .before .before .before .before .before .before .before .before .before .args .own .now)) (c .before .before .before .before .before .before .if1 .left)) (c .before .before .before .before .before .before .before .before .before .pre) (ap (λ (k : ℕ). k + 1) (c .before .before .before .before .fields-in .ensures)) (ap (λ (k : ℕ). c .before .before .before .before .fields-in .result + 1 - k) (c .before .before .before .parts-in .ensures))),
 )
 
 returns-2 : tie.Need-returns-2
 returns-2 c =
     c .judge-body .ensures
-    ∙ ap (λ (n : ℕ). judged n (linesFrom 1 (take ((c .before .before .before .before .before .fields-in .result + 1 - c .before .before .before .before .parts-in .result) - 1) (drop 1 (c .before .before .before .before .before .before .before .before .before .before .args .own .now)))) (sizedFrom (length (take ((c .before .before .before .before .before .fields-in .result + 1 - c .before .before .before .before .parts-in .result) - 1) (drop 1 (c .before .before .before .before .before .before .before .before .before .before .args .own .now))) + 1) (take ((c .before .before .before .before .before .fields-in .result + 1) - (c .before .before .before .before .before .fields-in .result + 1 - c .before .before .before .before .parts-in .result)) (drop (c .before .before .before .before .before .fields-in .result + 1 - c .before .before .before .before .parts-in .result) (c .before .before .before .before .before .before .before .before .before .before .args .own .now)))) (c .before .before .before .before .before .before .before .before .before .before .args .body .now)) (c .before .before .before .length-in .ensures)
-    ∙ own-judged (c .before .before .before .before .before .before .before .before .before .before .args .own .now) (c .before .before .before .before .before .fields-in .result + 1 - c .before .before .before .before .parts-in .result) (c .before .before .before .before .before .fields-in .result + 1) (not-none (length (c .before .before .before .before .before .before .before .before .before .before .args .own .now)) (c .before .before .before .before .before .before .before .if1 .left)) (c .before .before .before .before .before .before .before .before .before .before .pre) (ap (λ (k : ℕ). k + 1) (c .before .before .before .before .before .fields-in .ensures)) (ap (λ (k : ℕ). c .before .before .before .before .before .fields-in .result + 1 - k) (c .before .before .before .before .parts-in .ensures)) (c .before .before .before .before .before .before .before .before .before .before .args .body .now)
+    ∙ ap (λ (n : ℕ). judged (c .before .before .before .before .before .before .before .before .before .before .args .set) n (linesFrom 1 (take ((c .before .before .before .before .before .fields-in .result + 1 - c .before .before .before .before .parts-in .result) - 1) (drop 1 (c .before .before .before .before .before .before .before .before .before .before .args .own .now)))) (sizedFrom (length (take ((c .before .before .before .before .before .fields-in .result + 1 - c .before .before .before .before .parts-in .result) - 1) (drop 1 (c .before .before .before .before .before .before .before .before .before .before .args .own .now))) + 1) (take ((c .before .before .before .before .before .fields-in .result + 1) - (c .before .before .before .before .before .fields-in .result + 1 - c .before .before .before .before .parts-in .result)) (drop (c .before .before .before .before .before .fields-in .result + 1 - c .before .before .before .before .parts-in .result) (c .before .before .before .before .before .before .before .before .before .before .args .own .now)))) (c .before .before .before .before .before .before .before .before .before .before .args .body .now)) (c .before .before .before .length-in .ensures)
+    ∙ own-judged (c .before .before .before .before .before .before .before .before .before .before .args .set) (c .before .before .before .before .before .before .before .before .before .before .args .own .now) (c .before .before .before .before .before .fields-in .result + 1 - c .before .before .before .before .parts-in .result) (c .before .before .before .before .before .fields-in .result + 1) (not-none (length (c .before .before .before .before .before .before .before .before .before .before .args .own .now)) (c .before .before .before .before .before .before .before .if1 .left)) (c .before .before .before .before .before .before .before .before .before .before .pre) (ap (λ (k : ℕ). k + 1) (c .before .before .before .before .before .fields-in .ensures)) (ap (λ (k : ℕ). c .before .before .before .before .before .fields-in .result + 1 - k) (c .before .before .before .before .parts-in .ensures)) (c .before .before .before .before .before .before .before .before .before .before .args .body .now)
 
 pub judge-by-spec : {M : Type 1} → statement M
 judge-by-spec =

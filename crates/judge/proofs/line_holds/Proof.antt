@@ -25,7 +25,7 @@ returns : tie.Need-returns
 unfolding lineHolds
 returns c =
     λ n. rw (sym (c .before .before .usage-of .ensures), sym (c .before .before .before .before .place-of .ensures), sym (c .before .before .before .part-within .ensures))
-    (sym (blank-holds _ _ _ _ _ (sym (c .before .is-left-blank .ensures) ∙ c .if1 .taken)))
+    (sym (blank-holds (c .before .before .before .before .before .before .args .set) _ _ _ _ _ (sym (c .before .is-left-blank .ensures) ∙ c .if1 .taken)))
 
 data-type-of-requires : tie.Need-data-type-of-requires
 data-type-of-requires c κs = search needs
@@ -37,7 +37,7 @@ returns-2 : tie.Need-returns-2
 unfolding lineHolds
 returns-2 c =
     λ n. rw (sym (c .before .before .before .before .before .usage-of .ensures), sym (c .before .before .data-type-of .ensures), sym (c .before .before .before .before .before .before .before .place-of .ensures), sym (c .before .before .before .before .before .before .part-within .ensures))
-    (sym (other-type-fails _ _ _ _ _ (sym (c .before .before .before .before .is-left-blank .ensures) ∙ c .before .before .before .if1 .left)
+    (sym (other-type-fails (c .before .before .before .before .before .before .before .before .before .args .set) _ _ _ _ _ (sym (c .before .before .before .before .is-left-blank .ensures) ∙ c .before .before .before .if1 .left)
     (sym (c .before .of-type .ensures) ∙ not-true _ (c .if2 .taken))))
 
 rule-of-requires : tie.Need-rule-of-requires
@@ -57,7 +57,7 @@ returns-3 c =
       sym (c .before .before .before .before .before .before .before .before .part-within .ensures),
     )
     (c .rule-holds .ensures
-    ∙ sym (rule-decides _ _ _ _ _ (sym (c .before .before .before .before .before .before .is-left-blank .ensures) ∙ c .before .before .before .before .before .if1 .left)
+    ∙ sym (rule-decides (c .before .before .before .before .before .before .before .before .before .before .before .args .set) _ _ _ _ _ (sym (c .before .before .before .before .before .before .is-left-blank .ensures) ∙ c .before .before .before .before .before .if1 .left)
     (sym (c .before .before .before .of-type .ensures) ∙ not-false _ (c .before .before .if2 .left))))
 
 pub line-holds-spec : {M : Type 1} → statement M

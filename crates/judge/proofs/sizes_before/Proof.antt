@@ -14,10 +14,10 @@ use Rattle.judge.proofs.sizes_before.Statement.{statement}
 use Rattle.judge.proofs.sizes_before.Tie as tie
 
 abbrev Inv-loop : tie.InvT-loop
-Inv-loop count parts body sum₀ i₀ sum i = (i ≤ count) × ((n : ℕ) → sum ≡ statedSizes (sizedFrom n (take i parts)) body)
+Inv-loop set count parts body sum₀ i₀ sum i = (i ≤ count) × ((n : ℕ) → sum ≡ statedSizes set (sizedFrom n (take i parts)) body)
 
 abbrev μ-loop : tie.MeasureT-loop
-μ-loop count parts body sum₀ i₀ sum i = count - i
+μ-loop set count parts body sum₀ i₀ sum i = count - i
 
 loop-holds : tie.Need-loop-holds Inv-loop μ-loop
 unfolding statedSizes
@@ -33,7 +33,7 @@ stated-size-requires : tie.Need-stated-size-requires Inv-loop μ-loop
 stated-size-requires c κs = search needs
 
 add-sum : tie.Need-add-sum Inv-loop μ-loop
-add-sum c = omega (arith, sizes-suc (now (c .before .before .before .before .before .before .args .parts)) (now (c .before .before .before .before .before .before .args .body)) 1 (c .before .before .before .loop .i) (search needs), sizes-within (now (c .before .before .before .before .before .before .args .parts)) (now (c .before .before .before .before .before .before .args .body)) 1 (c .before .before .before .loop .i + 1), c .before .before .before .loop .inv .1 1, c .stated-size .ensures 1)
+add-sum c = omega (arith, sizes-suc (c .before .before .before .before .before .before .args .set) (now (c .before .before .before .before .before .before .args .parts)) (now (c .before .before .before .before .before .before .args .body)) 1 (c .before .before .before .loop .i) (search needs), sizes-within (c .before .before .before .before .before .before .args .set) (now (c .before .before .before .before .before .before .args .parts)) (now (c .before .before .before .before .before .before .args .body)) 1 (c .before .before .before .loop .i + 1), c .before .before .before .loop .inv .1 1, c .stated-size .ensures 1)
 
 add-i : tie.Need-add-i Inv-loop μ-loop
 add-i c = search needs
@@ -42,10 +42,10 @@ loop-less : tie.Need-loop-less Inv-loop μ-loop
 loop-less c = search needs
 
 loop-again : tie.Need-loop-again Inv-loop μ-loop
-loop-again c = (search needs, λ n. omega (arith, sizes-suc (now (c .before .before .before .before .before .before .args .parts)) (now (c .before .before .before .before .before .before .args .body)) n (c .before .before .before .loop .i) (search needs), c .before .before .before .loop .inv .1 n, c .stated-size .ensures n))
+loop-again c = (search needs, λ n. omega (arith, sizes-suc (c .before .before .before .before .before .before .args .set) (now (c .before .before .before .before .before .before .args .parts)) (now (c .before .before .before .before .before .before .args .body)) n (c .before .before .before .loop .i) (search needs), c .before .before .before .loop .inv .1 n, c .stated-size .ensures n))
 
 returns : tie.Need-returns Inv-loop μ-loop
-returns c = λ n. let e : c .before .loop .i ≡ c .before .before .before .before .args .count = omega arith in c .before .loop .inv .1 n ∙ ap (λ (k : ℕ). statedSizes (sizedFrom n (take k (now (c .before .before .before .before .args .parts)))) (now (c .before .before .before .before .args .body))) e
+returns c = λ n. let e : c .before .loop .i ≡ c .before .before .before .before .args .count = omega arith in c .before .loop .inv .1 n ∙ ap (λ (k : ℕ). statedSizes (c .before .before .before .before .args .set) (sizedFrom n (take k (now (c .before .before .before .before .args .parts)))) (now (c .before .before .before .before .args .body))) e
 
 pub sizes-before-spec : {M : Type 1} → statement M
 sizes-before-spec =

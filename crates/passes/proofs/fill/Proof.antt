@@ -12,16 +12,19 @@ use Rattle.passes.proofs.fill.Statement.{statement}
 use Rattle.passes.proofs.fill.Tie as tie
 
 abbrev Inv-loop : tie.InvT-loop
-Inv-loop file table₀ s₀ at₀ base₀ table s at base = Fill file table₀ at s base table
+Inv-loop file table₀ set s₀ at₀ base₀ table s at base = Fill set file table₀ at s base table
 
 abbrev μ-loop : tie.MeasureT-loop
-μ-loop file table₀ s₀ at₀ base₀ table s at base = length file - at
+μ-loop file table₀ set s₀ at₀ base₀ table s at base = length file - at
+
+set-of-requires : tie.Need-set-of-requires Inv-loop μ-loop
+set-of-requires c κs = search needs
 
 start-requires : tie.Need-start-requires Inv-loop μ-loop
 start-requires c κs = search needs
 
 loop-holds : tie.Need-loop-holds Inv-loop μ-loop
-loop-holds c = fill-first (now (c .before .before .before .args .file)) (now (c .before .before .before .args .table)) (c .start .result) (c .before .before .before .pre .0) (c .before .before .before .pre .1) (c .start .ensures (now (c .before .before .before .args .file)))
+loop-holds c = fill-first (c .before .set-of .result) (now (c .before .before .before .before .args .file)) (now (c .before .before .before .before .args .table)) (c .start .result) (c .before .set-of .ensures) (c .before .before .before .before .pre .0) (c .before .before .before .before .pre .1) (c .start .ensures (c .before .set-of .result) (now (c .before .before .before .before .args .file)))
 
 at-requires : tie.Need-at-requires Inv-loop μ-loop
 at-requires c κs = search needs
@@ -36,7 +39,7 @@ same-length : tie.Need-same-length Inv-loop μ-loop
 same-length c = c .before .before .before .before .before .loop .inv .long
 
 returns : tie.Need-returns Inv-loop μ-loop
-returns c = fill-cut (now (c .before .before .before .before .before .before .before .before .before .args .file)) (now (c .before .before .before .before .before .before .before .before .before .args .table)) (c .before .before .before .before .before .loop .at) (c .before .before .before .before .before .loop .s) (c .before .before .before .before .before .loop .base) (c .before .before .before .before .before .loop .table) (c .before .before .before .before .before .loop .inv) (c .before .before .before .before .loop-test .taken) (ap (frameAt (now (c .before .before .before .before .before .before .before .before .before .args .file))) (sym (c .before .before .before .at .ensures)) ∙ sym (c .before .before .frame .ensures) ∙ c .enum-told .given .1)
+returns c = fill-cut (c .before .before .before .before .before .before .before .set-of .result) (now (c .before .before .before .before .before .before .before .before .before .before .args .file)) (now (c .before .before .before .before .before .before .before .before .before .before .args .table)) (c .before .before .before .before .before .loop .at) (c .before .before .before .before .before .loop .s) (c .before .before .before .before .before .loop .base) (c .before .before .before .before .before .loop .table) (c .before .before .before .before .before .loop .inv) (c .before .before .before .before .loop-test .taken) (ap (frameAt (now (c .before .before .before .before .before .before .before .before .before .before .args .file))) (sym (c .before .before .before .at .ensures)) ∙ sym (c .before .before .frame .ensures) ∙ c .enum-told .given .1)
 
 enum-known-start : tie.Need-enum-known-start Inv-loop μ-loop
 enum-known-start c = search needs
@@ -48,28 +51,28 @@ type-of-requires : tie.Need-type-of-requires Inv-loop μ-loop
 type-of-requires c κs = search needs
 
 moved-requires : tie.Need-moved-requires Inv-loop μ-loop
-moved-requires c κs = place-roomy (now (c .before .before .before .before .before .before .before .before .before .before .before .before .args .file)) (c .before .before .before .before .before .before .before .before .loop .at) (c .before .before .before .before .before .before .before .before .loop .s) (c .before .before .before .before .before .before .before .before .loop .inv .place)
+moved-requires c κs = place-roomy (c .before .before .before .before .before .before .before .before .before .before .set-of .result) (now (c .before .before .before .before .before .before .before .before .before .before .before .before .before .args .file)) (c .before .before .before .before .before .before .before .before .loop .at) (c .before .before .before .before .before .before .before .before .loop .s) (c .before .before .before .before .before .before .before .before .loop .inv .place)
 
 put-row-requires : tie.Need-put-row-requires Inv-loop μ-loop
-put-row-requires c κs = (fill-room (now (c .before .before .before .before .before .before .before .before .before .before .before .before .before .before .args .file)) (now (c .before .before .before .before .before .before .before .before .before .before .before .before .before .before .args .table)) (c .before .before .before .before .before .before .before .before .before .before .loop .at) (c .before .before .before .before .before .before .before .before .before .before .loop .s) (c .before .before .before .before .before .before .before .before .before .before .loop .base) (c .before .before .before .before .before .before .before .before .before .before .loop .table) (c .before .before .before .before .before .before .before .before .before .before .loop .inv) (c .before .before .before .before .before .before .before .before .before .loop-test .taken) _ _ (c .before .before .type-of .result) (ap (frameAt (now (c .before .before .before .before .before .before .before .before .before .before .before .before .before .before .args .file))) (sym (c .before .before .before .before .before .before .before .before .at .ensures)) ∙ sym (c .before .before .before .before .before .before .before .frame .ensures) ∙ c .before .before .before .before .before .start2 .given .1) (ap typeOf (sym (c .before .before .before .part-of .ensures)) ∙ sym (c .before .before .type-of .ensures)), moves-stopped (now (c .before .before .before .before .before .before .before .before .before .before .before .before .before .before .args .file)) (c .before .before .before .before .before .before .before .before .before .before .loop .at) (c .before .before .before .before .before .before .before .before .before .before .loop .s) (c .before .before .before .before .before .before .before .before .before .before .loop .inv .place) (c .before .before .type-of .result) (c .before .moved .result) (c .before .moved .ensures))
+put-row-requires c κs = (fill-room (c .before .before .before .before .before .before .before .before .before .before .before .before .set-of .result) (now (c .before .before .before .before .before .before .before .before .before .before .before .before .before .before .before .args .file)) (now (c .before .before .before .before .before .before .before .before .before .before .before .before .before .before .before .args .table)) (c .before .before .before .before .before .before .before .before .before .before .loop .at) (c .before .before .before .before .before .before .before .before .before .before .loop .s) (c .before .before .before .before .before .before .before .before .before .before .loop .base) (c .before .before .before .before .before .before .before .before .before .before .loop .table) (c .before .before .before .before .before .before .before .before .before .before .loop .inv) (c .before .before .before .before .before .before .before .before .before .loop-test .taken) _ _ (c .before .before .type-of .result) (ap (frameAt (now (c .before .before .before .before .before .before .before .before .before .before .before .before .before .before .before .args .file))) (sym (c .before .before .before .before .before .before .before .before .at .ensures)) ∙ sym (c .before .before .before .before .before .before .before .frame .ensures) ∙ c .before .before .before .before .before .start2 .given .1) (ap (typeOf (c .before .before .before .before .before .before .before .before .before .before .before .before .set-of .result)) (sym (c .before .before .before .part-of .ensures)) ∙ sym (c .before .before .type-of .ensures)), moves-stopped (c .before .before .before .before .before .before .before .before .before .before .before .before .set-of .result) (now (c .before .before .before .before .before .before .before .before .before .before .before .before .before .before .before .args .file)) (c .before .before .before .before .before .before .before .before .before .before .loop .at) (c .before .before .before .before .before .before .before .before .before .before .loop .s) (c .before .before .before .before .before .before .before .before .before .before .loop .inv .place) (c .before .before .type-of .result) (c .before .moved .result) (c .before .moved .ensures))
 
 add-base : tie.Need-add-base Inv-loop μ-loop
-add-base c = let g = fill-room (now (c .before .before .before .before .before .before .before .before .before .before .before .before .before .before .before .before .before .args .file)) (now (c .before .before .before .before .before .before .before .before .before .before .before .before .before .before .before .before .before .args .table)) (c .before .before .before .before .before .before .before .before .before .before .before .before .before .loop .at) (c .before .before .before .before .before .before .before .before .before .before .before .before .before .loop .s) (c .before .before .before .before .before .before .before .before .before .before .before .before .before .loop .base) (c .before .before .before .before .before .before .before .before .before .before .before .before .before .loop .table) (c .before .before .before .before .before .before .before .before .before .before .before .before .before .loop .inv) (c .before .before .before .before .before .before .before .before .before .before .before .before .loop-test .taken) _ _ (c .before .before .before .before .before .type-of .result) (ap (frameAt (now (c .before .before .before .before .before .before .before .before .before .before .before .before .before .before .before .before .before .args .file))) (sym (c .before .before .before .before .before .before .before .before .before .before .before .at .ensures)) ∙ sym (c .before .before .before .before .before .before .before .before .before .before .frame .ensures) ∙ c .before .before .before .before .before .before .before .before .start2 .given .1) (ap typeOf (sym (c .before .before .before .before .before .before .part-of .ensures)) ∙ sym (c .before .before .before .before .before .type-of .ensures)) in omega (arith, g, c .before .before .before .before .before .before .before .before .before .before .before .before .before .loop .inv .long, c .before .before .before .before .before .before .before .before .before .before .before .before .before .before .before .before .before .good)
+add-base c = let g = fill-room (c .before .before .before .before .before .before .before .before .before .before .before .before .before .before .before .set-of .result) (now (c .before .before .before .before .before .before .before .before .before .before .before .before .before .before .before .before .before .before .args .file)) (now (c .before .before .before .before .before .before .before .before .before .before .before .before .before .before .before .before .before .before .args .table)) (c .before .before .before .before .before .before .before .before .before .before .before .before .before .loop .at) (c .before .before .before .before .before .before .before .before .before .before .before .before .before .loop .s) (c .before .before .before .before .before .before .before .before .before .before .before .before .before .loop .base) (c .before .before .before .before .before .before .before .before .before .before .before .before .before .loop .table) (c .before .before .before .before .before .before .before .before .before .before .before .before .before .loop .inv) (c .before .before .before .before .before .before .before .before .before .before .before .before .loop-test .taken) _ _ (c .before .before .before .before .before .type-of .result) (ap (frameAt (now (c .before .before .before .before .before .before .before .before .before .before .before .before .before .before .before .before .before .before .args .file))) (sym (c .before .before .before .before .before .before .before .before .before .before .before .at .ensures)) ∙ sym (c .before .before .before .before .before .before .before .before .before .before .frame .ensures) ∙ c .before .before .before .before .before .before .before .before .start2 .given .1) (ap (typeOf (c .before .before .before .before .before .before .before .before .before .before .before .before .before .before .before .set-of .result)) (sym (c .before .before .before .before .before .before .part-of .ensures)) ∙ sym (c .before .before .before .before .before .type-of .ensures)) in omega (arith, g, c .before .before .before .before .before .before .before .before .before .before .before .before .before .loop .inv .long, c .before .before .before .before .before .before .before .before .before .before .before .before .before .before .before .before .before .before .good)
 
 add-at : tie.Need-add-at Inv-loop μ-loop
-add-at c = let b = whole-start (now (c .before .before .before .before .before .before .before .before .before .before .before .before .before .before .before .before .before .args .file)) (c .before .before .before .before .before .before .before .before .before .before .before .before .before .loop .at) _ _ (ap (frameAt (now (c .before .before .before .before .before .before .before .before .before .before .before .before .before .before .before .before .before .args .file))) (sym (c .before .before .before .before .before .before .before .before .before .before .before .at .ensures)) ∙ sym (c .before .before .before .before .before .before .before .before .before .before .frame .ensures) ∙ c .before .before .before .before .before .before .before .before .start2 .given .1) in let w = whole-within (now (c .before .before .before .before .before .before .before .before .before .before .before .before .before .before .before .before .before .args .file)) (c .before .before .before .before .before .before .before .before .before .before .before .before .before .loop .at) _ _ (ap (frameAt (now (c .before .before .before .before .before .before .before .before .before .before .before .before .before .before .before .before .before .args .file))) (sym (c .before .before .before .before .before .before .before .before .before .before .before .at .ensures)) ∙ sym (c .before .before .before .before .before .before .before .before .before .before .frame .ensures) ∙ c .before .before .before .before .before .before .before .before .start2 .given .1) in omega (arith, w, c .before .before .before .before .before .before .before .before .before .before .before .before .before .loop .inv .place .limit)
+add-at c = let b = whole-start (now (c .before .before .before .before .before .before .before .before .before .before .before .before .before .before .before .before .before .before .args .file)) (c .before .before .before .before .before .before .before .before .before .before .before .before .before .loop .at) _ _ (ap (frameAt (now (c .before .before .before .before .before .before .before .before .before .before .before .before .before .before .before .before .before .before .args .file))) (sym (c .before .before .before .before .before .before .before .before .before .before .before .at .ensures)) ∙ sym (c .before .before .before .before .before .before .before .before .before .before .frame .ensures) ∙ c .before .before .before .before .before .before .before .before .start2 .given .1) in let w = whole-within (now (c .before .before .before .before .before .before .before .before .before .before .before .before .before .before .before .before .before .before .args .file)) (c .before .before .before .before .before .before .before .before .before .before .before .before .before .loop .at) _ _ (ap (frameAt (now (c .before .before .before .before .before .before .before .before .before .before .before .before .before .before .before .before .before .before .args .file))) (sym (c .before .before .before .before .before .before .before .before .before .before .before .at .ensures)) ∙ sym (c .before .before .before .before .before .before .before .before .before .before .frame .ensures) ∙ c .before .before .before .before .before .before .before .before .start2 .given .1) in omega (arith, w, c .before .before .before .before .before .before .before .before .before .before .before .before .before .loop .inv .place .limit)
 
 loop-less : tie.Need-loop-less Inv-loop μ-loop
-loop-less c = let b = whole-start (now (c .before .before .before .before .before .before .before .before .before .before .before .before .before .before .before .before .before .args .file)) (c .before .before .before .before .before .before .before .before .before .before .before .before .before .loop .at) _ _ (ap (frameAt (now (c .before .before .before .before .before .before .before .before .before .before .before .before .before .before .before .before .before .args .file))) (sym (c .before .before .before .before .before .before .before .before .before .before .before .at .ensures)) ∙ sym (c .before .before .before .before .before .before .before .before .before .before .frame .ensures) ∙ c .before .before .before .before .before .before .before .before .start2 .given .1) in let w = whole-within (now (c .before .before .before .before .before .before .before .before .before .before .before .before .before .before .before .before .before .args .file)) (c .before .before .before .before .before .before .before .before .before .before .before .before .before .loop .at) _ _ (ap (frameAt (now (c .before .before .before .before .before .before .before .before .before .before .before .before .before .before .before .before .before .args .file))) (sym (c .before .before .before .before .before .before .before .before .before .before .before .at .ensures)) ∙ sym (c .before .before .before .before .before .before .before .before .before .before .frame .ensures) ∙ c .before .before .before .before .before .before .before .before .start2 .given .1) in omega (arith, w, b)
+loop-less c = let b = whole-start (now (c .before .before .before .before .before .before .before .before .before .before .before .before .before .before .before .before .before .before .args .file)) (c .before .before .before .before .before .before .before .before .before .before .before .before .before .loop .at) _ _ (ap (frameAt (now (c .before .before .before .before .before .before .before .before .before .before .before .before .before .before .before .before .before .before .args .file))) (sym (c .before .before .before .before .before .before .before .before .before .before .before .at .ensures)) ∙ sym (c .before .before .before .before .before .before .before .before .before .before .frame .ensures) ∙ c .before .before .before .before .before .before .before .before .start2 .given .1) in let w = whole-within (now (c .before .before .before .before .before .before .before .before .before .before .before .before .before .before .before .before .before .before .args .file)) (c .before .before .before .before .before .before .before .before .before .before .before .before .before .loop .at) _ _ (ap (frameAt (now (c .before .before .before .before .before .before .before .before .before .before .before .before .before .before .before .before .before .before .args .file))) (sym (c .before .before .before .before .before .before .before .before .before .before .before .at .ensures)) ∙ sym (c .before .before .before .before .before .before .before .before .before .before .frame .ensures) ∙ c .before .before .before .before .before .before .before .before .start2 .given .1) in omega (arith, w, b)
 
 loop-again : tie.Need-loop-again Inv-loop μ-loop
-loop-again c = fill-on (now (c .before .before .before .before .before .before .before .before .before .before .before .before .before .before .before .before .before .args .file)) (now (c .before .before .before .before .before .before .before .before .before .before .before .before .before .before .before .before .before .args .table)) (c .before .before .before .before .before .before .before .before .before .before .before .before .before .loop .at) (c .before .before .before .before .before .before .before .before .before .before .before .before .before .loop .s) (c .before .before .before .before .before .before .before .before .before .before .before .before .before .loop .base) (c .before .before .before .before .before .before .before .before .before .before .before .before .before .loop .table) (c .before .before .before .before .before .before .before .before .before .before .before .before .before .loop .inv) (c .before .before .before .before .before .before .before .before .before .before .before .before .loop-test .taken) _ _ (c .before .before .before .before .before .type-of .result) (ap (frameAt (now (c .before .before .before .before .before .before .before .before .before .before .before .before .before .before .before .before .before .args .file))) (sym (c .before .before .before .before .before .before .before .before .before .before .before .at .ensures)) ∙ sym (c .before .before .before .before .before .before .before .before .before .before .frame .ensures) ∙ c .before .before .before .before .before .before .before .before .start2 .given .1) (ap typeOf (sym (c .before .before .before .before .before .before .part-of .ensures)) ∙ sym (c .before .before .before .before .before .type-of .ensures)) (c .before .before .before .before .moved .result) _ (c .before .before .before .before .moved .ensures) (c .before .before .put-row .ensures)
+loop-again c = fill-on (c .before .before .before .before .before .before .before .before .before .before .before .before .before .before .before .set-of .result) (now (c .before .before .before .before .before .before .before .before .before .before .before .before .before .before .before .before .before .before .args .file)) (now (c .before .before .before .before .before .before .before .before .before .before .before .before .before .before .before .before .before .before .args .table)) (c .before .before .before .before .before .before .before .before .before .before .before .before .before .loop .at) (c .before .before .before .before .before .before .before .before .before .before .before .before .before .loop .s) (c .before .before .before .before .before .before .before .before .before .before .before .before .before .loop .base) (c .before .before .before .before .before .before .before .before .before .before .before .before .before .loop .table) (c .before .before .before .before .before .before .before .before .before .before .before .before .before .loop .inv) (c .before .before .before .before .before .before .before .before .before .before .before .before .loop-test .taken) _ _ (c .before .before .before .before .before .type-of .result) (ap (frameAt (now (c .before .before .before .before .before .before .before .before .before .before .before .before .before .before .before .before .before .before .args .file))) (sym (c .before .before .before .before .before .before .before .before .before .before .before .at .ensures)) ∙ sym (c .before .before .before .before .before .before .before .before .before .before .frame .ensures) ∙ c .before .before .before .before .before .before .before .before .start2 .given .1) (ap (typeOf (c .before .before .before .before .before .before .before .before .before .before .before .before .before .before .before .set-of .result)) (sym (c .before .before .before .before .before .before .part-of .ensures)) ∙ sym (c .before .before .before .before .before .type-of .ensures)) (c .before .before .before .before .moved .result) _ (c .before .before .before .before .moved .ensures) (c .before .before .put-row .ensures)
 
 same-length-2 : tie.Need-same-length-2 Inv-loop μ-loop
 same-length-2 c = c .before .loop .inv .long
 
 returns-2 : tie.Need-returns-2 Inv-loop μ-loop
-returns-2 c = fill-end (now (c .before .before .before .before .before .args .file)) (now (c .before .before .before .before .before .args .table)) (c .before .loop .at) (c .before .loop .s) (c .before .loop .base) (c .before .loop .table) (c .before .loop .inv) (c .loop-test .left)
+returns-2 c = fill-end (c .before .before .before .set-of .result) (now (c .before .before .before .before .before .before .args .file)) (now (c .before .before .before .before .before .before .args .table)) (c .before .loop .at) (c .before .loop .s) (c .before .loop .base) (c .before .loop .table) (c .before .loop .inv) (c .loop-test .left)
 
 pub fill-spec : {M : Type 1} → statement M
 fill-spec =
@@ -77,6 +80,7 @@ fill-spec =
     (tie.spec
     Inv-loop
     μ-loop
+    set-of-requires
     start-requires
     loop-holds
     at-requires

@@ -34,8 +34,8 @@ enum-told c = search needs
 image-start-requires : tie.Need-image-start-requires
 image-start-requires c κs = (sym (c .before .before .judge-image .ensures) ∙ c .enum-told .given .1, omega arith)
 
-add-t10 : tie.Need-add-t10
-add-t10 c = omega (arith, c .image-start .ensures, image-within (now (c .before .before .before .before .before .before .before .before .args .body)) (sym (c .before .before .before .judge-image .ensures) ∙ c .before .enum-told .given .1))
+add-t11 : tie.Need-add-t11
+add-t11 c = omega (arith, c .image-start .ensures, image-within (c .before .before .before .before .before .before .before .before .args .set) (now (c .before .before .before .before .before .before .before .before .args .body)) (sym (c .before .before .before .judge-image .ensures) ∙ c .before .enum-told .given .1))
 
 image-size-requires : tie.Need-image-size-requires
 image-size-requires c κs = search needs
@@ -75,7 +75,7 @@ in-body-spec =
     judge-image-requires
     enum-told
     image-start-requires
-    add-t10
+    add-t11
     image-size-requires
     enum-told-2
     enum-told-3

@@ -1,21 +1,14 @@
-use mathlib.Core.Path.{_≡_, refl, sym, _∙_, ap}
+use mathlib.Core.Path.{_≡_, sym, _∙_}
 use denote.Ref.{now}
-use Prim.Native.Nat.{ℕ, _+_, _-_, _≤_, _<_}
-use native.Mathlib.Omega.{arith}
-use lib.Dec.{eqb}
-use lib.ListN.{length}
-use borrow.Author.Tests.{eq-eqb, ne-eqb, lt-leb, le-leb}
-use Rattle.frame.specs.Frames.{frameAt}
-use Rattle.judge.specs.Alone.{typeOf}
-use Rattle.judge.proofs.Laws.{image-within}
-use Rattle.picture.specs.Picture.{inBody, pictureAt, startOf, sizeOf, bytesOf, whenSound}
-use Rattle.picture.proofs.Laws.{body-fits, part-found}
+use Rattle.picture.specs.Picture.{bytesOf, pictureAt}
+use Rattle.picture.proofs.Laws.{part-found}
+use Rattle.picture.proofs.BytesOfCopy.{bytes-of-copy}
 use borrow.Author.Needs.{needs}
 use Rattle.picture.proofs.picture.Statement.{statement}
 use Rattle.picture.proofs.picture.Tie as tie
 
-find-picture-requires : tie.Need-find-picture-requires
-find-picture-requires c κs = search needs
+found-at-requires : tie.Need-found-at-requires
+found-at-requires c κs = search needs
 
 start-requires : tie.Need-start-requires
 start-requires c κs = search needs
@@ -27,9 +20,16 @@ part-of-requires : tie.Need-part-of-requires
 part-of-requires c κs = search needs
 
 returns : tie.Need-returns
-returns c = rw (sym (c .before .before .before .find-picture .ensures), sym (part-found (now (c .before .before .before .before .before .args .file)) (c .before .before .before .find-picture .result)), sym (c .before .before .start .ensures), sym (c .before .size .ensures)) (c .part-of .ensures)
+returns c =
+    let file = now (c .before .before .before .before .before .args .file) in
+    let offset = c .before .before .before .before .before .args .offset in
+    let found = c .before .before .before .found-at in
+    let bytes : now (c .part-of .result) ≡ bytesOf file (pictureAt file offset) =
+    rw (sym (found .ensures), sym (part-found file (found .result)), sym (c .before .before .start .ensures), sym (c .before .size .ensures))
+    (c .part-of .ensures) in
+    (bytes, λ begins. bytes ∙ sym (bytes-of-copy file offset begins))
 
 pub picture-spec : {M : Type 1} → statement M
 picture-spec =
     tie.close
-    (tie.spec find-picture-requires start-requires size-requires part-of-requires returns)
+    (tie.spec found-at-requires start-requires size-requires part-of-requires returns)

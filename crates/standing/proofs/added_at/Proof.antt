@@ -30,7 +30,7 @@ newest-requires-2 c κs = search needs
 returns : tie.Need-returns
 returns c = (
   rw
-      (c .before .before .before .one-if .ensures .0, c .before .before .newest .ensures, c .before .one-if2 .ensures .0, c .newest2 .ensures, c .before .before .before .before .views-at .ensures .0, c .before .before .before .before .before .amount-at .ensures .0, c .before .before .before .before .before .before .is-debit-at .ensures, credit-else (now (c .before .before .before .before .before .before .before .before .args .file)) (c .before .before .before .before .before .before .before .before .args .kind) (c .before .before .before .before .before .before .before .before .args .offset)),
+      (c .before .before .before .one-if .ensures .0, c .before .before .newest .ensures, c .before .one-if2 .ensures .0, c .newest2 .ensures, c .before .before .before .before .views-at .ensures .0, c .before .before .before .before .before .amount-at .ensures .0, c .before .before .before .before .before .before .is-debit-at .ensures, credit-else (c .before .before .before .before .before .before .before .before .args .set) (now (c .before .before .before .before .before .before .before .before .args .file)) (c .before .before .before .before .before .before .before .before .args .kind) (c .before .before .before .before .before .before .before .before .args .offset)),
   record {
     debits = one-roomy (c .before .before .before .one-if .ensures .1);
     debit = rw (c .before .before .newest .ensures) (amount-roomy (c .before .before .before .before .before .before .is-debit-at .result) (c .before .before .before .before .before .amount-at .ensures .1));

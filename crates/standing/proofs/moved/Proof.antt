@@ -17,7 +17,7 @@ moved-a-little-requires : tie.Need-moved-a-little-requires
 moved-a-little-requires c κs = (c .before .before .before .pre, sym (c .before .changes-much .ensures) ∙ c .if1 .left)
 
 returns-2 : tie.Need-returns-2
-returns-2 c = λ past n e. c .moved-a-little .ensures (now (c .before .before .before .before .args .file)) past (c .before .before .before .before .args .offset) n e
+returns-2 c = λ past n e. c .moved-a-little .ensures (c .before .before .before .before .args .set) (now (c .before .before .before .before .args .file)) past (c .before .before .before .before .args .offset) n e
 
 pub moved-spec : {M : Type 1} → statement M
 moved-spec =

@@ -31,9 +31,9 @@ since-requires-3 : tie.Need-since-requires-3
 since-requires-3 c κs = (one-roomy (c .one-if3 .ensures .1), c .before .before .before .before .before .before .before .pre .0 .endorser)
 
 returns : tie.Need-returns
-returns c = λ file past offset n e.
+returns c = λ set file past offset n e.
     rw (c .before .before .before .before .since .ensures, c .before .before .since2 .ensures, c .since3 .ensures, c .before .before .before .before .before .one-if .ensures .0, c .before .before .before .one-if2 .ensures .0, c .before .one-if3 .ensures .0, c .before .before .before .before .before .before .is-addendum .ensures)
-    (ap (movedALittle (c .before .before .before .before .before .before .before .before .args .kind)) e ∙ little-moves file past (c .before .before .before .before .before .before .before .before .args .kind) offset n (c .before .before .before .before .before .before .before .before .pre .1))
+    (ap (movedALittle (c .before .before .before .before .before .before .before .before .args .kind)) e ∙ little-moves set file past (c .before .before .before .before .before .before .before .before .args .kind) offset n (c .before .before .before .before .before .before .before .before .pre .1))
 
 pub moved-a-little-spec : {M : Type 1} → statement M
 moved-a-little-spec =

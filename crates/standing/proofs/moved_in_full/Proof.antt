@@ -36,8 +36,8 @@ present-after-requires c κs = search needs
 holder-after-requires : tie.Need-holder-after-requires
 holder-after-requires c κs = search needs
 
-add-t13 : tie.Need-add-t13
-add-t13 c = omega (arith, c .before .before .before .before .before .before .before .before .pre .records)
+add-t14 : tie.Need-add-t14
+add-t14 c = omega (arith, c .before .before .before .before .before .before .before .before .pre .records)
 
 one-if-requires : tie.Need-one-if-requires
 one-if-requires c κs = search needs
@@ -154,8 +154,8 @@ returns c = λ past n e. assembled
     (newest-moves (c .before .before .before .before .newest2 .ensures) (c .before .before .before .before .before .before .before .before .before .before .before .before .before .before .before .before .before .before .before .before .before .before .before .before .before .before .before .before .before .before .before .before .before .before .before .before .is-item .ensures) (refl {a = c .before .before .before .before .before .before .before .before .before .before .before .before .before .before .before .before .before .before .before .before .before .before .before .before .before .before .before .before .before .before .before .before .before .before .before .before .before .before .args .offset}) (ap (λ (t : Standing). t .item) e))
     (newest-moves (c .before .before .before .newest3 .ensures) (refl {a = eqb (c .before .before .before .before .before .before .before .before .before .before .before .before .before .before .before .before .before .before .before .before .before .before .before .before .before .before .before .before .before .before .before .before .before .before .before .before .before .before .args .kind) 20}) (refl {a = c .before .before .before .before .before .before .before .before .before .before .before .before .before .before .before .before .before .before .before .before .before .before .before .before .before .before .before .before .before .before .before .before .before .before .before .before .before .before .args .offset}) (ap (λ (t : Standing). t .header) e))
     (newest-moves (c .before .before .newest4 .ensures) (refl {a = eqb (c .before .before .before .before .before .before .before .before .before .before .before .before .before .before .before .before .before .before .before .before .before .before .before .before .before .before .before .before .before .before .before .before .before .before .before .before .before .before .args .kind) 10}) (refl {a = c .before .before .before .before .before .before .before .before .before .before .before .before .before .before .before .before .before .before .before .before .before .before .before .before .before .before .before .before .before .before .before .before .before .before .before .before .before .before .args .offset}) (ap (λ (t : Standing). t .heading) e))
-    (newest-moves (c .before .indicator-after .ensures) (refl {a = eqb (c .before .before .before .before .before .before .before .before .before .before .before .before .before .before .before .before .before .before .before .before .before .before .before .before .before .before .before .before .before .before .before .before .before .before .before .before .before .before .args .kind) 10}) (refl {a = indicatorIn (now (c .before .before .before .before .before .before .before .before .before .before .before .before .before .before .before .before .before .before .before .before .before .before .before .before .before .before .before .before .before .before .before .before .before .before .before .before .before .before .args .file)) (c .before .before .before .before .before .before .before .before .before .before .before .before .before .before .before .before .before .before .before .before .before .before .before .before .before .before .before .before .before .before .before .before .before .before .before .before .before .before .args .offset)}) (ap (λ (t : Standing). t .indicator) e))
-    (newest-moves (c .signature-after .ensures) (refl {a = eqb (c .before .before .before .before .before .before .before .before .before .before .before .before .before .before .before .before .before .before .before .before .before .before .before .before .before .before .before .before .before .before .before .before .before .before .before .before .before .before .args .kind) 50}) (refl {a = signatureIn (now (c .before .before .before .before .before .before .before .before .before .before .before .before .before .before .before .before .before .before .before .before .before .before .before .before .before .before .before .before .before .before .before .before .before .before .before .before .before .before .args .file)) (c .before .before .before .before .before .before .before .before .before .before .before .before .before .before .before .before .before .before .before .before .before .before .before .before .before .before .before .before .before .before .before .before .before .before .before .before .before .before .args .offset)}) (ap (λ (t : Standing). t .signature) e))
+    (newest-moves (c .before .indicator-after .ensures) (refl {a = eqb (c .before .before .before .before .before .before .before .before .before .before .before .before .before .before .before .before .before .before .before .before .before .before .before .before .before .before .before .before .before .before .before .before .before .before .before .before .before .before .args .kind) 10}) (refl {a = indicatorIn (c .before .before .before .before .before .before .before .before .before .before .before .before .before .before .before .before .before .before .before .before .before .before .before .before .before .before .before .before .before .before .before .before .before .before .before .before .before .before .args .set) (now (c .before .before .before .before .before .before .before .before .before .before .before .before .before .before .before .before .before .before .before .before .before .before .before .before .before .before .before .before .before .before .before .before .before .before .before .before .before .before .args .file)) (c .before .before .before .before .before .before .before .before .before .before .before .before .before .before .before .before .before .before .before .before .before .before .before .before .before .before .before .before .before .before .before .before .before .before .before .before .before .before .args .offset)}) (ap (λ (t : Standing). t .indicator) e))
+    (newest-moves (c .signature-after .ensures) (refl {a = eqb (c .before .before .before .before .before .before .before .before .before .before .before .before .before .before .before .before .before .before .before .before .before .before .before .before .before .before .before .before .before .before .before .before .before .before .before .before .before .before .args .kind) 50}) (refl {a = signatureIn (c .before .before .before .before .before .before .before .before .before .before .before .before .before .before .before .before .before .before .before .before .before .before .before .before .before .before .before .before .before .before .before .before .before .before .before .before .before .before .args .set) (now (c .before .before .before .before .before .before .before .before .before .before .before .before .before .before .before .before .before .before .before .before .before .before .before .before .before .before .before .before .before .before .before .before .before .before .before .before .before .before .args .file)) (c .before .before .before .before .before .before .before .before .before .before .before .before .before .before .before .before .before .before .before .before .before .before .before .before .before .before .before .before .before .before .before .before .before .before .before .before .before .before .args .offset)}) (ap (λ (t : Standing). t .signature) e))
 
 pub moved-in-full-spec : {M : Type 1} → statement M
 moved-in-full-spec =
@@ -167,7 +167,7 @@ moved-in-full-spec =
     inside-after-requires
     present-after-requires
     holder-after-requires
-    add-t13
+    add-t14
     one-if-requires
     since-requires
     one-if-requires-2

@@ -1,58 +1,26 @@
-use Prim.Native.Nat.{_≤_, _-_}
-use mathlib.Core.Path.{_≡_, refl, _∙_}
-use mathlib.Core.Bool.{_&&_}
-use lib.ListN.{length, drop}
-use denote.Ref.{now}
-use Rattle.text.specs.DataTypes.{every, admits}
-use Rattle.text.proofs.Laws.{every-carried, every-told}
 use borrow.Author.Needs.{needs}
 use Rattle.text.proofs.all_admitted.Statement.{statement}
 use Rattle.text.proofs.all_admitted.Tie as tie
 
-abbrev Inv-loop : tie.InvT-loop
-Inv-loop t s all₀ i₀ all i = (i ≤ length s) × (all && every (admits t) (drop i s) ≡ every (admits t) s)
+enum-told : tie.Need-enum-told
+enum-told c = search needs
 
-abbrev μ-loop : tie.MeasureT-loop
-μ-loop t s all₀ i₀ all i = length s - i
+all-in-ascii-requires : tie.Need-all-in-ascii-requires
+all-in-ascii-requires c κs = search needs
 
-loop-holds : tie.Need-loop-holds Inv-loop μ-loop
-loop-holds c = (search needs, refl)
+enum-told-2 : tie.Need-enum-told-2
+enum-told-2 c = search needs
 
-shared-slice-read-admits-character : tie.Need-shared-slice-read-admits-character Inv-loop μ-loop
-shared-slice-read-admits-character c = search needs
+all-in-ebcdic-requires : tie.Need-all-in-ebcdic-requires
+all-in-ebcdic-requires c κs = search needs
 
-admits-character-requires : tie.Need-admits-character-requires Inv-loop μ-loop
-admits-character-requires c κs = search needs
+returns : tie.Need-returns
+returns c = rw (c .before .enum-told .given .1) (c .all-in-ascii .ensures)
 
-add-i : tie.Need-add-i Inv-loop μ-loop
-add-i c = search needs
-
-loop-less : tie.Need-loop-less Inv-loop μ-loop
-loop-less c = search needs
-
-loop-again : tie.Need-loop-again Inv-loop μ-loop
-loop-again c = (
-  search needs,
-  rw (c .admits-character .ensures)
-      (every-carried (admits (c .before .before .before .before .before .args .t)) (now (c .before .before .before .before .before .args .s))
-      (c .before .before .before .loop .i) (c .before .before .before .loop .all) (search needs)
-      ∙ c .before .before .before .loop .inv .1),
-)
-
-returns : tie.Need-returns Inv-loop μ-loop
-returns c = every-told (admits (c .before .before .before .args .t)) (now (c .before .before .before .args .s)) (c .before .loop .i) (c .before .loop .all) (search needs)
-    ∙ c .before .loop .inv .1
+returns-2 : tie.Need-returns-2
+returns-2 c = rw (c .before .enum-told2 .given .1) (c .all-in-ebcdic .ensures)
 
 pub all-admitted-spec : {M : Type 1} → statement M
 all-admitted-spec =
     tie.close
-    (tie.spec
-    Inv-loop
-    μ-loop
-    loop-holds
-    shared-slice-read-admits-character
-    admits-character-requires
-    add-i
-    loop-less
-    loop-again
-    returns)
+    (tie.spec enum-told all-in-ascii-requires enum-told-2 all-in-ebcdic-requires returns returns-2)

@@ -14,10 +14,10 @@ use Rattle.text.proofs.blank_between_digits.Statement.{statement}
 use Rattle.text.proofs.blank_between_digits.Tie as tie
 
 abbrev Inv-loop : tie.InvT-loop
-Inv-loop s before₀ gap₀ i₀ before gap i = (i ≤ length s) × (embeddedFrom before gap (drop i s) ≡ blankEmbedded s)
+Inv-loop set s before₀ gap₀ i₀ before gap i = (i ≤ length s) × (embeddedFrom set before gap (drop i s) ≡ blankEmbedded set s)
 
 abbrev μ-loop : tie.MeasureT-loop
-μ-loop s before₀ gap₀ i₀ before gap i = length s - i
+μ-loop set s before₀ gap₀ i₀ before gap i = length s - i
 
 loop-holds : tie.Need-loop-holds Inv-loop μ-loop
 loop-holds c = (search needs, refl)
@@ -29,7 +29,7 @@ is-numeric-requires : tie.Need-is-numeric-requires Inv-loop μ-loop
 is-numeric-requires c κs = search needs
 
 returns : tie.Need-returns Inv-loop μ-loop
-returns c = sym (embedded-found (now (c .before .before .before .before .before .before .args .s)) (c .before .before .before .before .loop .i) (c .before .before .before .before .loop .before) (c .before .before .before .before .loop .gap) (search needs) (ap (λ (b : Bool). c .before .before .before .before .loop .gap && b) (sym (c .before .is-numeric .ensures)) ∙ c .if1 .taken)) ∙ c .before .before .before .before .loop .inv .1
+returns c = sym (embedded-found (c .before .before .before .before .before .before .args .set) (now (c .before .before .before .before .before .before .args .s)) (c .before .before .before .before .loop .i) (c .before .before .before .before .loop .before) (c .before .before .before .before .loop .gap) (search needs) (ap (λ (b : Bool). c .before .before .before .before .loop .gap && b) (sym (c .before .is-numeric .ensures)) ∙ c .if1 .taken)) ∙ c .before .before .before .before .loop .inv .1
 
 shared-slice-read-is-blank : tie.Need-shared-slice-read-is-blank Inv-loop μ-loop
 shared-slice-read-is-blank c = search needs
@@ -44,10 +44,10 @@ loop-less : tie.Need-loop-less Inv-loop μ-loop
 loop-less c = search needs
 
 loop-again : tie.Need-loop-again Inv-loop μ-loop
-loop-again c = (search needs, rw (c .before .before .before .is-numeric .ensures, c .is-blank .ensures) (sym (embedded-goes-on (now (c .before .before .before .before .before .before .before .before .args .s)) (c .before .before .before .before .before .before .loop .i) (c .before .before .before .before .before .before .loop .before) (c .before .before .before .before .before .before .loop .gap) (search needs) (ap (λ (b : Bool). c .before .before .before .before .before .before .loop .gap && b) (sym (c .before .before .before .is-numeric .ensures)) ∙ c .before .before .if1 .left)) ∙ c .before .before .before .before .before .before .loop .inv .1))
+loop-again c = (search needs, rw (c .before .before .before .is-numeric .ensures, c .is-blank .ensures) (sym (embedded-goes-on (c .before .before .before .before .before .before .before .before .args .set) (now (c .before .before .before .before .before .before .before .before .args .s)) (c .before .before .before .before .before .before .loop .i) (c .before .before .before .before .before .before .loop .before) (c .before .before .before .before .before .before .loop .gap) (search needs) (ap (λ (b : Bool). c .before .before .before .before .before .before .loop .gap && b) (sym (c .before .before .before .is-numeric .ensures)) ∙ c .before .before .if1 .left)) ∙ c .before .before .before .before .before .before .loop .inv .1))
 
 returns-2 : tie.Need-returns-2 Inv-loop μ-loop
-returns-2 c = sym (embedded-ends (now (c .before .before .before .args .s)) (c .before .loop .i) (c .before .loop .before) (c .before .loop .gap) (search needs)) ∙ c .before .loop .inv .1
+returns-2 c = sym (embedded-ends (c .before .before .before .args .set) (now (c .before .before .before .args .s)) (c .before .loop .i) (c .before .loop .before) (c .before .loop .gap) (search needs)) ∙ c .before .loop .inv .1
 
 pub blank-between-digits-spec : {M : Type 1} → statement M
 blank-between-digits-spec =

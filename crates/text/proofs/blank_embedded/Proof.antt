@@ -10,7 +10,7 @@ all-numeric-requires : tie.Need-all-numeric-requires
 all-numeric-requires c κs = search needs
 
 returns : tie.Need-returns
-returns c = sym (digits-have-no-gap false (now (c .before .before .before .args .s)) (sym (c .before .all-numeric .ensures) ∙ c .if1 .taken))
+returns c = sym (digits-have-no-gap (c .before .before .before .args .set) false (now (c .before .before .before .args .s)) (sym (c .before .all-numeric .ensures) ∙ c .if1 .taken))
 
 blank-between-digits-requires : tie.Need-blank-between-digits-requires
 blank-between-digits-requires c κs = search needs

@@ -14,10 +14,10 @@ use Rattle.text.proofs.has_mark.Statement.{statement}
 use Rattle.text.proofs.has_mark.Tie as tie
 
 abbrev Inv-loop : tie.InvT-loop
-Inv-loop t s i₀ i = (i ≤ length s) × (some (isMark t) (drop i s) ≡ some (isMark t) s)
+Inv-loop set t s i₀ i = (i ≤ length s) × (some (isMark set t) (drop i s) ≡ some (isMark set t) s)
 
 abbrev μ-loop : tie.MeasureT-loop
-μ-loop t s i₀ i = length s - i
+μ-loop set t s i₀ i = length s - i
 
 loop-holds : tie.Need-loop-holds Inv-loop μ-loop
 loop-holds c = (search needs, refl)
@@ -29,7 +29,7 @@ is-mark-requires : tie.Need-is-mark-requires Inv-loop μ-loop
 is-mark-requires c κs = search needs
 
 returns : tie.Need-returns Inv-loop μ-loop
-returns c = sym (some-found (isMark (c .before .before .before .before .before .before .args .t)) (now (c .before .before .before .before .before .before .args .s)) (c .before .before .before .before .loop .i) (search needs) (sym (c .before .is-mark .ensures) ∙ c .if1 .taken)) ∙ c .before .before .before .before .loop .inv .1
+returns c = sym (some-found (isMark (c .before .before .before .before .before .before .args .set) (c .before .before .before .before .before .before .args .t)) (now (c .before .before .before .before .before .before .args .s)) (c .before .before .before .before .loop .i) (search needs) (sym (c .before .is-mark .ensures) ∙ c .if1 .taken)) ∙ c .before .before .before .before .loop .inv .1
 
 add-i : tie.Need-add-i Inv-loop μ-loop
 add-i c = search needs
@@ -38,10 +38,10 @@ loop-less : tie.Need-loop-less Inv-loop μ-loop
 loop-less c = search needs
 
 loop-again : tie.Need-loop-again Inv-loop μ-loop
-loop-again c = (search needs, sym (some-goes-on (isMark (c .before .before .before .before .before .before .args .t)) (now (c .before .before .before .before .before .before .args .s)) (c .before .before .before .before .loop .i) (search needs) (sym (c .before .is-mark .ensures) ∙ c .if1 .left)) ∙ c .before .before .before .before .loop .inv .1)
+loop-again c = (search needs, sym (some-goes-on (isMark (c .before .before .before .before .before .before .args .set) (c .before .before .before .before .before .before .args .t)) (now (c .before .before .before .before .before .before .args .s)) (c .before .before .before .before .loop .i) (search needs) (sym (c .before .is-mark .ensures) ∙ c .if1 .left)) ∙ c .before .before .before .before .loop .inv .1)
 
 returns-2 : tie.Need-returns-2 Inv-loop μ-loop
-returns-2 c = sym (some-ends (isMark (c .before .before .before .args .t)) (now (c .before .before .before .args .s)) (c .before .loop .i) (search needs)) ∙ c .before .loop .inv .1
+returns-2 c = sym (some-ends (isMark (c .before .before .before .args .set) (c .before .before .before .args .t)) (now (c .before .before .before .args .s)) (c .before .loop .i) (search needs)) ∙ c .before .loop .inv .1
 
 pub has-mark-spec : {M : Type 1} → statement M
 has-mark-spec =

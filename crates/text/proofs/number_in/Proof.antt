@@ -17,7 +17,7 @@ value-of-requires c κs = rw (c .leading .ensures) (omega (arith, length-take 19
 
 returns : tie.Need-returns
 unfolding number
-returns c = c .value-of .ensures ∙ ap (λ (xs : List ℕ). valueAfter 0 xs) (c .before .leading .ensures)
+returns c = c .value-of .ensures ∙ ap (λ (xs : List ℕ). valueAfter (c .before .before .before .args .set) 0 xs) (c .before .leading .ensures)
 
 pub number-in-spec : {M : Type 1} → statement M
 number-in-spec = tie.close (tie.spec leading-requires value-of-requires returns)

@@ -14,10 +14,10 @@ use Rattle.text.proofs.some_numeric.Statement.{statement}
 use Rattle.text.proofs.some_numeric.Tie as tie
 
 abbrev Inv-loop : tie.InvT-loop
-Inv-loop s i₀ i = (i ≤ length s) × (some isNumeric (drop i s) ≡ some isNumeric s)
+Inv-loop set s i₀ i = (i ≤ length s) × (some (isNumeric set) (drop i s) ≡ some (isNumeric set) s)
 
 abbrev μ-loop : tie.MeasureT-loop
-μ-loop s i₀ i = length s - i
+μ-loop set s i₀ i = length s - i
 
 loop-holds : tie.Need-loop-holds Inv-loop μ-loop
 loop-holds c = (search needs, refl)
@@ -29,7 +29,7 @@ is-numeric-requires : tie.Need-is-numeric-requires Inv-loop μ-loop
 is-numeric-requires c κs = search needs
 
 returns : tie.Need-returns Inv-loop μ-loop
-returns c = sym (some-found isNumeric (now (c .before .before .before .before .before .before .args .s)) (c .before .before .before .before .loop .i) (search needs) (sym (c .before .is-numeric .ensures) ∙ c .if1 .taken)) ∙ c .before .before .before .before .loop .inv .1
+returns c = sym (some-found (isNumeric (c .before .before .before .before .before .before .args .set)) (now (c .before .before .before .before .before .before .args .s)) (c .before .before .before .before .loop .i) (search needs) (sym (c .before .is-numeric .ensures) ∙ c .if1 .taken)) ∙ c .before .before .before .before .loop .inv .1
 
 add-i : tie.Need-add-i Inv-loop μ-loop
 add-i c = search needs
@@ -38,10 +38,10 @@ loop-less : tie.Need-loop-less Inv-loop μ-loop
 loop-less c = search needs
 
 loop-again : tie.Need-loop-again Inv-loop μ-loop
-loop-again c = (search needs, sym (some-goes-on isNumeric (now (c .before .before .before .before .before .before .args .s)) (c .before .before .before .before .loop .i) (search needs) (sym (c .before .is-numeric .ensures) ∙ c .if1 .left)) ∙ c .before .before .before .before .loop .inv .1)
+loop-again c = (search needs, sym (some-goes-on (isNumeric (c .before .before .before .before .before .before .args .set)) (now (c .before .before .before .before .before .before .args .s)) (c .before .before .before .before .loop .i) (search needs) (sym (c .before .is-numeric .ensures) ∙ c .if1 .left)) ∙ c .before .before .before .before .loop .inv .1)
 
 returns-2 : tie.Need-returns-2 Inv-loop μ-loop
-returns-2 c = sym (some-ends isNumeric (now (c .before .before .before .args .s)) (c .before .loop .i) (search needs)) ∙ c .before .loop .inv .1
+returns-2 c = sym (some-ends (isNumeric (c .before .before .before .args .set)) (now (c .before .before .before .args .s)) (c .before .loop .i) (search needs)) ∙ c .before .loop .inv .1
 
 pub some-numeric-spec : {M : Type 1} → statement M
 some-numeric-spec =

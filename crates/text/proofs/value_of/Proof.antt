@@ -14,10 +14,10 @@ use Rattle.text.proofs.value_of.Statement.{statement}
 use Rattle.text.proofs.value_of.Tie as tie
 
 abbrev Inv-loop : tie.InvT-loop
-Inv-loop s value₀ i₀ value i = (i ≤ length s) × (valueAfter value (drop i s) ≡ valueAfter 0 s) × (value < 10 ^ i)
+Inv-loop set s value₀ i₀ value i = (i ≤ length s) × (valueAfter set value (drop i s) ≡ valueAfter set 0 s) × (value < 10 ^ i)
 
 abbrev μ-loop : tie.MeasureT-loop
-μ-loop s value₀ i₀ value i = length s - i
+μ-loop set s value₀ i₀ value i = length s - i
 
 loop-holds : tie.Need-loop-holds Inv-loop μ-loop
 loop-holds c = (search needs, refl, search needs)
@@ -41,10 +41,10 @@ loop-less : tie.Need-loop-less Inv-loop μ-loop
 loop-less c = search needs
 
 loop-again : tie.Need-loop-again Inv-loop μ-loop
-loop-again c = (search needs, rw (c .digit-of .ensures .0) (sym (value-goes-on (c .before .before .before .loop .value) (now (c .before .before .before .before .before .args .s)) (c .before .before .before .loop .i) (search needs)) ∙ c .before .before .before .loop .inv .1), omega (arith, ten-more (c .before .before .before .loop .i), c .digit-of .ensures .1))
+loop-again c = (search needs, rw (c .digit-of .ensures .0) (sym (value-goes-on (c .before .before .before .before .before .args .set) (c .before .before .before .loop .value) (now (c .before .before .before .before .before .args .s)) (c .before .before .before .loop .i) (search needs)) ∙ c .before .before .before .loop .inv .1), omega (arith, ten-more (c .before .before .before .loop .i), c .digit-of .ensures .1))
 
 returns : tie.Need-returns Inv-loop μ-loop
-returns c = sym (value-ends (c .before .loop .value) (now (c .before .before .before .args .s)) (c .before .loop .i) (search needs)) ∙ c .before .loop .inv .1
+returns c = sym (value-ends (c .before .before .before .args .set) (c .before .loop .value) (now (c .before .before .before .args .s)) (c .before .loop .i) (search needs)) ∙ c .before .loop .inv .1
 
 pub value-of-spec : {M : Type 1} → statement M
 value-of-spec =

@@ -14,7 +14,7 @@ none-requires-3 c κs = search needs
 
 returns : tie.Need-returns
 unfolding standing
-returns c = λ file. rw (c .before .before .none .ensures, c .before .none2 .ensures, c .none3 .ensures)
+returns c = λ set file. rw (c .before .before .none .ensures, c .before .none2 .ensures, c .none3 .ensures)
 
 pub start-spec : {M : Type 1} → statement M
 start-spec = tie.close (tie.spec none-requires none-requires-2 none-requires-3 returns)

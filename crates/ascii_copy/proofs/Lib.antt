@@ -1,0 +1,7 @@
+pub mod Characters
+pub mod Fields
+pub mod Records
+pub mod Frames
+pub mod SoundCharacters
+pub mod Copies
+pub mod ImageKept

@@ -1,0 +1,2 @@
+pub mod CodePage037
+pub mod AsciiCopy
