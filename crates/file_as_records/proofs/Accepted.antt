@@ -39,14 +39,6 @@ use Rattle.file_as_records.proofs.ReadThrough.{body-is, records-accepte
 use Rattle.passes.specs.declared.Turn.the-variants as turns
 use Rattle.passes.proofs.Laws as laws
 
--- a frame is as long as the length there says
-whole-size : (file : List ℕ) (at size : ℕ) → frameAt file at ≡ Whole (at + 4) size → lengthAt file at ≡ size
-whole-size file at size e = cases (leb (at + 4 + lengthAt file at) (length file)) refl
-  where
-    cases : (c : Bool) → leb (at + 4 + lengthAt file at) (length file) ≡ c → lengthAt file at ≡ size
-    cases true q = let w = whole file at (leb-true _ _ q) in cc
-    cases false q = let w = cut-body file at (omega (arith, whole-within file at (at + 4) size e)) (leb-false _ _ q) in cc
-
 on-turn : (c : Bool) (turn : Turn) (n : ℕ) {t size : ℕ} → cond c (Stop After) (ofTurn n turn) ≡ On t size → turn ≡ turns.Good t
 on-turn true turn n e = cc
 on-turn false (Faulty fault) n e = cc
@@ -93,7 +85,7 @@ module _ (set : CharacterSet) (file : List ℕ) (hb : Bytes file) (t : Totals) w
         size-is = sym n;
         bytes =
             length-cut (drop at file) (λ i. rw getD-drop (hb (at + i))) (simp length-drop (omega arith))
-            ∙ ap₂ (λ (k : ℕ) (x : List ℕ). lengthField k ++ x) (whole-size file at size there ∙ sym n)
+            ∙ ap₂ (λ (k : ℕ) (x : List ℕ). lengthField k ++ x) (whole-size file at (at + 4) size there ∙ sym n)
             (drop-drop 4 at file ∙ rest ∙ ap (λ (k : ℕ). b ++ drop (at + 4 + k) file) (sym n));
         good =
             turn-good set file past older opened at b (drop (at + 4 + size) file) rest
