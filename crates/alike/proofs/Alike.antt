@@ -20,12 +20,12 @@ use Rattle.agree.specs.Links.{same}
 use Rattle.ascii_copy.proofs.SoundCharacters.{widthOf}
 
 -- what is asked of bytes xs, read in one set, and ys, read in another, that are alike
-pub record Law (one another : CharacterSet) (R : List ℕ → List ℕ → Type 0) : Type 0 where
+pub record Law (set set′ : CharacterSet) (R : List ℕ → List ℕ → Type 0) : Type 0 where
   pub part : (k size : ℕ) {xs ys : List ℕ} → R xs ys → R (take size (drop k xs)) (take size (drop k ys))
   pub nothing : R [] []
-  pub numbers : {xs ys : List ℕ} → R xs ys → number another ys ≡ number one xs
-  pub blanks : {xs ys : List ℕ} → R xs ys → every (isBlank another) ys ≡ every (isBlank one) xs
-  pub capitals : {xs ys : List ℕ} → R xs ys → capital another (getD ys 0 0) ≡ capital one (getD xs 0 0)
+  pub numbers : {xs ys : List ℕ} → R xs ys → number set′ ys ≡ number set xs
+  pub blanks : {xs ys : List ℕ} → R xs ys → every (isBlank set′) ys ≡ every (isBlank set) xs
+  pub capitals : {xs ys : List ℕ} → R xs ys → capital set′ (getD ys 0 0) ≡ capital set (getD xs 0 0)
   pub compared : {xs ys vs ws : List ℕ} → R xs ys → R vs ws → same ys ws ≡ same xs vs
 
 -- the first bytes of the record at an offset
@@ -53,7 +53,7 @@ pub as-type : (t k : ℕ) {R : List ℕ → List ℕ → Type 0} {file other : L
     → AlikeAt R file other o (widthOf k)
 as-type t k {R} {file} {other} {o} a e = subst (λ (u : ℕ). AlikeAt R file other o (widthOf u)) (eqb-true t k e) a
 
-module _ {one another : CharacterSet} {R : List ℕ → List ℕ → Type 0} (law : Law one another R) where
+module _ {set set′ : CharacterSet} {R : List ℕ → List ℕ → Type 0} (law : Law set set′ R) where
   pub chosen : (b : Bool) {xs ys vs ws : List ℕ} → R xs ys → R vs ws → R (cond b xs vs) (cond b ys ws)
   chosen true c d = c
   chosen false c d = d
@@ -81,7 +81,7 @@ module _ {one another : CharacterSet} {R : List ℕ → List ℕ → Type 0} (la
     pub field-alike : (k : Layout) (n : ℕ) → reaches (k .lines) n w ≡ true → R (field k n file o) (field k n other o)
     field-alike k n e = field-in-alike (k .lines) n e
 
-    pub number-alike : (k : Layout) (n : ℕ) → reaches (k .lines) n w ≡ true → number another (field k n other o) ≡ number one (field k n file o)
+    pub number-alike : (k : Layout) (n : ℕ) → reaches (k .lines) n w ≡ true → number set′ (field k n other o) ≡ number set (field k n file o)
     number-alike k n e = law .numbers (field-alike k n e)
 
 -- what a test chooses

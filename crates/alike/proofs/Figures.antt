@@ -5,7 +5,6 @@ use mathlib.Core.Bool.{Bool, true, _||_, not, cond}
 use mathlib.Core.List.{List, [], _∷_}
 use lib.Dec.{eqb}
 use Rattle.text.specs.declared.character_set.CharacterSet.{CharacterSet}
-use Rattle.layout.specs.Layout.{Layout}
 use Rattle.layout.specs.Layouts.{cashLetterHeader, checkDetail, returnRecord, imageViewDetail, creditRecord}
 use Rattle.measure.specs.Measures.{cents, sums, noSums, together}
 use Rattle.measure.specs.declared.Sums.{Sums}
