@@ -41,9 +41,7 @@ use Rattle.passes.proofs.Laws.{run-stop, run-on, rows-on, framed}
 use Rattle.ascii_copy.proofs.Records.{length-copied, front-copied, type-copied, judged-copied}
 use Rattle.ascii_copy.proofs.SoundCharacters.{widthIn, widthOf, sound-characters, sound-long}
 use Rattle.ascii_copy.proofs.Frames.{Ahead, ahead-frame, ahead-body, ahead-next}
-use Rattle.read_as_copy.proofs.Alike.{AlikeAt, AlikePast}
-use Rattle.read_as_copy.proofs.FiguresAlike.{standing-alike, row-alike}
-use Rattle.read_as_copy.proofs.AgreementAlike.{agreement-alike}
+use Rattle.read_as_copy.proofs.Alike.{AlikeAt, AlikePast, standing-alike, row-alike, agreement-alike}
 use Rattle.passes.specs.declared.Fault.the-variants as faults
 
 -- no fixed part is longer than that of a 52
@@ -128,14 +126,16 @@ module _ (file copy : List ℕ) (at : ℕ) (past : List Entry) (r : Reached file
     -- a sound record is alike in both
     here : (t : ℕ) → judgedAs Ebcdic t (part start size file) ≡ Sound → AlikeAt file copy at (widthOf t)
     here t sound =
-        let fits : widthOf t ≤ size = omega (arith, sound-long t (part start size file) sound, length-take size (drop start file)) in
+        let fits : widthOf t ≤ size = omega (arith, sound-long Ebcdic t (part start size file) sound, length-take size (drop start file)) in
         record {
-          same =
-              front (widthOf t) fits copy
-              ∙ ap (take (widthOf t)) (ahead-body file copy at start size (r .ahead) whole)
-              ∙ front-copied (widthOf t) (part start size file) (width-small t)
-              ∙ ap translated (sym (front (widthOf t) fits file));
-          characters = rw (front (widthOf t) fits file) (sound-characters t (part start size file) sound);
+          same = record {
+            same =
+                front (widthOf t) fits copy
+                ∙ ap (take (widthOf t)) (ahead-body file copy at start size (r .ahead) whole)
+                ∙ front-copied (widthOf t) (part start size file) (width-small t)
+                ∙ ap translated (sym (front (widthOf t) fits file));
+            characters = rw (front (widthOf t) fits file) (sound-characters t (part start size file) sound);
+          };
         }
 
     turn-alike : turnOf Ascii copy (standing Ebcdic file past) at (part start size copy) ≡ turnOf Ebcdic file (standing Ebcdic file past) at (part start size file)
