@@ -37,7 +37,8 @@ abbrev pub AlikePast : (List ℕ → List ℕ → Type 0) → List ℕ → List 
 AlikePast R file other [] = Unit {0}
 AlikePast R file other (r ∷ rs) = AlikeAt R file other (r .offset) (widthOf (r .type)) × AlikePast R file other rs
 
-part-in-front : (k size w : ℕ) (xs : List ℕ) → k + size ≤ w → take size (drop k (take w xs)) ≡ take size (drop k xs)
+-- a part of the first bytes
+pub part-in-front : (k size w : ℕ) (xs : List ℕ) → k + size ≤ w → take size (drop k (take w xs)) ≡ take size (drop k xs)
 part-in-front zero size w xs h = take-take size w xs (omega arith)
 part-in-front (suc k) size zero xs h = absurd (omega arith)
 part-in-front (suc k) size (suc w) [] h = refl

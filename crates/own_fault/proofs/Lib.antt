@@ -1,1 +1,2 @@
 pub mod SameBefore
+pub mod SameReading

@@ -1,13 +1,12 @@
 -- Two files with the same bytes up to a place are read alike up to there. Assumes nothing.
-use Prim.Native.Nat.{ℕ, zero, suc, _+_, _≤_, _<_}
+use Prim.Native.Nat.{ℕ, _+_, _≤_, _<_}
 use native.Mathlib.Omega.{arith}
-use mathlib.Core.Bool.{Bool, true, false, _&&_, _||_, cond}
+use mathlib.Core.Bool.{true, cond}
 use mathlib.Core.List.{List, [], _∷_}
 use mathlib.Core.Path.{_≡_, refl, sym, ap, _∙_}
-use lib.Dec.{leb, eqb}
+use lib.Dec.{eqb}
 use lib.ListN.{length, take, drop, getD, length-take}
-use lib.Seq.{take-take, getD-take, getD-drop}
-use borrow.Author.Tests.{eqb-true}
+use lib.Seq.{getD-take, getD-drop}
 use Rattle.text.specs.declared.character_set.CharacterSet.{CharacterSet}
 use Rattle.text.specs.CharacterSet.{setOf}
 use Rattle.frame.specs.declared.Frame.the-variants.{Whole}
@@ -15,7 +14,8 @@ use Rattle.frame.specs.Frames.{part, lengthAt, frameAt}
 use Rattle.frame.proofs.Laws.{whole, whole-start, whole-within, whole-size}
 use Rattle.judge.specs.declared.Judged.the-variants.{Sound}
 use Rattle.judge.specs.Alone.{typeOf, judgedAs}
-use Rattle.order.specs.MayFollow.{follows, oneItemType, mayFollow}
+use Rattle.order.specs.MayFollow.{mayFollow}
+use Rattle.order.proofs.Laws.{first-type}
 use Rattle.standing.specs.History.{Entry, entry}
 use Rattle.standing.specs.Standing.{standing}
 use Rattle.standing.specs.declared.Standing.{Standing}
@@ -27,6 +27,7 @@ use Rattle.passes.proofs.Passed.{passed, turns-alike}
 use Rattle.passes.proofs.Laws.{framed}
 use Rattle.passes.proofs.Passes.{on-within}
 use Rattle.ascii_copy.proofs.SoundCharacters.{widthOf, sound-long}
+use Rattle.alike.proofs.Alike.{part-in-front}
 use Rattle.own_fault.proofs.SameBefore.{SameAt, SamePast, standing-same, agreement-same}
 
 -- the records of past are good, one behind the other from the start, and the newest ends at an offset
@@ -65,22 +66,6 @@ module _ (set : CharacterSet) (file : List ℕ) where
   pub opening : {past : List Entry} {at : ℕ} → ReadTo set file past at → Opening past at
   opening start = none refl refl
   opening (on r step) = some (omega (arith, two-long set file _ _ _ _ step))
-
--- the first record is a file header
-first-type : (t : ℕ) → mayFollow false 0 0 t ≡ true → t ≡ 1
-unfolding mayFollow follows
-first-type t e = eqb-true t 1 (cases (eqb t 1) (oneItemType 0 t) e)
-  where
-    cases : (a b : Bool) → ((a || false) || false) && b ≡ true → a ≡ true
-    cases true b e = refl
-    cases false b e = e
-
--- a part of the first bytes
-part-in-front : (k size w : ℕ) (xs : List ℕ) → k + size ≤ w → part k size (take w xs) ≡ part k size xs
-part-in-front zero size w xs h = take-take size w xs (omega arith)
-part-in-front (suc k) size zero xs h = absurd (omega arith)
-part-in-front (suc k) size (suc w) [] h = refl
-part-in-front (suc k) size (suc w) (x ∷ xs) h = part-in-front k size w xs (omega arith)
 
 module _ (file other : List ℕ) (e : ℕ) (same : take e other ≡ take e file) (fits : e ≤ length file) where
   pub as-long : e ≤ length other
