@@ -1,2 +1,3 @@
 pub mod SameBefore
 pub mod SameReading
+pub mod Theorem
