@@ -242,34 +242,29 @@ module _ (file other : List ℕ) (limit : length other ≤ 268_435_456) {past : 
   module _ {fault : Fault} (step : stepOf (setOf file) file (standing (setOf file) file past) at ≡ Stop fault)
       (from size : ℕ) (last : eqb (standing (setOf file) file past .last) 99 ≡ false) (w : frameAt file at ≡ Whole from size)
       (same : take (endOf file at) other ≡ take (endOf file at) file) where
+    end-is : endOf file at ≡ from + size
+    end-is = omega (arith, whole-start file at from size w, whole-size file at from size w)
+
+    fits : endOf file at ≤ length file
+    fits = omega (arith, end-is, whole-within file at from size w)
+
+    later : at + 4 + size ≡ endOf file at
+    later = omega (arith, whole-size file at from size w)
+
+    stop-same : (b : Bool) → leb 2 size ≡ b → stepOf (setOf other) other (standing (setOf other) other past) at ≡ Stop fault
+    stop-same true b =
+        rw (set-same file other (endOf file at) same fits (omega (arith, leb-true 2 size b, later)))
+        (step-same file other (endOf file at) same fits (setOf file) r from size w (omega (arith, end-is)) ∙ step)
+    stop-same false b =
+        let there : eqb (standing (setOf other) other past .last) 99 ≡ false = rw (last-same (setOf file) (setOf other) file other past) last in
+        short-stop (setOf other) other (standing (setOf other) other past) at from size there
+        (frame-same file other (endOf file at) same fits at from size w (omega (arith, end-is))) (leb-false 2 size b)
+        ∙ sym (short-stop (setOf file) file (standing (setOf file) file past) at from size last w (leb-false 2 size b)) ∙ step
+
     own-stop : surveyed other ≡ Refused fault (length past + 1) at
     own-stop =
-        let begins = whole-start file at from size w in
-        let long = whole-size file at from size w in
-        let within = whole-within file at from size w in
-        let fits : endOf file at ≤ length file = omega arith in
-        let reaches = as-long file other (endOf file at) same fits in
-        stops-at other (read-other file other (endOf file at) same fits r (omega arith)) (omega arith) limit (cases (leb 2 size) refl)
-      where
-        cases : (b : Bool) → leb 2 size ≡ b → stepOf (setOf other) other (standing (setOf other) other past) at ≡ Stop fault
-        cases true b =
-            let begins = whole-start file at from size w in
-            let long = whole-size file at from size w in
-            let within = whole-within file at from size w in
-            let two = leb-true 2 size b in
-            let fits : endOf file at ≤ length file = omega arith in
-            rw (set-same file other (endOf file at) same fits (omega arith))
-            (step-same file other (endOf file at) same fits (setOf file) r from size w (omega arith) ∙ step)
-        cases false b =
-            let begins = whole-start file at from size w in
-            let long = whole-size file at from size w in
-            let within = whole-within file at from size w in
-            let fits : endOf file at ≤ length file = omega arith in
-            let short : size < 2 = leb-false 2 size b in
-            let there : eqb (standing (setOf other) other past .last) 99 ≡ false = rw (last-same (setOf file) (setOf other) file other past) last in
-            short-stop (setOf other) other (standing (setOf other) other past) at from size there
-            (frame-same file other (endOf file at) same fits at from size w (omega arith)) short
-            ∙ sym (short-stop (setOf file) file (standing (setOf file) file past) at from size last w short) ∙ step
+        stops-at other (read-other file other (endOf file at) same fits r (omega arith)) (omega (arith, as-long file other (endOf file at) same fits)) limit
+        (stop-same (leb 2 size) refl)
 
 -- the answer to a file, without ROOM
 module _ (file : List ℕ) where
@@ -296,3 +291,176 @@ module _ (file : List ℕ) where
       by a (reads h (ends {past} {at} r l)) q = by-end _ (how-ended (standing (setOf file) file past) at) q ∙ q
       by a (reads h (stops {past} {at} r l step)) q =
           by-stop r step q (stopped (setOf file) file (standing (setOf file) file past) at step) ∙ q
+
+  accepted-answer : {t : Totals} → surveyed file ≡ Accepted t → (more : List ℕ) → 1 ≤ length more → length (file ++ more) ≤ 268_435_456
+      → surveyed (file ++ more) ≡ Refused After (t .records .0 + 1) (length file)
+  accepted-answer {t} e more h limit = by (surveyed file) (surveys file) e
+    where
+      by-end : {past : List Entry} {at : ℕ} → ReadTo (setOf file) file past at → length file ≤ at → (a : Answer)
+          → Ended (standing (setOf file) file past) at a → a ≡ Accepted t → surveyed (file ++ more) ≡ Refused After (t .records .0 + 1) (length file)
+      by-end {past} {at} r l a (closed last) q =
+          let within = read-within (setOf file) file r in
+          let there : length file ≡ at = omega arith in
+          let totals : t ≡ totalsOf (standing (setOf file) file past) = cc in
+          rw (there, totals, standing-records (setOf file) file past)
+          (after-99 file (file ++ more) limit r (take-append-le at file more within) last (omega (arith, length-append file more)))
+      by-end r l a (not-closed last) q = cc
+
+      by : (a : Answer) → Surveyed file a → a ≡ Accepted t → surveyed (file ++ more) ≡ Refused After (t .records .0 + 1) (length file)
+      by a no-size q = cc
+      by a (reads h (ends {past} {at} r l)) q = by-end r l _ (how-ended (standing (setOf file) file past) at) q
+      by a (reads h (stops r l step)) q = cc
+
+  after-answer : {place offset : ℕ} → surveyed file ≡ Refused After place offset → (more : List ℕ) → length (file ++ more) ≤ 268_435_456
+      → surveyed (file ++ more) ≡ Refused After place offset
+  after-answer {place} {offset} e more limit = by (surveyed file) (surveys file) e
+    where
+      by-end : {s : Standing} {at : ℕ} (a : Answer) → Ended s at a → a ≡ Refused After place offset → surveyed (file ++ more) ≡ a
+      by-end a (closed l) q = cc
+      by-end a (not-closed l) q = cc
+
+      by-stop : {past : List Entry} {at : ℕ} {f : Fault} → ReadTo (setOf file) file past at → at < length file
+          → Refused f (length past + 1) at ≡ Refused After place offset → Stopped (setOf file) file (standing (setOf file) file past) at f
+          → surveyed (file ++ more) ≡ Refused After (length past + 1) at
+      by-stop {past} {at} r h q (behind last f) =
+          after-99 file (file ++ more) limit r (take-append-le at file more (omega arith)) last (omega (arith, length-append file more))
+      by-stop r h q (cut f) = cc
+      by-stop r h q (faulty from size l w i) = cc
+
+      by : (a : Answer) → Surveyed file a → a ≡ Refused After place offset → surveyed (file ++ more) ≡ Refused After place offset
+      by a no-size q = cc
+      by a (reads h (ends {past} {at} r l)) q = by-end _ (how-ended (standing (setOf file) file past) at) q ∙ q
+      by a (reads h (stops {past} {at} r l step)) q =
+          let same = by-stop r l q (stopped (setOf file) file (standing (setOf file) file past) at step) in cc
+
+  wanting-answer : {fault : Fault} {place offset : ℕ} → surveyed file ≡ Refused fault place offset → wantsBytes fault ≡ true
+      → (more : List ℕ) → length (file ++ more) ≤ 268_435_456 → NotBefore place (surveyed (file ++ more))
+  wanting-answer {fault} {place} {offset} e wants more limit = by (surveyed file) (surveys file) e
+    where
+      other : List ℕ
+      other = file ++ more
+
+      goes-on : {past : List Entry} {at : ℕ} → 1 ≤ length file → ReadTo (setOf file) file past at
+          → (length other ≤ at → eqb (standing (setOf file) file past .last) 99 ≡ false) → place ≡ length past + 1 → NotBefore place (surveyed other)
+      goes-on {past} {at} h r last q =
+          let within = read-within (setOf file) file r in
+          let there = read-other file other at (take-append-le at file more within) within r (omega arith) in
+          let g = goes (setOf other) other there in
+          rw (q, survey-run other (omega (arith, length-append file more)) limit, g .same)
+          (next-not-before (setOf other) other (g .fuel) at past (λ l. rw (last-same (setOf file) (setOf other) file other past) (last l)) (g .enough))
+
+      by-end : {past : List Entry} {at : ℕ} → 1 ≤ length file → ReadTo (setOf file) file past at → (a : Answer)
+          → Ended (standing (setOf file) file past) at a → a ≡ Refused fault place offset → NotBefore place (surveyed other)
+      by-end h r a (closed last) q = let z : _≡_ {A = ℕ} 0 1 = cc in absurd (omega arith)
+      by-end {past} {at} h r a (not-closed last) q =
+          let n : place ≡ standing (setOf file) file past .records .0 + 1 = cc in
+          goes-on h r (λ l. last) (omega (arith, standing-records (setOf file) file past))
+
+      by : (a : Answer) → Surveyed file a → a ≡ Refused fault place offset → NotBefore place (surveyed other)
+      by a no-size q = let z : _≡_ {A = ℕ} 0 1 = cc in absurd (omega arith)
+      by a (reads h (ends {past} {at} r l)) q = by-end h r _ (how-ended (standing (setOf file) file past) at) q
+      by a (reads h (stops {past} {at} r l step)) q =
+          let n : place ≡ length past + 1 = cc in
+          goes-on h r (λ k. absurd (omega (arith, length-append file more))) n
+
+  never-room : {place offset : ℕ} → surveyed file ≡ Refused Room place offset → ⊥
+  never-room {place} {offset} e = let z = by (surveyed file) (surveys file) e in omega arith
+    where
+      by-end : {s : Standing} {at : ℕ} (a : Answer) → Ended s at a → a ≡ Refused Room place offset → _≡_ {A = ℕ} 0 1
+      by-end a (closed l) q = cc
+      by-end a (not-closed l) q = cc
+
+      by-stop : {s : Standing} {at n : ℕ} {f : Fault} → Refused f n at ≡ Refused Room place offset → Stopped (setOf file) file s at f → _≡_ {A = ℕ} 0 1
+      by-stop q (behind last f) = cc
+      by-stop q (cut f) = cc
+      by-stop q (faulty from size l w i) = cc
+
+      by : (a : Answer) → Surveyed file a → a ≡ Refused Room place offset → _≡_ {A = ℕ} 0 1
+      by a no-size q = cc
+      by a (reads h (ends {past} {at} r l)) q = by-end _ (how-ended (standing (setOf file) file past) at) q
+      by a (reads h (stops {past} {at} r l step)) q = by-stop q (stopped (setOf file) file (standing (setOf file) file past) at step)
+
+-- with ROOM
+data Roomed (rows : ℕ) (a : Answer) (fault : Fault) (place offset : ℕ) : Type 0 where
+  itself : a ≡ Refused fault place offset → Roomed rows a fault place offset
+  full : (t : Totals) → a ≡ Accepted t → fault ≡ Room → place ≡ t .records .0 → offset ≡ 0 → Roomed rows a fault place offset
+
+roomed : (rows : ℕ) (a : Answer) {fault : Fault} {place offset : ℕ} → inRoom rows a ≡ Refused fault place offset → Roomed rows a fault place offset
+roomed rows (Refused f n o) e = itself e
+roomed rows (Accepted t) {fault} {place} {offset} e = cases (leb (t .records .0) rows) e
+  where
+    cases : (b : Bool) → cond b (Accepted t) (Refused Room (t .records .0) 0) ≡ Refused fault place offset → Roomed rows (Accepted t) fault place offset
+    cases true q = itself q
+    cases false q = full t refl (cc) (cc) (cc)
+
+accepts : (rows : ℕ) (a : Answer) {t : Totals} → inRoom rows a ≡ Accepted t → a ≡ Accepted t
+accepts rows (Refused f n o) e = e
+accepts rows (Accepted u) {t} e = cases (leb (u .records .0) rows) e
+  where
+    cases : (b : Bool) → cond b (Accepted u) (Refused Room (u .records .0) 0) ≡ Accepted t → Accepted u ≡ Accepted t
+    cases true q = q
+    cases false q = cc
+
+not-before-room : (rows place : ℕ) (a : Answer) → NotBefore place a → NotBefore place (inRoom rows a)
+not-before-room rows place (Refused f n o) h = h
+not-before-room rows place (Accepted t) h = cases (leb (t .records .0) rows)
+  where
+    cases : (b : Bool) → NotBefore place (cond b (Accepted t) (Refused Room (t .records .0) 0))
+    cases true = h
+    cases false = h
+
+module _ (file : List ℕ) (n : ℕ) where
+  -- an answer that no room would change is that of the bytes
+  by-bytes : {fault : Fault} {place offset : ℕ} → answerOf file n ≡ Refused fault place offset → (fault ≡ Room → ⊥)
+      → surveyed file ≡ Refused fault place offset
+  unfolding answerOf
+  by-bytes {fault} {place} {offset} e other = cases (roomed (n / 7) (surveyed file) e)
+    where
+      cases : Roomed (n / 7) (surveyed file) fault place offset → surveyed file ≡ Refused fault place offset
+      cases (itself q) = q
+      cases (full t a f p o) = absurd (other f)
+
+refused-answer : (file : List ℕ) (n : ℕ) {fault : Fault} {place offset : ℕ} → surveyed file ≡ Refused fault place offset → answerOf file n ≡ Refused fault place offset
+unfolding answerOf
+refused-answer file n e = rw e
+
+-- none of the faults spoken of is ROOM
+not-room : (test : Fault → Bool) {fault : Fault} → test Room ≡ false → test fault ≡ true → fault ≡ Room → ⊥
+not-room test r h e = let z : _≡_ {A = ℕ} 0 1 = cc in omega arith
+
+after-not-room : After ≡ Room → ⊥
+after-not-room e = let z : _≡_ {A = ℕ} 0 1 = cc in omega arith
+
+room-answer : (file : List ℕ) (n : ℕ) {needed offset : ℕ} → answerOf file n ≡ Refused Room needed offset → (m : ℕ)
+    → (needed ≤ m / 7 → (t : Totals) × (answerOf file m ≡ Accepted t)) × (m / 7 < needed → answerOf file m ≡ Refused Room needed offset)
+unfolding answerOf
+room-answer file n {needed} {offset} e m = cases (roomed (n / 7) (surveyed file) e)
+  where
+    cases : Roomed (n / 7) (surveyed file) Room needed offset
+        → (needed ≤ m / 7 → (t : Totals) × (inRoom (m / 7) (surveyed file) ≡ Accepted t)) × (m / 7 < needed → inRoom (m / 7) (surveyed file) ≡ Refused Room needed offset)
+    cases (itself q) = absurd (never-room file q)
+    cases (full t a f p o) = (
+      λ h. (t, rw (a, le-leb (t .records .0) (m / 7) (omega arith))),
+      λ h. rw (a, lt-leb (t .records .0) (m / 7) (omega arith), p, o),
+    )
+
+wanting-room : (file : List ℕ) (m place : ℕ) → NotBefore place (surveyed file) → NotBefore place (answerOf file m)
+unfolding answerOf
+wanting-room file m place h = not-before-room (m / 7) place (surveyed file) h
+
+accepted-bytes : (file : List ℕ) (n : ℕ) {t : Totals} → answerOf file n ≡ Accepted t → surveyed file ≡ Accepted t
+unfolding answerOf
+accepted-bytes file n e = accepts (n / 7) (surveyed file) e
+
+pub theorem : (file : List ℕ) (n : ℕ) → OwnFault file (answerOf file n)
+theorem file n =
+    record {
+      own = λ fault place offset e o other m limit same.
+          refused-answer other m (own-answer file (by-bytes file n e (not-room isOwn refl o)) o other limit same) ∙ sym e;
+      accepted = λ t e more m h limit. refused-answer (file ++ more) m (accepted-answer file (accepted-bytes file n e) more h limit);
+      after = λ place offset e more m limit.
+          refused-answer (file ++ more) m (after-answer file (by-bytes file n e after-not-room) more limit) ∙ sym e;
+      wanting = λ fault place offset e wants more m limit.
+          wanting-room (file ++ more) m place (wanting-answer file (by-bytes file n e (not-room wantsBytes refl wants)) wants more limit);
+      room = λ needed offset e m. let r = room-answer file n e m in (r .0, λ h. r .1 h ∙ sym e);
+    }
