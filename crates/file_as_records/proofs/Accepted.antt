@@ -80,7 +80,7 @@ module _ (set : CharacterSet) (file : List ℕ) (hb : Bytes file) (t : Totals) w
             ∙ ap₂ (λ (k : ℕ) (x : List ℕ). lengthField k ++ x) (whole-size file at (at + 4) size there ∙ sym n)
             (drop-drop 4 at file ∙ rest ∙ ap (λ (k : ℕ). b ++ drop (at + 4 + k) file) (sym n));
         good =
-            turn-good set file past older opened at b (drop (at + 4 + size) file) rest (rw (stands set file past older, begins) at (f .turn));
+            turn-good set file past older opened at b (drop (at + 4 + size) file) rest (rw (begins, stands set file past older) at (f .turn));
       }
 
   found-end : (n : ℕ) (past : List Body) → Held set file past → length file ≤ extent past
