@@ -10,22 +10,19 @@ use lib.Seq.{getD-drop, drop-drop, length-take-le}
 use borrow.Author.Tests.{leb-true, leb-false, eqb-true}
 use Rattle.text.specs.CharacterSet.{setOf}
 use Rattle.text.specs.declared.character_set.CharacterSet.{CharacterSet}
-use Rattle.frame.specs.Frames.{part, lengthAt, frameAt}
+use Rattle.frame.specs.Frames.{part, frameAt}
 use Rattle.frame.specs.declared.Frame.the-variants.{Whole}
 use Rattle.frame.proofs.Laws.{whole-within, whole-start, whole-size}
 use Rattle.judge.specs.Alone.{typeOf}
 use Rattle.standing.specs.Standing.{standing}
-use Rattle.passes.specs.declared.Fault.the-variants.{After, Open, Size}
+use Rattle.passes.specs.declared.Fault.the-variants.{Open, Size}
 use Rattle.passes.specs.declared.Totals.{Totals}
-use Rattle.passes.specs.declared.Turn.{Turn}
-use Rattle.passes.specs.declared.Turn.the-variants.{Faulty}
 use Rattle.passes.specs.declared.Step.{Step}
 use Rattle.passes.specs.declared.Step.the-variants.{Stop, On}
 use Rattle.passes.specs.declared.Answer.{Answer}
 use Rattle.passes.specs.declared.Answer.the-variants.{Accepted, Refused}
-use Rattle.passes.specs.CheckOrder.{turnOf}
 use Rattle.passes.specs.Rows.{rowsOf}
-use Rattle.passes.specs.Reading.{ofTurn, stepOf, endedWith, run, surveyed}
+use Rattle.passes.specs.Reading.{stepOf, endedWith, run, surveyed}
 use Rattle.passes.proofs.Laws.{run-end, run-stop, run-on}
 use Rattle.passes.proofs.Passes.{accepted-small}
 use Rattle.file_as_records.specs.Framed.{Body, lengthField, framed}
@@ -36,7 +33,6 @@ use Rattle.file_as_records.proofs.Opened.{AllOpened, none-opened, all-o
 use Rattle.file_as_records.proofs.Steps.{turn-good}
 use Rattle.file_as_records.proofs.LengthFields.{Bytes, length-cut}
 use Rattle.file_as_records.proofs.ReadThrough.{body-is, records-accepted}
-use Rattle.passes.specs.declared.Turn.the-variants as turns
 use Rattle.passes.proofs.Laws as laws
 
 accepted-end : (c : Bool) (u t : Totals) (place at : ℕ) → cond c (Accepted u) (Refused Open place at) ≡ Accepted t → c ≡ true

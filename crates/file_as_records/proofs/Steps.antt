@@ -12,7 +12,7 @@ use Rattle.text.specs.DataTypes.{every}
 use Rattle.text.specs.Number.{number}
 use Rattle.layout.specs.Layouts.{cashLetterHeader, bundleHeader, checkDetail, checkDetailAddendumA, checkDetailAddendumC, returnRecord, returnAddendumA, returnAddendumD, imageViewData, creditRecord, bundleControl, cashLetterControl, fileControl}
 use Rattle.judge.specs.Alone.{typeOf, judgedAs}
-use Rattle.order.specs.MayFollow.{isItem, isOneOf, carried, isCarried, mayFollow}
+use Rattle.order.specs.MayFollow.{isItem, isOneOf, carried, isCarried}
 use Rattle.standing.specs.History.{field}
 use Rattle.standing.specs.declared.Standing.{Standing}
 use Rattle.agree.specs.Checks.{Check, check, firstFailing}

@@ -11,7 +11,7 @@ use Rattle.text.specs.declared.character_set.CharacterSet.{CharacterSet}
 use Rattle.text.specs.CharacterSet.{setOf}
 use Rattle.frame.specs.declared.Frame.the-variants.{Whole}
 use Rattle.frame.specs.Frames.{part, lengthAt, frameAt}
-use Rattle.frame.proofs.Laws.{whole, whole-start, whole-within, whole-size}
+use Rattle.frame.proofs.Laws.{whole, whole-start, whole-size}
 use Rattle.judge.specs.declared.Judged.the-variants.{Sound}
 use Rattle.judge.specs.Alone.{typeOf, judgedAs}
 use Rattle.order.specs.MayFollow.{mayFollow}

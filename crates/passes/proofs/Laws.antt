@@ -1,12 +1,12 @@
 -- How the reading and the rows go on from a record, and what a row more makes of a table. Assumes nothing.
-use Prim.Native.Nat.{ℕ, zero, suc, _+_, _-_, _*_, _≤_, _<_}
+use Prim.Native.Nat.{ℕ, zero, suc, _+_, _-_, _≤_, _<_}
 use native.Mathlib.Nat.{add-assoc, add-zero}
 use native.Mathlib.Numerals.{sub-one}
 use native.Mathlib.Omega.{arith}
 use mathlib.Core.Path.{_≡_, refl, sym, ap, _∙_, subst}
 use mathlib.Core.Bool.{Bool, true, false, cond}
 use mathlib.Core.List.{List, [], _∷_, _++_, append-assoc}
-use lib.Dec.{leb, eqb}
+use lib.Dec.{eqb}
 use lib.ListN.{length, take, drop, length-append, take-append-drop}
 use lib.Seq.{sets, sets-eq, take-at, drop-append-add, length-take-le, drop-drop}
 use borrow.Author.Tests.{le-leb, lt-leb}
@@ -14,26 +14,19 @@ use Rattle.text.specs.declared.character_set.CharacterSet.{CharacterSet}
 use Rattle.frame.specs.Frames.{part, frameAt}
 use Rattle.frame.specs.declared.Frame.{Frame}
 use Rattle.frame.specs.declared.Frame.the-variants.{Cut, Whole}
-use Rattle.judge.specs.Alone.{typeOf, judgedAs}
-use Rattle.judge.specs.declared.Judged.{Judged}
-use Rattle.judge.specs.declared.Judged.the-variants.{Sound, WrongLength, UnknownType, WrongField}
-use Rattle.order.specs.MayFollow.{isCarried, mayFollow}
+use Rattle.judge.specs.Alone.{typeOf}
 use Rattle.standing.specs.History.{Entry, entry}
 use Rattle.standing.specs.Standing.{standing}
 use Rattle.standing.specs.declared.Standing.{Standing}
-use Rattle.agree.specs.Links.{linkFault}
-use Rattle.agree.specs.Totals.{totalFault}
 use Rattle.passes.specs.declared.Fault.{Fault}
-use Rattle.passes.specs.declared.Fault.the-variants.{Length, Place, Link, Total, After}
+use Rattle.passes.specs.declared.Fault.the-variants.{After}
 use Rattle.passes.specs.declared.Turn.{Turn}
 use Rattle.passes.specs.declared.Turn.the-variants.{Faulty, Good}
-use Rattle.passes.specs.declared.Step.{Step}
 use Rattle.passes.specs.declared.Step.the-variants.{Stop, On}
 use Rattle.passes.specs.declared.Answer.the-variants.{Refused}
-use Rattle.passes.specs.CheckOrder.{unlessAlone, agreement, turnOf}
+use Rattle.passes.specs.CheckOrder.{turnOf}
 use Rattle.passes.specs.Rows.{rowOf, rowsFrom}
 use Rattle.passes.specs.Reading.{ofTurn, ofFrame, stepOf, ended, run}
-use Rattle.frame.specs.Unless.{unless}
 use Rattle.passes.proofs.Passed.{passed}
 use Rattle.passes.specs.declared.Fault.the-variants as faults
 
