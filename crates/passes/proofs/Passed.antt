@@ -1,4 +1,4 @@
--- A turn that goes on has passed each check; a turn that does not has a fault of the record. Assumes nothing.
+-- A turn that goes on has passed each check; and two records that are alike have the same turn. Assumes nothing.
 use Prim.Native.Nat.{ℕ, _≤_}
 use mathlib.Core.Bool.{Bool, true, false}
 use mathlib.Core.List.{List}
