@@ -141,16 +141,23 @@ impl Trial {
     }
 }
 
-/// One in so many files is tried with other tails, so that a run takes about as long as before request 7.
-const SHARE: usize = 24;
+/// One in so many files with an answer is tried with other tails: rare answers more often, and in all about one file in forty, so that a run
+/// takes about as long as before request 7.
+fn share(reading: &Reading) -> usize {
+    match reading.answer.number {
+        _ if reading.why == "below two" => 4,
+        Number::Type | Number::Length | Number::Cut | Number::Open | Number::After => 16,
+        _ => 64,
+    }
+}
 
 /// Larger files are left out, since each is copied some ten times.
 const MOST: usize = 65_536;
 
 /// The draws for the tails of a file of this run, if it is one of those that are tried.
-pub fn chosen(seed: u64, index: u64, file: &[u8]) -> Option<Random> {
+pub fn chosen(seed: u64, index: u64, file: &[u8], reading: &Reading) -> Option<Random> {
     let mut random = Random::for_file(seed ^ 0x7A11_7A11_7A11_7A11, index);
-    (random.below(SHARE) == 0 && file.len() <= MOST).then_some(random)
+    (random.below(share(reading)) == 0 && file.len() <= MOST).then_some(random)
 }
 
 /// The trials of one file. An empty file decides nothing.
@@ -165,7 +172,7 @@ pub fn trials(file: &[u8], reading: &Reading, random: &mut Random) -> Vec<Trial>
         _ if OWN.contains(&number) => source.own_fault(random),
         _ => return Vec::new(),
     };
-    trials.push(source.torn(random));
+    trials.extend(source.torn(random));
     trials
 }
 
@@ -315,8 +322,8 @@ impl Source<'_> {
         self.trial(random, point, bytes, claim)
     }
 
-    /// A beginning that does not decide the answer yet, by half with a whole record at its end.
-    fn torn(&self, random: &mut Random) -> Trial {
+    /// Two beginnings that do not decide the answer yet: one at a chance byte, one with a whole record at its end where there is such a one.
+    fn torn(&self, random: &mut Random) -> Vec<Trial> {
         let Answer { number, offset, .. } = self.reading.answer;
         let undecided = match number {
             Number::Accepted | Number::Cut | Number::Open => self.file.len(),
@@ -324,13 +331,14 @@ impl Source<'_> {
             _ => self.decided(),
         };
         let ends: Vec<usize> = ends(self.file).into_iter().filter(|end| *end < undecided).collect();
-        let keep = match random.percent(50) && !ends.is_empty() {
-            true => random.pick(&ends),
-            false => random.below(undecided),
-        };
-        let answer = torn_answer(self.file, keep);
-        let point = TailPoint::Torn(number, answer.number);
-        self.trial(random, point, self.file[..keep].to_vec(), Claim::Exactly(answer))
+        let at_end = (!ends.is_empty()).then(|| random.pick(&ends));
+        let mut trials = Vec::new();
+        for keep in [random.below(undecided)].into_iter().chain(at_end) {
+            let answer = torn_answer(self.file, keep);
+            let (point, claim) = (TailPoint::Torn(number, answer.number), Claim::Exactly(answer));
+            trials.push(self.trial(random, point, self.file[..keep].to_vec(), claim));
+        }
+        trials
     }
 }
 
@@ -385,4 +393,115 @@ fn changed(random: &mut Random, own: &[u8]) -> Vec<u8> {
         _ => bytes.iter_mut().for_each(|byte| *byte ^= 1 + (random.byte() & 0x7F)),
     }
     bytes
+}
+
+#[cfg(test)]
+mod tests {
+    use super::*;
+    use crate::descent::read;
+    use crate::ebcdic;
+    use std::collections::BTreeSet;
+
+    /// The trials of the first files of each set, with the set of the file that each was made from.
+    fn all_trials(files: u64) -> impl Iterator<Item = (Set, Trial)> {
+        let made = |index| [stream::file(7, index).bytes, ebcdic::file(7, index).bytes];
+        let of_file = |file: Vec<u8>| {
+            let mut random = Random::new(file.len() as u64);
+            let trials = trials(&file, &read(&file), &mut random);
+            trials.into_iter().map(move |trial| (Set::of(&file), trial))
+        };
+        (0..files).flat_map(made).filter(|file| file.len() <= MOST).flat_map(of_file)
+    }
+
+    /// A reader that is lent so many rows.
+    type Reader = fn(&[u8], usize) -> Answer;
+
+    fn keeps_its_claim(trial: &Trial, reader: Reader) -> bool {
+        let keeps = |length: &usize| trial.claim.holds(&reader(&trial.bytes, length / 7).listed(), length / 7);
+        trial.tables.iter().all(keeps)
+    }
+
+    fn independent(file: &[u8], rows: usize) -> Answer {
+        read(file).with_rows(rows)
+    }
+
+    #[test]
+    fn claims_hold_and_every_point_is_met_in_each_set() {
+        let mut met = BTreeSet::new();
+        for (set, trial) in all_trials(800) {
+            assert!(keeps_its_claim(&trial, independent), "{:?} {:?}", trial.point, trial.claim);
+            met.insert((set, trial.point));
+        }
+        for set in [Set::Ascii, Set::Ebcdic] {
+            let missing: Vec<TailPoint> =
+                demanded().into_iter().filter(|point| !met.contains(&(set, *point))).collect();
+            assert!(missing.is_empty(), "{set:?} {missing:?}");
+        }
+    }
+
+    /// Looks whether the lengths frame all of the file before anything else.
+    fn frames_first(file: &[u8], rows: usize) -> Answer {
+        let ends = ends(file);
+        let end = ends.last().copied().unwrap_or(0);
+        match end == file.len() {
+            true => independent(file, rows),
+            false => Answer::refused(Number::Cut, ends.len() as u64 + 1, 0, end as u64),
+        }
+    }
+
+    /// Counts the records for its table before anything else.
+    fn counts_first(file: &[u8], rows: usize) -> Answer {
+        match ends(file).len() {
+            needed if needed > rows => Answer::refused(Number::Room, needed as u64, 0, 0),
+            _ => independent(file, rows),
+        }
+    }
+
+    /// Does not look behind the first 99.
+    fn stops_at_99(file: &[u8], rows: usize) -> Answer {
+        let starts = [0].into_iter().chain(ends(file));
+        let of_99 = starts.zip(ends(file)).find(|(start, _)| file[start + 4..].starts_with(b"99"));
+        independent(&file[..of_99.map_or(file.len(), |(_, end)| end)], rows)
+    }
+
+    /// Looks for a fault from the end: the last record of a type that is not carried is refused first.
+    fn types_first(file: &[u8], rows: usize) -> Answer {
+        let starts = [0].into_iter().chain(ends(file));
+        let is_strange = |start: &usize| {
+            file.get(start + 4..start + 6).is_some_and(|name| carried_in(Set::of(file), name).is_none())
+        };
+        match starts.enumerate().filter(|(_, start)| is_strange(start)).last() {
+            Some((record, start)) => Answer::refused(Number::Type, record as u64 + 1, 0, start as u64),
+            None => independent(file, rows),
+        }
+    }
+
+    #[test]
+    fn readers_whose_answer_hangs_on_the_rest_break_a_claim() {
+        let readers: [Reader; 4] = [frames_first, counts_first, stops_at_99, types_first];
+        let trials: Vec<Trial> =
+            all_trials(60).map(|(_, trial)| trial).filter(|trial| trial.bytes.len() < 1 << 20).collect();
+        for (place, reader) in readers.into_iter().enumerate() {
+            assert!(trials.iter().any(|trial| !keeps_its_claim(trial, reader)), "reader {place}");
+        }
+    }
+
+    #[test]
+    fn claims_that_do_not_hold() {
+        let refused = |number, record, offset| Answer::refused(number, record, 0, offset).listed();
+        let not_before = Claim::NotBefore { record: 3, offset: 168 };
+        assert!(not_before.holds(&refused(Number::Cut, 3, 168), 0));
+        assert!(not_before.holds(&refused(Number::Room, 4, 0), 0));
+        assert!(!not_before.holds(&refused(Number::Type, 2, 84), 0));
+        assert!(!not_before.holds(&refused(Number::Type, 3, 84), 0));
+        assert!(!not_before.holds(&refused(Number::Size, 0, 0), 0));
+        let sound = Claim::Sound { records: 4, size: 341 };
+        let mut accepted = refused(Number::Accepted, 4, 341);
+        accepted[4] = 4;
+        assert!(sound.holds(&accepted, 4) && !sound.holds(&accepted, 3));
+        assert!(sound.holds(&refused(Number::Room, 4, 0), 3) && !sound.holds(&refused(Number::Room, 4, 0), 4));
+        let exactly = Claim::Exactly(Answer::refused(Number::After, 5, 0, 341));
+        assert!(exactly.holds(&refused(Number::After, 5, 341), 0));
+        assert!(!exactly.holds(&refused(Number::After, 5, 342), 0) && !exactly.holds(&accepted, 9));
+    }
 }

@@ -27,9 +27,9 @@ fn main() -> ExitCode {
     let mut put = |made: Vec<u8>, index: u64| {
         let reading = read_in(Set::by_library(&made), &made);
         tally.note_asked(&made, &reading, &mut Random::for_file(!seed, index));
-        if let Some(Err(words)) =
-            tails::chosen(seed, index, &made).map(|mut of_tails| tally.note_tails(&made, &reading, &mut of_tails))
-        {
+        let mut of_tails = tails::chosen(seed, index, &made, &reading);
+        let held = of_tails.as_mut().map_or(Ok(()), |random| tally.note_tails(&made, &reading, random));
+        if let Err(words) = held {
             println!("file {index}: {words}");
             broken += 1;
         }
