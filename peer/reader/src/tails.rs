@@ -373,9 +373,13 @@ fn likely_last(set: Set, file: &[u8], reading: &Reading) -> u8 {
 
 /// Another file, cut behind a record of this type where it has one, otherwise behind a chance one or before all. Its tail is not empty.
 fn another(random: &mut Random, last: u8) -> Other {
-    let shape = random.pick(&["sound", "credit", "total", "link", "place", "several"]);
-    let turn = random.below(1_000);
-    let ascii = stream::shaped(random, shape, turn).bytes;
+    let mut ascii = Vec::new();
+    // Damage can take every record away.
+    while ascii.is_empty() {
+        let shape = random.pick(&["sound", "credit", "total", "link", "place", "several"]);
+        let turn = random.below(1_000);
+        ascii = stream::shaped(random, shape, turn).bytes;
+    }
     let places: Vec<usize> = [0].into_iter().chain(ends(&ascii)).filter(|end| *end < ascii.len()).collect();
     let is_alike = |record: &&[usize]| ascii[record[0] + 4..].starts_with(&name_of(last));
     let fitting: Vec<usize> = places.windows(2).filter(is_alike).map(|record| record[1]).collect();
