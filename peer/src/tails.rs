@@ -35,7 +35,8 @@ pub fn check_tails(
 fn check_trial(trial: &Trial, random: &mut Random, counts: &mut Counts) -> Result<(), Difference> {
     let reading = read_in(Set::by_library(&trial.bytes), &trial.bytes);
     for length in trial.tables.iter().copied() {
-        let proved = readings_agree(&trial.bytes, &reading, length, random)?;
+        let proved = readings_agree(&trial.bytes, &reading, length, random)
+            .map_err(|difference| format!("{:?}, {} bytes, {difference}", trial.point, trial.bytes.len()))?;
         trial.holds_for("proved", &proved, length)?;
         trial.holds_for("independent", &reading.with_rows(length / 7).listed(), length)?;
         counts.readings += 1;

@@ -431,6 +431,7 @@ mod tests {
 
     #[test]
     fn claims_hold_and_every_point_is_met_in_each_set() {
+        assert_eq!(demanded().len(), 119);
         let mut met = BTreeSet::new();
         for (set, trial) in all_trials(800) {
             assert!(keeps_its_claim(&trial, independent), "{:?} {:?}", trial.point, trial.claim);
