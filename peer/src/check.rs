@@ -2,7 +2,7 @@
 
 use peer_reader::asked::{picture_offsets, table_lengths};
 use peer_reader::charset::Set;
-use peer_reader::descent::{read_in, Number, Reading};
+use peer_reader::descent::{read_in, Number, Reading, LISTED};
 use peer_reader::picture::picture_in;
 use peer_reader::random::Random;
 use peer_reader::tally::Tally;
@@ -21,6 +21,8 @@ pub struct Counts {
     pub readings: u64,
     pub rows: u64,
     pub pictures: u64,
+    /// Files made from others, with another tail.
+    pub tails: u64,
 }
 
 impl Counts {
@@ -31,11 +33,12 @@ impl Counts {
         self.readings += other.readings;
         self.rows += other.rows;
         self.pictures += other.pictures;
+        self.tails += other.tails;
     }
 }
 
-/// Compares both sides on one file.
-pub fn check(file: &[u8], random: &mut Random, tally: &mut Tally, counts: &mut Counts) -> Result<(), Difference> {
+/// Compares both sides on one file, and gives the independent reading of it.
+pub fn check(file: &[u8], random: &mut Random, tally: &mut Tally, counts: &mut Counts) -> Result<Reading, Difference> {
     let reading = read_in(Set::by_library(file), file);
     tally.note_reading(file, &reading);
     counts.files += 1;
@@ -55,11 +58,16 @@ pub fn check(file: &[u8], random: &mut Random, tally: &mut Tally, counts: &mut C
         counts.pictures += 1;
     }
     tally.note_within_images(file);
-    Ok(())
+    Ok(reading)
 }
 
-/// Both sides on one file and one table length: the number, the answer, every row, every number left alone.
-fn readings_agree(file: &[u8], reading: &Reading, length: usize, random: &mut Random) -> Result<(), Difference> {
+/// Both sides on one file and one table length: the number, the answer, every row, every number left alone. Gives the proved library's answer.
+pub fn readings_agree(
+    file: &[u8],
+    reading: &Reading,
+    length: usize,
+    random: &mut Random,
+) -> Result<[u64; LISTED], Difference> {
     const GUARD: usize = 9;
     let pattern = random.draw() | 1;
     let mut theirs = vec![pattern; length + GUARD];
@@ -79,7 +87,7 @@ fn readings_agree(file: &[u8], reading: &Reading, length: usize, random: &mut Ra
             theirs[at], ours[at]
         ));
     }
-    Ok(())
+    Ok(answer)
 }
 
 /// Both sides on one picture call.

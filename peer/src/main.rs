@@ -6,6 +6,7 @@ mod check;
 mod large;
 mod shrink;
 mod sweep;
+mod tails;
 
 use std::path::{Path, PathBuf};
 use std::process::ExitCode;
@@ -20,6 +21,7 @@ use peer_reader::stream::{self, Made};
 use peer_reader::tally::Tally;
 
 use check::Counts;
+use tails::Broken;
 
 /// Coverage is demanded of runs at least this long.
 const WHOLE_RUN: u64 = 100_000;
@@ -134,10 +136,9 @@ fn work(options: &Options, shared: &Shared, first: u64) -> (Tally, Counts) {
             break;
         }
         let made = maker(seed, index);
-        let mut random = Random::for_file(!seed, index);
-        if let Err(difference) = check::check(&made.bytes, &mut random, &mut tally, &mut counts) {
+        if let Err(Broken { file, difference }) = put(&made.bytes, seed, index, &mut tally, &mut counts) {
             let name = format!("seed{seed}-{kind}{index}");
-            report(&options.save, &name, made.shape, &made.bytes, &difference, &shared.found);
+            report(&options.save, &name, made.shape, &file, &difference, &shared.found);
             let many = shared.found.lock().map(|found| found.len() >= 10).unwrap_or(true);
             shared.stop.fetch_or(many, Ordering::Relaxed);
         }
@@ -147,6 +148,16 @@ fn work(options: &Options, shared: &Shared, first: u64) -> (Tally, Counts) {
         }
     }
     (tally, counts)
+}
+
+/// Puts a file of this seed and index to both sides, and other tails of it where it is chosen for that (request 7).
+fn put(file: &[u8], seed: u64, index: u64, tally: &mut Tally, counts: &mut Counts) -> Result<(), Broken> {
+    let checked = check::check(file, &mut Random::for_file(!seed, index), tally, counts);
+    let reading = checked.map_err(|difference| Broken { file: file.to_vec(), difference })?;
+    match peer_reader::tails::chosen(seed, index, file, &reading) {
+        Some(mut random) => tails::check_tails(file, &reading, &mut random, tally, counts),
+        None => Ok(()),
+    }
 }
 
 /// Prints a difference and saves the file, as it was and shrunk.
@@ -171,10 +182,11 @@ pub fn report(save: &Path, name: &str, shape: &str, file: &[u8], difference: &st
 fn conclude(options: &Options, shared: &Shared, tally: &Tally, counts: &Counts, begun: Instant) -> ExitCode {
     let differences = shared.found.lock().map(|found| found.len()).unwrap_or(1);
     println!(
-        "{} files ({} accepted, {} bytes), {} readings, {} rows, {} pictures, {:.1} seconds",
+        "{} files ({} accepted, {} bytes), {} tails, {} readings, {} rows, {} pictures, {:.1} seconds",
         counts.files,
         counts.accepted,
         counts.bytes,
+        counts.tails,
         counts.readings,
         counts.rows,
         counts.pictures,

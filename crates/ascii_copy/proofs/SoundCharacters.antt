@@ -1,4 +1,4 @@
--- The fixed part of a sound record is characters, each with a counterpart. Assumes nothing.
+-- A sound record is at least as long as its fixed part, and that part is characters, each with a counterpart. Assumes nothing.
 use Prim.Native.Nat.{ℕ, _+_, _-_, _≤_}
 use native.Mathlib.Omega.{arith}
 use mathlib.Core.Bool.{Bool, true, false, _&&_, _||_, cond}
@@ -8,6 +8,7 @@ use borrow.Author.Tests.{leb-true, eqb-true}
 use lib.Dec.{leb, eqb}
 use lib.ListN.{length, take, drop}
 use lib.Seq.{take-add, drop-drop}
+use Rattle.text.specs.declared.character_set.CharacterSet.{CharacterSet}
 use Rattle.text.specs.declared.character_set.CharacterSet.the-variants.{Ebcdic}
 use Rattle.text.specs.declared.data_types.DataType.the-variants.{ANS}
 use Rattle.text.specs.DataTypes.{every, admits}
@@ -19,6 +20,10 @@ use Rattle.judge.specs.Alone.{charactersOf, lineHolds, firstWrong, isVariable, 
 use Rattle.judge.proofs.Laws.{both-true, kept, length-not-sound, field-not-sound}
 use Rattle.ascii_copy.proofs.Characters.{isCharacters}
 use Rattle.ascii_copy.proofs.Fields.{holds-characters}
+
+abbrev all : (Layout → Bool) → List Layout → Bool
+all test [] = true
+all test (k ∷ ks) = test k && all test ks
 
 -- the length of the fixed part of the kind that a type number names; 0 where it names none
 abbrev pub widthIn : List Layout → ℕ → ℕ
@@ -32,10 +37,9 @@ abbrev allCharacters : List Line → Bool
 allCharacters [] = true
 allCharacters (l ∷ ls) = isCharacters (l .dataType) && allCharacters ls
 
--- computed of the layouts: the lines lie end to end through the fixed length, and none is Binary
-abbrev allFilled : List Layout → Bool
-allFilled [] = true
-allFilled (k ∷ ks) = (endToEnd 1 1 (k .fixedLength) (k .lines) && allCharacters (k .lines)) && allFilled ks
+-- computed of a layout: the lines lie end to end through the fixed length, and none is Binary
+abbrev filled : Layout → Bool
+filled k = endToEnd 1 1 (k .fixedLength) (k .lines) && allCharacters (k .lines)
 
 every-append : (test : ℕ → Bool) (xs ys : List ℕ) → every test xs ≡ true → every test ys ≡ true → every test (xs ++ ys) ≡ true
 every-append test [] ys e f = f
@@ -68,6 +72,29 @@ laid l n from fixed ls e =
       others = last .1;
     }
 
+-- a sound record is at least as long as its fixed part, of which no field is wrong
+alone-right : (set : CharacterSet) (b : List ℕ) (k : Layout) → alone set k b ≡ Sound → (k .fixedLength ≤ length b) × (firstWrong set (k .lines) b ≡ 0)
+unfolding judged
+alone-right set b k sound =
+    let long = kept (leb (k .fixedLength) (length b)) length-not-sound sound in
+    let short = kept (isVariable (sizedParts k) || leb (length b) (k .fixedLength)) length-not-sound (long .1) in
+    let field = kept (eqb (firstWrong set (k .lines) b) 0) (field-not-sound (firstWrong set (k .lines) b)) (short .1) in
+    (leb-true (k .fixedLength) (length b) (long .0), eqb-true (firstWrong set (k .lines) b) 0 (field .0))
+
+-- what holds of the fixed length of each sound record, by a test of the layouts, holds of the width of its type
+module _ (set : CharacterSet) (t : ℕ) (b : List ℕ) (test : Layout → Bool) (P : ℕ → Type 0) (none : P 0)
+    (one : (k : Layout) → test k ≡ true → alone set k b ≡ Sound → P (k .fixedLength)) where
+  among : (ks : List Layout) → all test ks ≡ true → amongLayouts set ks t b ≡ Sound → P (widthIn ks t)
+  among [] e sound = none
+  among (k ∷ ks) e sound =
+      let tests = both-true (test k) (all test ks) e in
+      by (eqb t (k .typeNumber)) sound (one k (tests .0)) (among ks (tests .1))
+    where
+      by : (c : Bool) → cond c (alone set k b) (amongLayouts set ks t b) ≡ Sound → (alone set k b ≡ Sound → P (k .fixedLength))
+          → (amongLayouts set ks t b ≡ Sound → P (widthIn ks t)) → P (cond c (k .fixedLength) (widthIn ks t))
+      by true s here later = here s
+      by false s here later = later s
+
 module _ (b : List ℕ) where
   lines-characters : (ls : List Line) (n from fixed : ℕ) → 1 ≤ n → 1 ≤ from → endToEnd n from fixed ls ≡ true → allCharacters ls ≡ true
       → firstWrong Ebcdic ls b ≡ 0 → (from ≤ fixed + 1) × (every (admits Ebcdic ANS) (take (fixed + 1 - from) (drop (from - 1) b)) ≡ true)
@@ -89,42 +116,18 @@ module _ (b : List ℕ) where
             (every-append (admits Ebcdic ANS) (take (l .size) (drop (from - 1) b)) (take (fixed + 1 - (l .last + 1)) (drop (l .last + 1 - 1) b)) own (others .1)),
       )
 
-  -- at least so long, and characters so far
-  abbrev Filled : ℕ → Type 0
-  Filled width = (width ≤ length b) × (every (admits Ebcdic ANS) (take width b) ≡ true)
-
-  alone-filled : (k : Layout) → endToEnd 1 1 (k .fixedLength) (k .lines) && allCharacters (k .lines) ≡ true → alone Ebcdic k b ≡ Sound → Filled (k .fixedLength)
-  unfolding judged
-  alone-filled k e sound =
+  alone-characters : (k : Layout) → filled k ≡ true → alone Ebcdic k b ≡ Sound → every (admits Ebcdic ANS) (take (k .fixedLength) b) ≡ true
+  alone-characters k e sound =
       let both = both-true (endToEnd 1 1 (k .fixedLength) (k .lines)) (allCharacters (k .lines)) e in
-      let long = kept (leb (k .fixedLength) (length b)) length-not-sound sound in
-      let short = kept (isVariable (sizedParts k) || leb (length b) (k .fixedLength)) length-not-sound (long .1) in
-      let field = kept (eqb (firstWrong Ebcdic (k .lines) b) 0) (field-not-sound (firstWrong Ebcdic (k .lines) b)) (short .1) in
-      let right = eqb-true (firstWrong Ebcdic (k .lines) b) 0 (field .0) in
-      let width : k .fixedLength ≡ k .fixedLength + 1 - 1 = omega arith in (
-        leb-true (k .fixedLength) (length b) (long .0),
-        ap (λ (n : ℕ). every (admits Ebcdic ANS) (take n b)) width
-            ∙ lines-characters (k .lines) 1 1 (k .fixedLength) (omega arith) (omega arith) (both .0) (both .1) right .1,
-      )
+      let width : k .fixedLength ≡ k .fixedLength + 1 - 1 = omega arith in
+      ap (λ (n : ℕ). every (admits Ebcdic ANS) (take n b)) width
+      ∙ lines-characters (k .lines) 1 1 (k .fixedLength) (omega arith) (omega arith) (both .0) (both .1) (alone-right Ebcdic b k sound .1) .1
 
-  among-filled : (t : ℕ) (ks : List Layout) → allFilled ks ≡ true → amongLayouts Ebcdic ks t b ≡ Sound → Filled (widthIn ks t)
-  among-filled t [] e sound = (omega arith, refl)
-  among-filled t (k ∷ ks) e sound =
-      let tests = both-true (endToEnd 1 1 (k .fixedLength) (k .lines) && allCharacters (k .lines)) (allFilled ks) e in
-      by (eqb t (k .typeNumber)) sound (alone-filled k (tests .0)) (among-filled t ks (tests .1))
-    where
-      by : (c : Bool) → cond c (alone Ebcdic k b) (amongLayouts Ebcdic ks t b) ≡ Sound → (alone Ebcdic k b ≡ Sound → Filled (k .fixedLength))
-          → (amongLayouts Ebcdic ks t b ≡ Sound → Filled (widthIn ks t)) → Filled (cond c (k .fixedLength) (widthIn ks t))
-      by true s here later = here s
-      by false s here later = later s
+pub sound-long : (set : CharacterSet) (t : ℕ) (b : List ℕ) → judgedAs set t b ≡ Sound → widthOf t ≤ length b
+unfolding judgedAs
+sound-long set t b =
+    among set t b (λ k. true) (λ w. w ≤ length b) (omega arith) (λ k e sound. alone-right set b k sound .0) layouts refl
 
-module _ (t : ℕ) (b : List ℕ) (sound : judgedAs Ebcdic t b ≡ Sound) where
-  sound-filled : Filled b (widthOf t)
-  unfolding judgedAs
-  sound-filled = among-filled b t layouts refl sound
-
-  pub sound-long : widthOf t ≤ length b
-  sound-long = sound-filled .0
-
-  pub sound-characters : every (admits Ebcdic ANS) (take (widthOf t) b) ≡ true
-  sound-characters = sound-filled .1
+pub sound-characters : (t : ℕ) (b : List ℕ) → judgedAs Ebcdic t b ≡ Sound → every (admits Ebcdic ANS) (take (widthOf t) b) ≡ true
+unfolding judgedAs
+sound-characters t b = among Ebcdic t b filled (λ w. every (admits Ebcdic ANS) (take w b) ≡ true) refl (alone-characters b) layouts refl

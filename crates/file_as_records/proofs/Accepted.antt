@@ -10,22 +10,19 @@ use lib.Seq.{getD-drop, drop-drop, length-take-le}
 use borrow.Author.Tests.{leb-true, leb-false, eqb-true}
 use Rattle.text.specs.CharacterSet.{setOf}
 use Rattle.text.specs.declared.character_set.CharacterSet.{CharacterSet}
-use Rattle.frame.specs.Frames.{part, lengthAt, frameAt}
+use Rattle.frame.specs.Frames.{part, frameAt}
 use Rattle.frame.specs.declared.Frame.the-variants.{Whole}
-use Rattle.frame.proofs.Laws.{whole, cut-body, whole-within, whole-start}
+use Rattle.frame.proofs.Laws.{whole-within, whole-start, whole-size}
 use Rattle.judge.specs.Alone.{typeOf}
 use Rattle.standing.specs.Standing.{standing}
-use Rattle.passes.specs.declared.Fault.the-variants.{After, Open, Size}
+use Rattle.passes.specs.declared.Fault.the-variants.{Open, Size}
 use Rattle.passes.specs.declared.Totals.{Totals}
-use Rattle.passes.specs.declared.Turn.{Turn}
-use Rattle.passes.specs.declared.Turn.the-variants.{Faulty}
 use Rattle.passes.specs.declared.Step.{Step}
 use Rattle.passes.specs.declared.Step.the-variants.{Stop, On}
 use Rattle.passes.specs.declared.Answer.{Answer}
 use Rattle.passes.specs.declared.Answer.the-variants.{Accepted, Refused}
-use Rattle.passes.specs.CheckOrder.{turnOf}
 use Rattle.passes.specs.Rows.{rowsOf}
-use Rattle.passes.specs.Reading.{ofTurn, stepOf, endedWith, run, surveyed}
+use Rattle.passes.specs.Reading.{stepOf, endedWith, run, surveyed}
 use Rattle.passes.proofs.Laws.{run-end, run-stop, run-on}
 use Rattle.passes.proofs.Passes.{accepted-small}
 use Rattle.file_as_records.specs.Framed.{Body, lengthField, framed}
@@ -36,21 +33,7 @@ use Rattle.file_as_records.proofs.Opened.{AllOpened, none-opened, all-o
 use Rattle.file_as_records.proofs.Steps.{turn-good}
 use Rattle.file_as_records.proofs.LengthFields.{Bytes, length-cut}
 use Rattle.file_as_records.proofs.ReadThrough.{body-is, records-accepted}
-use Rattle.passes.specs.declared.Turn.the-variants as turns
 use Rattle.passes.proofs.Laws as laws
-
--- a frame is as long as the length there says
-whole-size : (file : List ℕ) (at size : ℕ) → frameAt file at ≡ Whole (at + 4) size → lengthAt file at ≡ size
-whole-size file at size e = cases (leb (at + 4 + lengthAt file at) (length file)) refl
-  where
-    cases : (c : Bool) → leb (at + 4 + lengthAt file at) (length file) ≡ c → lengthAt file at ≡ size
-    cases true q = let w = whole file at (leb-true _ _ q) in cc
-    cases false q = let w = cut-body file at (omega (arith, whole-within file at (at + 4) size e)) (leb-false _ _ q) in cc
-
-on-turn : (c : Bool) (turn : Turn) (n : ℕ) {t size : ℕ} → cond c (Stop After) (ofTurn n turn) ≡ On t size → turn ≡ turns.Good t
-on-turn true turn n e = cc
-on-turn false (Faulty fault) n e = cc
-on-turn false (turns.Good u) n e = cc
 
 accepted-end : (c : Bool) (u t : Totals) (place at : ℕ) → cond c (Accepted u) (Refused Open place at) ≡ Accepted t → c ≡ true
 accepted-end true u t place at e = refl
@@ -74,7 +57,6 @@ module _ (set : CharacterSet) (file : List ℕ) (hb : Bytes file) (t : Totals) w
   next : (past : List Body) → Held set file past → AllOpened set past → (u size : ℕ)
       → stepOf set file (standing set file (entries set past)) (extent past) ≡ On u size
       → Next set file past u size
-  unfolding stepOf
   next past older opened u size e =
       let at = extent past in
       let f = laws.framed set file (standing set file (entries set past)) at u size e in
@@ -85,19 +67,16 @@ module _ (set : CharacterSet) (file : List ℕ) (hb : Bytes file) (t : Totals) w
       let n : length b ≡ size = length-take-le size (drop (at + 4) file) (simp length-drop (omega arith)) in
       let rest : drop (at + 4) file ≡ b ++ drop (at + 4 + size) file =
       sym (take-append-drop size (drop (at + 4) file)) ∙ ap (λ (x : List ℕ). b ++ x) (drop-drop size (at + 4) file) in
-      let step : cond (eqb (over set past .last) 99) (Stop After) (ofTurn size (turnOf set file (over set past) at b)) ≡ On u size =
-      rw (stands set file past older, there) at e in
       record {
         body = b;
         type = sym (f .type) ∙ ap (λ (n : ℕ). typeOf set (part n size file)) begins;
         size-is = sym n;
         bytes =
             length-cut (drop at file) (λ i. rw getD-drop (hb (at + i))) (simp length-drop (omega arith))
-            ∙ ap₂ (λ (k : ℕ) (x : List ℕ). lengthField k ++ x) (whole-size file at size there ∙ sym n)
+            ∙ ap₂ (λ (k : ℕ) (x : List ℕ). lengthField k ++ x) (whole-size file at (at + 4) size there ∙ sym n)
             (drop-drop 4 at file ∙ rest ∙ ap (λ (k : ℕ). b ++ drop (at + 4 + k) file) (sym n));
         good =
-            turn-good set file past older opened at b (drop (at + 4 + size) file) rest
-            (on-turn (eqb (over set past .last) 99) (turnOf set file (over set past) at b) size step);
+            turn-good set file past older opened at b (drop (at + 4 + size) file) rest (rw (begins, stands set file past older) at (f .turn));
       }
 
   found-end : (n : ℕ) (past : List Body) → Held set file past → length file ≤ extent past

@@ -1,29 +1,25 @@
 -- One turn of the reading, by the bodies before a record: it goes on exactly where the record is good. Assumes nothing.
-use Prim.Native.Nat.{ℕ, _+_}
+use Prim.Native.Nat.{ℕ, _+_, _≤_}
 use mathlib.Core.Bool.{Bool, true, false, _&&_, not, cond}
 use mathlib.Core.Path.{_≡_, refl, sym, ap, ap₂, _∙_}
 use mathlib.Core.List.{List, [], _∷_, _++_}
 use lib.Dec.{leb, eqb}
 use lib.ListN.{length, drop, take}
-use borrow.Author.Tests.{eqb-true, eq-eqb}
+use borrow.Author.Tests.{le-leb, leb-true, eqb-true, eq-eqb}
 use Rattle.text.specs.declared.character_set.CharacterSet.{CharacterSet}
 use Rattle.text.specs.Characters.{isNumeric}
 use Rattle.text.specs.DataTypes.{every}
 use Rattle.text.specs.Number.{number}
 use Rattle.layout.specs.Layouts.{cashLetterHeader, bundleHeader, checkDetail, checkDetailAddendumA, checkDetailAddendumC, returnRecord, returnAddendumA, returnAddendumD, imageViewData, creditRecord, bundleControl, cashLetterControl, fileControl}
-use Rattle.judge.specs.declared.Judged.{Judged}
-use Rattle.judge.specs.declared.Judged.the-variants.{Sound, WrongLength, WrongField}
 use Rattle.judge.specs.Alone.{typeOf, judgedAs}
-use Rattle.order.specs.MayFollow.{isItem, isOneOf, carried, isCarried, mayFollow}
+use Rattle.order.specs.MayFollow.{isItem, isOneOf, carried, isCarried}
 use Rattle.standing.specs.History.{field}
 use Rattle.standing.specs.declared.Standing.{Standing}
 use Rattle.agree.specs.Checks.{Check, check, firstFailing}
 use Rattle.agree.specs.Links.{same, addendaKept, annexB, numberedOn, sequenceOfItem, viewLinks, linkFault}
 use Rattle.agree.specs.Totals.{totalFault}
-use Rattle.passes.specs.declared.Fault.{Fault}
-use Rattle.passes.specs.declared.Fault.the-variants.{Length, UnknownType, Place, Link, Total}
-use Rattle.passes.specs.declared.Turn.{Turn}
-use Rattle.passes.specs.CheckOrder.{unlessAlone, agreement, turnOf}
+use Rattle.passes.specs.CheckOrder.{agreement, turnOf}
+use Rattle.passes.proofs.Passed.{Passed, passed}
 use Rattle.file_as_records.specs.Framed.{Body, fieldOf}
 use Rattle.file_as_records.proofs.Figures.{newest, is, insideIn, holderIn, bofdIn, endorserIn, statedIn, addendaIn, indicatorIn, openedIn, shownIn, sequenceOf}
 use Rattle.file_as_records.proofs.CheckLists.{numberedAs, viewChecks, linkChecks, bundleChecks, letterChecks, fileChecks, totalChecks, AllHold, _and_, end}
@@ -33,8 +29,6 @@ use Rattle.file_as_records.proofs.Tests.{both, under, under-where}
 use Rattle.file_as_records.proofs.Opened.{AllOpened, all-opened, has, inside-opened, holder-is, newest-passes}
 use Rattle.file_as_records.proofs.LinksByName.{links-out, links-in}
 use Rattle.file_as_records.proofs.TotalsByName.{totals-out, totals-in}
-use Rattle.frame.specs.Unless.{unless}
-use Rattle.judge.specs.declared.Judged.the-variants as judgements
 use Rattle.agree.specs.Links as links
 use Rattle.agree.specs.Totals as totals
 use Rattle.passes.specs.declared.Turn.the-variants as turns
@@ -145,64 +139,26 @@ module _ (set : CharacterSet) {file : List ℕ} {at : ℕ} {b : Body} (past : Li
       (λ e. let own = fields-at set h fileControl (λ c. refl) refl e in rw (own 2, own 3, own 4, own 5, own 8))
       refl))
 
--- a turn that goes on passed each check, and the other way
-record Passed (set : CharacterSet) (file : List ℕ) (s : Standing) (at : ℕ) (b : Body) : Type 0 where
-  carried : isCarried (typeOf set b) ≡ true
-  follows : mayFollow (s .inside) (s .last) (s .present) (typeOf set b) ≡ true
-  alone : judgedAs set (typeOf set b) b ≡ Sound
-  linked : firstFailing (links.linkChecks set file s (typeOf set b) at) ≡ 0
-  totalled : firstFailing (totals.totalChecks set file s (typeOf set b) at) ≡ 0
-
--- one check passed, and the turn that goes on behind it
-record Through (Check : Type 0) (next : Turn) (t : ℕ) : Type 0 where
-  check : Check
-  on : next ≡ turns.Good t
-
-through : (c : Bool) (fault : Fault) (next : Turn) {t : ℕ} → unless c (turns.Faulty fault) next ≡ turns.Good t → Through (c ≡ true) next t
-through true fault next e = record { check = refl; on = e }
-through false fault next e = record { check = cc; on = cc }
-
-through-alone : (j : Judged) (next : Turn) {t : ℕ} → unlessAlone j next ≡ turns.Good t → Through (j ≡ Sound) next t
-through-alone Sound next e = record { check = refl; on = e }
-through-alone WrongLength next e = record { check = cc; on = cc }
-through-alone judgements.UnknownType next e = record { check = cc; on = cc }
-through-alone (WrongField n) next e = record { check = cc; on = cc }
-
-two-long : (set : CharacterSet) (b : Body) → isCarried (typeOf set b) ≡ true → leb 2 (length b) ≡ true
+-- a record that passes each check goes on
+two-long : (set : CharacterSet) (b : Body) → isCarried (typeOf set b) ≡ true → 2 ≤ length b
 unfolding typeOf isCarried
-two-long set b e = cases (leb 2 (length b)) e
+two-long set b e = leb-true 2 (length b) (cases (leb 2 (length b)) e)
   where
     cases : (c : Bool) → isOneOf (cond (c && every (isNumeric set) (take 2 b)) (number set (take 2 b)) 0) carried ≡ true → c ≡ true
     cases true e = refl
     cases false e = cc
 
 module _ (set : CharacterSet) {file : List ℕ} {s : Standing} {at : ℕ} {b : Body} where
-  passed-in : {t : ℕ} → turnOf set file s at b ≡ turns.Good t → Passed set file s at b
-  unfolding turnOf agreement linkFault totalFault
-  passed-in e =
-      let long = through (leb 2 (length b)) Length _ e in
-      let carries = through (isCarried (typeOf set b)) UnknownType _ (long .on) in
-      let placed = through (mayFollow (s .inside) (s .last) (s .present) (typeOf set b)) Place _ (carries .on) in
-      let judged = through-alone (judgedAs set (typeOf set b) b) _ (placed .on) in
-      let links = through (eqb (linkFault set file s (typeOf set b) at) 0) (Link (linkFault set file s (typeOf set b) at)) _ (judged .on) in
-      let sums = through (eqb (totalFault set file s (typeOf set b) at) 0) (Total (totalFault set file s (typeOf set b) at)) _ (links .on) in
-      record {
-        carried = carries .check;
-        follows = placed .check;
-        alone = judged .check;
-        linked = eqb-true _ 0 (links .check);
-        totalled = eqb-true _ 0 (sums .check);
-      }
-
-  passed-out : Passed set file s at b → turnOf set file s at b ≡ turns.Good (typeOf set b)
-  unfolding turnOf agreement linkFault totalFault
-  passed-out p = rw (two-long set b (p .carried), p .carried, p .follows, p .alone, p .linked, p .totalled)
+  passed-out : Passed set file s at (typeOf set b) b → turnOf set file s at b ≡ turns.Good (typeOf set b)
+  unfolding turnOf agreement
+  passed-out p = rw (le-leb 2 (length b) (p .long), p .carried, p .follows, p .alone, p .linked, p .totalled)
 
 module _ (set : CharacterSet) (file : List ℕ) (past : List Body) (older : Held set file past) (opened : AllOpened set past) (at : ℕ) (b : Body) where
   -- the record at an offset, whose body is b: a turn goes on exactly where it is good
   pub turn-good : (rest : List ℕ) → drop (at + 4) file ≡ b ++ rest → {t : ℕ} → turnOf set file (over set past) at b ≡ turns.Good t → Good set past b
+  unfolding linkFault totalFault
   turn-good rest body e =
-      let p = passed-in set e in
+      let p = passed set e in
       let h : HeldAt set file at b = record { rest = rest; body = body; sound = p .alone } in
       let now = all-opened set b past opened (p .follows) in
       record {
@@ -220,10 +176,13 @@ module _ (set : CharacterSet) (file : List ℕ) (past : List Body) (older : Held
       }
 
   pub good-turn : HeldAt set file at b → Good set past b → turnOf set file (over set past) at b ≡ turns.Good (typeOf set b)
+  unfolding linkFault totalFault
   good-turn h g =
       let now = all-opened set b past opened (g .follows) in
       passed-out set
       (record {
+        type = refl;
+        long = two-long set b (g .carried);
         carried = g .carried;
         follows = g .follows;
         alone = g .alone;

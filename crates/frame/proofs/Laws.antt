@@ -62,3 +62,10 @@ unfolding frameAt
 whole-start file offset start size e =
     let tests = both-tests (leb (offset + 4) (length file)) (leb (offset + 4 + lengthAt file offset) (length file)) e in
     sym (tests .1)
+
+-- which is as long as the length says
+pub whole-size : (file : List ℕ) (offset start size : ℕ) → frameAt file offset ≡ Whole start size → lengthAt file offset ≡ size
+unfolding frameAt
+whole-size file offset start size e =
+    let tests = both-tests (leb (offset + 4) (length file)) (leb (offset + 4 + lengthAt file offset) (length file)) e in
+    tests .2

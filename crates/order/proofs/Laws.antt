@@ -2,13 +2,13 @@
 use Prim.Native.Nat.{ℕ}
 use mathlib.Core.Path.{_≡_, refl, sym, ap, _∙_}
 use mathlib.Core.Logic.{inl, inr}
-use mathlib.Core.Bool.{Bool, true, false, _||_, or-true, or-assoc, or-false, and-eq-true-iff}
+use mathlib.Core.Bool.{Bool, true, false, _&&_, _||_, or-true, or-assoc, or-false, and-eq-true-iff}
 use mathlib.Core.List.{List, [], _∷_}
 use lib.Dec.{eqb}
 use types.Run.{OneOf}
 use borrow.Author.Tests.{eqb-true, eq-eqb, ne-eqb}
 use Rattle.text.specs.DataTypes.{every}
-use Rattle.order.specs.MayFollow.{isOneOf}
+use Rattle.order.specs.MayFollow.{isOneOf, follows, oneItemType, mayFollow}
 
 -- `b | (x == y) | (x == z) | ..`
 abbrev tests : Bool → ℕ → List ℕ → Bool
@@ -40,3 +40,12 @@ among law t [] h e = cc
 among law t (u ∷ us) h e =
     let both = and-eq-true-iff (law u) (every law us) .0 h in
     or-picks (eqb t u) (isOneOf t us) e (λ q. ap law (eqb-true t u q) ∙ both .0) (among law t us (both .1))
+
+-- the first record is a file header
+pub first-type : (t : ℕ) → mayFollow false 0 0 t ≡ true → t ≡ 1
+unfolding mayFollow follows
+first-type t e = eqb-true t 1 (cases (eqb t 1) (oneItemType 0 t) e)
+  where
+    cases : (a b : Bool) → ((a || false) || false) && b ≡ true → a ≡ true
+    cases true b e = refl
+    cases false b e = e

@@ -1,12 +1,12 @@
 -- How the reading and the rows go on from a record, and what a row more makes of a table. Assumes nothing.
-use Prim.Native.Nat.{ℕ, zero, suc, _+_, _-_, _*_, _≤_, _<_}
+use Prim.Native.Nat.{ℕ, zero, suc, _+_, _-_, _≤_, _<_}
 use native.Mathlib.Nat.{add-assoc, add-zero}
 use native.Mathlib.Numerals.{sub-one}
 use native.Mathlib.Omega.{arith}
 use mathlib.Core.Path.{_≡_, refl, sym, ap, _∙_, subst}
 use mathlib.Core.Bool.{Bool, true, false, cond}
 use mathlib.Core.List.{List, [], _∷_, _++_, append-assoc}
-use lib.Dec.{leb, eqb}
+use lib.Dec.{eqb}
 use lib.ListN.{length, take, drop, length-append, take-append-drop}
 use lib.Seq.{sets, sets-eq, take-at, drop-append-add, length-take-le, drop-drop}
 use borrow.Author.Tests.{le-leb, lt-leb}
@@ -14,26 +14,20 @@ use Rattle.text.specs.declared.character_set.CharacterSet.{CharacterSet}
 use Rattle.frame.specs.Frames.{part, frameAt}
 use Rattle.frame.specs.declared.Frame.{Frame}
 use Rattle.frame.specs.declared.Frame.the-variants.{Cut, Whole}
-use Rattle.judge.specs.Alone.{typeOf, judgedAs}
-use Rattle.judge.specs.declared.Judged.{Judged}
-use Rattle.judge.specs.declared.Judged.the-variants.{Sound, WrongLength, UnknownType, WrongField}
-use Rattle.order.specs.MayFollow.{isCarried, mayFollow}
+use Rattle.judge.specs.Alone.{typeOf}
 use Rattle.standing.specs.History.{Entry, entry}
 use Rattle.standing.specs.Standing.{standing}
 use Rattle.standing.specs.declared.Standing.{Standing}
-use Rattle.agree.specs.Links.{linkFault}
-use Rattle.agree.specs.Totals.{totalFault}
 use Rattle.passes.specs.declared.Fault.{Fault}
-use Rattle.passes.specs.declared.Fault.the-variants.{Length, Place, Link, Total, After}
+use Rattle.passes.specs.declared.Fault.the-variants.{After}
 use Rattle.passes.specs.declared.Turn.{Turn}
 use Rattle.passes.specs.declared.Turn.the-variants.{Faulty, Good}
-use Rattle.passes.specs.declared.Step.{Step}
 use Rattle.passes.specs.declared.Step.the-variants.{Stop, On}
 use Rattle.passes.specs.declared.Answer.the-variants.{Refused}
-use Rattle.passes.specs.CheckOrder.{unlessAlone, agreement, turnOf}
+use Rattle.passes.specs.CheckOrder.{turnOf}
 use Rattle.passes.specs.Rows.{rowOf, rowsFrom}
 use Rattle.passes.specs.Reading.{ofTurn, ofFrame, stepOf, ended, run}
-use Rattle.frame.specs.Unless.{unless}
+use Rattle.passes.proofs.Passed.{passed}
 use Rattle.passes.specs.declared.Fault.the-variants as faults
 
 module _ (set : CharacterSet) (file : List ℕ) (at : ℕ) (past : List Entry) where
@@ -81,66 +75,34 @@ module _ (set : CharacterSet) (file : List ℕ) (at : ℕ) (past : List Entry) w
       q
       (rows-at n start size h k e)
 
--- a good record: its frame, and its type
-
-faulty-good : (fault : Fault) (t : ℕ) → Faulty fault ≡ Good t → ⊥
-faulty-good fault t e = let z : _≡_ {A = ℕ} 0 1 = cc in omega arith
+-- a good record: its frame, its turn and its type
 
 stop-on : (fault : Fault) (t size : ℕ) → Stop fault ≡ On t size → ⊥
 stop-on fault t size e = let z : _≡_ {A = ℕ} 0 1 = cc in omega arith
 
-through : (b : Bool) (fault : Fault) (next : Turn) {t : ℕ} → unless b (Faulty fault) next ≡ Good t → next ≡ Good t
-through true fault next e = e
-through false fault next {t} e = absurd (faulty-good fault t e)
-
-through-alone : (j : Judged) (next : Turn) {t : ℕ} → unlessAlone j next ≡ Good t → next ≡ Good t
-through-alone Sound next e = e
-through-alone WrongLength next e = cc
-through-alone UnknownType next e = cc
-through-alone (WrongField n) next e = cc
-
-good-type : (set : CharacterSet) (file : List ℕ) (s : Standing) (at t : ℕ) (body : List ℕ) → turnOf set file s at body ≡ Good t → typeOf set body ≡ t
-unfolding turnOf agreement
-good-type set file s at t body e =
-    let k = typeOf set body in
-    let totalled = unless (eqb (totalFault set file s k at) 0) (Faulty (Total (totalFault set file s k at))) (Good k) in
-    let linked = unless (eqb (linkFault set file s k at) 0) (Faulty (Link (linkFault set file s k at))) totalled in
-    let alone = unlessAlone (judgedAs set k body) linked in
-    let placed = unless (mayFollow (s .inside) (s .last) (s .present) k) (Faulty Place) alone in
-    let typed = unless (isCarried k) (Faulty faults.UnknownType) placed in
-    let e₁ = through (leb 2 (length body)) Length typed e in
-    let e₂ = through (isCarried k) faults.UnknownType placed e₁ in
-    let e₃ = through (mayFollow (s .inside) (s .last) (s .present) k) Place alone e₂ in
-    let e₄ = through-alone (judgedAs set k body) linked e₃ in
-    let e₅ = through (eqb (linkFault set file s k at) 0) (Link (linkFault set file s k at)) totalled e₄ in
-    let e₆ = through (eqb (totalFault set file s k at) 0) (Total (totalFault set file s k at)) (Good k) e₅ in
-    cc e₆
-
-pub record Framed (set : CharacterSet) (file : List ℕ) (at t size : ℕ) : Type 0 where
+pub record Framed (set : CharacterSet) (file : List ℕ) (s : Standing) (at t size : ℕ) : Type 0 where
   pub start : ℕ
   pub whole : frameAt file at ≡ Whole start size
+  pub turn : turnOf set file s at (part start size file) ≡ Good t
   pub type : typeOf set (part start size file) ≡ t
 
 on-turn : (turn : Turn) (n : ℕ) {t size : ℕ} → ofTurn n turn ≡ On t size → (turn ≡ Good t) × (n ≡ size)
 on-turn (Faulty fault) n e = ((cc), (cc))
 on-turn (Good u) n e = ((cc), (cc))
 
-on-frame : (set : CharacterSet) (file : List ℕ) (s : Standing) (at t size : ℕ) (f : Frame) → frameAt file at ≡ f → ofFrame set file s at f ≡ On t size → Framed set file at t size
+on-frame : (set : CharacterSet) (file : List ℕ) (s : Standing) (at t size : ℕ) (f : Frame) → frameAt file at ≡ f → ofFrame set file s at f ≡ On t size → Framed set file s at t size
 on-frame set file s at t size Cut q e = absurd (stop-on faults.Cut t size e)
 on-frame set file s at t size (Whole start n) q e =
     let p = on-turn (turnOf set file s at (part start n file)) n e in
-    record {
-      start = start;
-      whole = q ∙ ap (Whole start) (p .1);
-      type = ap (λ (m : ℕ). typeOf set (part start m file)) (sym (p .1)) ∙ good-type set file s at t (part start n file) (p .0);
-    }
+    let turn : turnOf set file s at (part start size file) ≡ Good t = rw (p .1) at (p .0) in
+    record { start = start; whole = q ∙ ap (Whole start) (p .1); turn = turn; type = passed set turn .type }
 
 on-step : (set : CharacterSet) (file : List ℕ) (s : Standing) (at t size : ℕ) (b : Bool) → cond b (Stop After) (ofFrame set file s at (frameAt file at)) ≡ On t size
-    → Framed set file at t size
+    → Framed set file s at t size
 on-step set file s at t size true e = absurd (stop-on After t size e)
 on-step set file s at t size false e = on-frame set file s at t size (frameAt file at) refl e
 
-pub framed : (set : CharacterSet) (file : List ℕ) (s : Standing) (at t size : ℕ) → stepOf set file s at ≡ On t size → Framed set file at t size
+pub framed : (set : CharacterSet) (file : List ℕ) (s : Standing) (at t size : ℕ) → stepOf set file s at ≡ On t size → Framed set file s at t size
 unfolding stepOf
 framed set file s at t size e = on-step set file s at t size (eqb (s .last) 99) e
 

@@ -1,6 +1,6 @@
 -- What holds at the head of each pass's loop, and that a turn keeps it. Assumes nothing.
 use Prim.Native.Nat.{ℕ, _+_, _-_, _*_, _≤_, _<_}
-use native.Mathlib.Nat.{add-zero, zero-add}
+use native.Mathlib.Nat.{zero-add}
 use native.Mathlib.Omega.{arith}
 use mathlib.Core.Path.{_≡_, refl, sym, ap, _∙_, subst}
 use mathlib.Core.Bool.{Bool, true, false, _&&_, cond}
@@ -29,7 +29,7 @@ use Rattle.passes.specs.declared.Answer.the-variants.{Accepted, Refused}
 use Rattle.passes.specs.Rows.{rowOf, rowsFrom, rowsOf}
 use Rattle.passes.specs.Reading.{totalsOf, stepOf, endedWith, run, surveyed, Counted}
 use Rattle.passes.proofs.Capped.{figures-twice, ended-capped, row-capped, step-capped}
-use Rattle.passes.proofs.Laws.{run-end, run-stop, run-on, rows-end, rows-cut, rows-on, Framed, framed, splice, splice-none, splice-more}
+use Rattle.passes.proofs.Laws.{run-end, run-stop, run-on, rows-end, rows-cut, rows-on, framed, splice, splice-none, splice-more}
 
 -- both passes: the records passed, where the loop is, and how many records may still come
 pub record Place (set : CharacterSet) (file : List ℕ) (at : ℕ) (s : Standing) : Type 0 where

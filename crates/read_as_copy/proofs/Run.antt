@@ -2,49 +2,43 @@
 -- both. Assumes nothing.
 use Prim.Native.Nat.{ℕ, zero, suc, _+_, _-_, _≤_, _<_}
 use native.Mathlib.Omega.{arith}
-use mathlib.Core.Bool.{Bool, true, false, _&&_, _||_, cond}
+use mathlib.Core.Bool.{Bool, true, false, _&&_, cond}
 use mathlib.Core.Path.{_≡_, refl, sym, ap, ap₂, _∙_}
 use mathlib.Core.List.{List, [], _∷_, _++_}
 use lib.Dec.{leb, eqb}
 use lib.ListN.{length, take, drop, length-take}
 use lib.Seq.{take-take}
-use borrow.Author.Tests.{leb-true, leb-false, eqb-true}
+use borrow.Author.Tests.{leb-true, leb-false}
 use Rattle.text.specs.declared.character_set.CharacterSet.the-variants.{Ascii, Ebcdic}
 use Rattle.frame.specs.declared.Frame.{Frame}
 use Rattle.frame.specs.declared.Frame.the-variants.{Cut, Whole}
 use Rattle.frame.specs.Frames.{part, frameAt}
-use Rattle.frame.specs.Unless.{unless}
 use Rattle.frame.proofs.Laws.{whole-start}
 use Rattle.layout.specs.Layout.{Layout}
 use Rattle.layout.specs.Layouts.{layouts}
-use Rattle.judge.specs.declared.Judged.{Judged}
-use Rattle.judge.specs.declared.Judged.the-variants.{Sound, WrongLength, UnknownType, WrongField}
+use Rattle.judge.specs.declared.Judged.the-variants.{Sound}
 use Rattle.judge.specs.Alone.{typeOf, judgedAs}
 use Rattle.judge.proofs.Laws.{both-true}
-use Rattle.order.specs.MayFollow.{isCarried, follows, oneItemType, mayFollow}
+use Rattle.order.specs.MayFollow.{mayFollow}
+use Rattle.order.proofs.Laws.{first-type}
 use Rattle.standing.specs.History.{Entry, entry}
 use Rattle.standing.specs.Standing.{standing}
 use Rattle.standing.specs.declared.Standing.{Standing}
 use Rattle.ascii_copy.specs.AsciiCopy.{translated}
-use Rattle.passes.specs.declared.Fault.{Fault}
-use Rattle.passes.specs.declared.Fault.the-variants.{Length, Place, After}
-use Rattle.passes.specs.declared.Turn.{Turn}
-use Rattle.passes.specs.declared.Turn.the-variants.{Faulty, Good}
+use Rattle.passes.specs.declared.Fault.the-variants.{After}
 use Rattle.passes.specs.declared.Step.{Step}
 use Rattle.passes.specs.declared.Step.the-variants.{Stop, On}
 use Rattle.passes.specs.declared.Totals.{Totals}
 use Rattle.passes.specs.declared.Answer.the-variants.{Accepted}
-use Rattle.passes.specs.CheckOrder.{unlessAlone, agreement, turnOf}
+use Rattle.passes.specs.CheckOrder.{turnOf}
 use Rattle.passes.specs.Rows.{rowOf, rowsFrom}
 use Rattle.passes.specs.Reading.{ofTurn, ofFrame, stepOf, afterStep, endedWith, ended, run}
+use Rattle.passes.proofs.Passed.{passed, turns-alike}
 use Rattle.passes.proofs.Laws.{run-stop, run-on, rows-on, framed}
 use Rattle.ascii_copy.proofs.Records.{length-copied, front-copied, type-copied, judged-copied}
 use Rattle.ascii_copy.proofs.SoundCharacters.{widthIn, widthOf, sound-characters, sound-long}
 use Rattle.ascii_copy.proofs.Frames.{Ahead, ahead-frame, ahead-body, ahead-next}
-use Rattle.read_as_copy.proofs.Alike.{AlikeAt, AlikePast}
-use Rattle.read_as_copy.proofs.FiguresAlike.{standing-alike, row-alike}
-use Rattle.read_as_copy.proofs.AgreementAlike.{agreement-alike}
-use Rattle.passes.specs.declared.Fault.the-variants as faults
+use Rattle.read_as_copy.proofs.Alike.{AlikeAt, AlikePast, standing-alike, row-alike, agreement-alike}
 
 -- no fixed part is longer than that of a 52
 abbrev narrow : List Layout → Bool
@@ -78,40 +72,6 @@ pub record Reached (file copy : List ℕ) (at : ℕ) (past : List Entry) : Type 
   pub alike : AlikePast file copy past
   pub opening : Opening file copy at past
 
--- the first record is a file header
-first-type : (t : ℕ) → mayFollow false 0 0 t ≡ true → t ≡ 1
-unfolding mayFollow follows
-first-type t e = eqb-true t 1 (cases (eqb t 1) (oneItemType 0 t) e)
-  where
-    cases : (a b : Bool) → ((a || false) || false) && b ≡ true → a ≡ true
-    cases true b e = refl
-    cases false b e = e
-
--- a check that both pass through
-under : (c : Bool) (fault : Fault) {x y : Turn} → (c ≡ true → x ≡ y) → unless c (Faulty fault) x ≡ unless c (Faulty fault) y
-under true fault h = h refl
-under false fault h = refl
-
--- one check passed, and the turn that goes on behind it
-record Through (Check : Type 0) (next : Turn) (t : ℕ) : Type 0 where
-  check : Check
-  on : next ≡ Good t
-
-through : (c : Bool) (fault : Fault) (next : Turn) {t : ℕ} → unless c (Faulty fault) next ≡ Good t → Through (c ≡ true) next t
-through true fault next e = record { check = refl; on = e }
-through false fault next e = record { check = cc; on = cc }
-
-through-alone : (j : Judged) (next : Turn) {t : ℕ} → unlessAlone j next ≡ Good t → Through (j ≡ Sound) next t
-through-alone Sound next e = record { check = refl; on = e }
-through-alone WrongLength next e = record { check = cc; on = cc }
-through-alone UnknownType next e = record { check = cc; on = cc }
-through-alone (WrongField n) next e = record { check = cc; on = cc }
-
-on-turn : (c : Bool) (turn : Turn) {t size : ℕ} → cond c (Stop After) (ofTurn size turn) ≡ On t size → turn ≡ Good t
-on-turn true turn e = cc
-on-turn false (Faulty fault) e = cc
-on-turn false (Good u) e = cc
-
 module _ (file copy : List ℕ) (at : ℕ) (past : List Entry) (r : Reached file copy at past) where
   opening-on : (t : ℕ) → mayCome (standing Ebcdic file past) t ≡ true → AlikeAt file copy at (widthOf t) → AlikeAt file copy 0 80
   unfolding standing
@@ -128,35 +88,26 @@ module _ (file copy : List ℕ) (at : ℕ) (past : List Entry) (r : Reached file
     -- a sound record is alike in both
     here : (t : ℕ) → judgedAs Ebcdic t (part start size file) ≡ Sound → AlikeAt file copy at (widthOf t)
     here t sound =
-        let fits : widthOf t ≤ size = omega (arith, sound-long t (part start size file) sound, length-take size (drop start file)) in
+        let fits : widthOf t ≤ size = omega (arith, sound-long Ebcdic t (part start size file) sound, length-take size (drop start file)) in
         record {
-          same =
-              front (widthOf t) fits copy
-              ∙ ap (take (widthOf t)) (ahead-body file copy at start size (r .ahead) whole)
-              ∙ front-copied (widthOf t) (part start size file) (width-small t)
-              ∙ ap translated (sym (front (widthOf t) fits file));
-          characters = rw (front (widthOf t) fits file) (sound-characters t (part start size file) sound);
+          same = record {
+            same =
+                front (widthOf t) fits copy
+                ∙ ap (take (widthOf t)) (ahead-body file copy at start size (r .ahead) whole)
+                ∙ front-copied (widthOf t) (part start size file) (width-small t)
+                ∙ ap translated (sym (front (widthOf t) fits file));
+            characters = rw (front (widthOf t) fits file) (sound-characters t (part start size file) sound);
+          };
         }
 
     turn-alike : turnOf Ascii copy (standing Ebcdic file past) at (part start size copy) ≡ turnOf Ebcdic file (standing Ebcdic file past) at (part start size file)
-    unfolding turnOf
     turn-alike =
-        rw (ahead-body file copy at start size (r .ahead) whole, length-copied body, type-copied body, judged-copied body)
-        (under (leb 2 (length body)) Length (λ l. under (isCarried type) faults.UnknownType (λ c. under _ Place (λ follows. cases follows (judgedAs Ebcdic type body) refl))))
-      where
-        body : List ℕ
-        body = part start size file
-
-        type : ℕ
-        type = typeOf Ebcdic body
-
-        cases : mayCome (standing Ebcdic file past) type ≡ true → (j : Judged) → judgedAs Ebcdic type body ≡ j
-            → unlessAlone j (agreement Ascii copy (standing Ebcdic file past) at type) ≡ unlessAlone j (agreement Ebcdic file (standing Ebcdic file past) at type)
-        cases follows Sound e =
-            agreement-alike file copy past at type (r .alike) (here type e) (λ q. opening-on type follows (here type e))
-        cases follows WrongLength e = refl
-        cases follows UnknownType e = refl
-        cases follows (WrongField n) e = refl
+        let body = part start size file in
+        let type = typeOf Ebcdic body in
+        let copied = ahead-body file copy at start size (r .ahead) whole in
+        turns-alike Ebcdic Ascii file copy (standing Ebcdic file past) at body (part start size copy) (ap length copied ∙ length-copied body)
+        (ap (typeOf Ascii) copied ∙ type-copied body) (ap (judgedAs Ascii type) copied ∙ judged-copied body)
+        (λ follows sound. agreement-alike file copy past at type (r .alike) (here type sound) (λ q. opening-on type follows (here type sound)))
 
   step-alike : stepOf Ascii copy (standing Ascii copy past) at ≡ stepOf Ebcdic file (standing Ebcdic file past) at
   unfolding stepOf
@@ -171,21 +122,14 @@ module _ (file copy : List ℕ) (at : ℕ) (past : List Entry) (r : Reached file
   module _ (t size : ℕ) (step : stepOf Ebcdic file (standing Ebcdic file past) at ≡ On t size) where
     -- behind a good record both readings are in step again
     reached-on : Reached file copy (at + 4 + size) (entry t at size ∷ past)
-    unfolding stepOf turnOf
     reached-on =
         let f = framed Ebcdic file (standing Ebcdic file past) at t size step in
-        let body = part (f .start) size file in
-        let s = standing Ebcdic file past in
-        let good : turnOf Ebcdic file s at body ≡ Good t = on-turn (eqb (s .last) 99) _ (rw (f .whole) at step) in
-        let long = through (leb 2 (length body)) Length _ good in
-        let carries = through (isCarried (typeOf Ebcdic body)) faults.UnknownType _ (long .on) in
-        let placed = through (mayCome s (typeOf Ebcdic body)) Place _ (carries .on) in
-        let judged = through-alone (judgedAs Ebcdic (typeOf Ebcdic body) body) _ (placed .on) in
-        let alike : AlikeAt file copy at (widthOf t) = here (f .start) size (f .whole) t (rw (f .type) at (judged .check)) in
+        let p = passed Ebcdic (f .turn) in
+        let alike : AlikeAt file copy at (widthOf t) = here (f .start) size (f .whole) t (rw (f .type) at (p .alone)) in
         record {
           ahead = rw (whole-start file at (f .start) size (f .whole)) at (ahead-next file copy at (f .start) size (r .ahead) (f .whole));
           alike = (alike, r .alike);
-          opening = opening-on t (rw (f .type) at (placed .check)) alike;
+          opening = opening-on t (rw (f .type) at (p .follows)) alike;
         }
 
     -- and the rows of both go on alike

@@ -1,6 +1,6 @@
 -- The three ways in which a reading ends, each with the answer, the table and what they say of the file's arrangement. Assumes nothing.
 use Prim.Native.Nat.{ℕ, _/_, _≤_, _<_}
-use mathlib.Core.Path.{_≡_, sym, _∙_}
+use mathlib.Core.Path.{_≡_, sym, _∙_, subst}
 use mathlib.Core.List.{List, _++_}
 use lib.ListN.{length, drop}
 use borrow.Author.Tests.{le-leb, lt-leb}
@@ -16,15 +16,17 @@ use Rattle.arrangement.specs.Arranged.{Arranged}
 use Rattle.arrangement.proofs.Theorem.{arranged}
 use Rattle.read_as_copy.specs.AsItsCopy.{AsItsCopy}
 use Rattle.read_as_copy.proofs.Theorem.{answer-of-copy, table-of-copy}
+use Rattle.own_fault.specs.OwnFault.{OwnFault}
+use Rattle.own_fault.proofs.Theorem.{theorem}
 
 abbrev pub Meets : List ℕ → List ℕ → Answer → List ℕ → Type 0
 Meets file table answer after =
     (answer ≡ answerOf file (length table))
-    × ((after ≡ tableOf file table) × (Arranged file table answer after × AsItsCopy file table answer after))
+    × ((after ≡ tableOf file table) × (Arranged file table answer after × (AsItsCopy file table answer after × OwnFault file answer)))
 
 module _ (file table : List ℕ) (bytes : Bytes file) where
   meets : (answer : Answer) (after : List ℕ) → answer ≡ answerOf file (length table) → after ≡ tableOf file table → Meets file table answer after
-  meets answer after e t = (e, (t, (arranged file table answer after bytes e t, copied)))
+  meets answer after e t = (e, (t, (arranged file table answer after bytes e t, (copied, subst (OwnFault file) (sym e) (theorem file (length table))))))
     where
       copied : AsItsCopy file table answer after
       copied = record { same-answer = e ∙ sym (answer-of-copy file (length table)); same-rows = t ∙ sym (table-of-copy file table) }

@@ -1,11 +1,12 @@
 //! What is asked about each file: the lengths of the tables that are lent, and the offsets of picture calls.
 
 use crate::charset::{Set, EBCDIC_CARRIED};
-use crate::descent::{split_record, Number, Reading};
+use crate::descent::{read_in, split_record, Number, Reading};
 use crate::layout::name_of;
 use crate::picture::{picture_in, Picture};
 use crate::random::Random;
 use crate::sets;
+use crate::tails;
 use crate::tally::{Point, Tally};
 
 /// After so many offsets in one file only some of its 52s are asked for.
@@ -70,6 +71,18 @@ impl Tally {
         if found.number == Number::Field {
             self.note_in(set, Point::PictureFieldRefused(found.field as u8));
         }
+    }
+
+    /// Notes what other tails of a file show (request 7), and tells the first claim that the independent reader does not keep.
+    pub fn note_tails(&mut self, file: &[u8], reading: &Reading, random: &mut Random) -> Result<(), String> {
+        for trial in tails::trials(file, reading, random) {
+            let of_trial = read_in(Set::by_library(&trial.bytes), &trial.bytes);
+            for length in &trial.tables {
+                trial.holds_for("independent", &of_trial.with_rows(length / 7).listed(), *length)?;
+            }
+            self.note_in(Set::by_library(file), Point::Tail(trial.point));
+        }
+        Ok(())
     }
 
     /// Notes what the picture calls within images show, once they are asked.

@@ -65,7 +65,7 @@ impl Answer {
         listed
     }
 
-    fn refused(number: Number, record: u64, field: u64, offset: u64) -> Answer {
+    pub fn refused(number: Number, record: u64, field: u64, offset: u64) -> Answer {
         Answer { number, record, field, offset, totals: Totals::default() }
     }
 }

@@ -77,7 +77,7 @@ fn at<T: Copy>(targets: &[T], turn: usize) -> T {
 }
 
 /// An ASCII file in this set.
-fn in_set(set: Set, ascii: Vec<u8>) -> Vec<u8> {
+pub fn in_set(set: Set, ascii: Vec<u8>) -> Vec<u8> {
     match set {
         Set::Ascii => ascii,
         Set::Ebcdic => to_ebcdic(&ascii),

@@ -23,4 +23,5 @@ pub mod samples;
 pub mod samples_ebcdic;
 pub mod sets;
 pub mod stream;
+pub mod tails;
 pub mod tally;

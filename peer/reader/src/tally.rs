@@ -11,6 +11,7 @@ use crate::harm::{field_targets, insides, key_fields, lawful_pairs, place_target
 use crate::layout::{carried, layout, name_of, CARRIED, LAYOUTS, NOT_CARRIED};
 use crate::routing::{self, Shape};
 use crate::sets::{self, SetPoint};
+use crate::tails::{self, TailPoint};
 
 /// One thing that a run is to show.
 #[derive(Clone, Copy, Debug, PartialEq, Eq, PartialOrd, Ord)]
@@ -35,6 +36,8 @@ pub enum Point {
     Credit(CreditPoint),
     /// What the two character sets bring about (request 5).
     Sets(SetPoint),
+    /// What the rest of a file can change, and what it cannot (request 7).
+    Tail(TailPoint),
     LengthRefused(u8, &'static str),
     BelowTwo,
     CutIn(&'static str),
@@ -336,6 +339,7 @@ fn in_either_set() -> Vec<Point> {
     points.extend([Accepted, Size, Cut, Length, Type, Field].map(Point::PictureAnswer));
     let of_52 = field_targets().into_iter().filter(|(code, _)| *code == 52);
     points.extend(of_52.map(|(_, field)| Point::PictureFieldRefused(field)));
+    points.extend(tails::demanded().into_iter().map(Point::Tail));
     points
 }
 
@@ -353,6 +357,7 @@ fn group_of(point: &Point) -> &'static str {
         Point::Slipped(..) => "control fields and slips refused at TOTAL",
         Point::Credit(point) => point.group(),
         Point::Sets(point) => point.group(),
+        Point::Tail(point) => point.group(),
         Point::LengthRefused(..) => "types refused at LENGTH",
         Point::BelowTwo => "lengths below two",
         Point::CutIn(_) => "sorts of CUT",

@@ -45,8 +45,14 @@ pub fn run(args: Args) -> Result<u8, Stop> {
 fn told(result: &Result<Reading, Refusal>) -> (String, String) {
     match result {
         Ok(reading) => (coloured(&reading.line(), Colour::Green), accepted(&reading.totals())),
-        Err(refusal) => (coloured(&refusal.line(), Colour::Red), format!("{refusal:#}")),
+        Err(refusal) => (coloured(&refusal.line(), Colour::Red), refused(refusal)),
     }
+}
+
+/// The fault, and whether bytes that follow could mend the file.
+fn refused(refusal: &Refusal) -> String {
+    let more_bytes = refusal.more_bytes().map_or_else(String::new, |words| format!("\n{words}"));
+    format!("{refusal:#}{more_bytes}")
 }
 
 fn accepted(totals: &x9180::Totals) -> String {

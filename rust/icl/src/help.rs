@@ -32,8 +32,8 @@ With several files each line is preceded by the file's name. Below the line of a
 A file of more than 268435456 bytes is refused with number 1, and told on standard error besides.
   --explain   adds the fault in plain words: the number's name, the record and field with their
               names in the standard, the bytes found there, and what they disagree with (in EBCDIC
-              also a byte that is no character); for an accepted file the debits and the credits
-              it adds up to
+              also a byte that is no character), and in the last line whether bytes that follow could
+              mend the file; for an accepted file the debits and the credits it adds up to
 
 N is 1 SIZE, 2 ROOM, 3 CUT, 4 LENGTH, 5 TYPE, 6 PLACE, 7 FIELD, 8 LINK, 9 TOTAL, 10 OPEN or 11 AFTER.
 Exit status: 0 all accepted, 1 some refused, 2 something could not be read.

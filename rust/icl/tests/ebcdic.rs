@@ -60,6 +60,7 @@ fn check_explains() {
         "  field 4, MICR Valid Debit Total Amount, at offset 585",
         "  found \"000000000000\"",
         "  cents of the items with MICR Valid Indicator 1 in the bundle: 150",
+        "  no bytes that follow can mend it: the fault stands in the bytes up to the end of record 7, before offset 647",
     ];
     explained("peer/samples/ebcdic/damaged-8-micr-total.x9", 1, &lines);
     let lines = [
@@ -70,6 +71,7 @@ fn check_explains() {
         "  field 1, Record Type, at offset 340",
         "  found \"50\"",
         "  field 8, Cash Letter Record Type Indicator, of record 2 is \"E\": no view may come",
+        "  no bytes that follow can mend it: the fault stands in the bytes up to the end of record 5, before offset 420",
     ];
     explained("peer/samples/ebcdic/damaged-7-view-under-e.x9", 1, &lines);
 }
@@ -91,6 +93,7 @@ fn check_explains_a_byte_without_a_character() {
         "  found \"\\x4A             \"",
         "  asked: printable characters",
         "  the byte 4A at offset 301: code page 037 has no character of clause 5 for it",
+        "  no bytes that follow can mend it: the fault stands in the bytes up to the end of record 4, before offset 341",
     ];
     explained("peer/samples/ebcdic/damaged-1-no-counterpart.x9", 1, &lines);
     let lines = [
@@ -101,6 +104,7 @@ fn check_explains_a_byte_without_a_character() {
         "  found in place of the type: the bytes 31 30 (hexadecimal)",
         "  the byte 31 at offset 88: code page 037 has no character of clause 5 for it, nor for 1 more byte here",
         "  these are digits in ASCII, and the file is read as EBCDIC, since its bytes 5 and 6 are F0 F1",
+        "  no bytes that follow can mend it: the fault stands in the bytes up to the end of record 2, before offset 168",
     ];
     explained("peer/samples/ebcdic/damaged-2-ascii-record.x9", 1, &lines);
 }

@@ -66,7 +66,8 @@ fn check_explains() {
                  \x20 record 10, Bundle Control Record (type 70), at offset 818\n\
                  \x20 field 2, Bundle Debit Item Count, at offset 824\n\
                  \x20 found \"0003\"\n\
-                 \x20 debit items in the bundle: 2\n"
+                 \x20 debit items in the bundle: 2\n\
+                 \x20 no bytes that follow can mend it: the fault stands in the bytes up to the end of record 10, before offset 902\n"
             ),
             String::new()
         )
@@ -95,12 +96,14 @@ fn check_explains_credits() {
         "  field 3, Bundle Debit Total Amount, at offset 774",
         "  found \"000000001030\"",
         "  cents of the debit items in the bundle: 30; of the credit items: 3000",
+        "  no bytes that follow can mend it: the fault stands in the bytes up to the end of record 10, before offset 848",
     ];
     let output = format!("{}\n", lines.join("\n"));
     assert_eq!(run("check --explain peer/samples/damaged-24-credit-as-debit.x9"), (1, output, String::new()));
     let output = "refused 6 record 2 field 0 offset 84\n  PLACE: a record of this type may not stand here\n  \
                   record 2, Credit/Reconciliation Record (type 61), at offset 84\n  \
-                  the record before it is record 1, File Header Record (type 01)\n  no cash letter is open here\n";
+                  the record before it is record 1, File Header Record (type 01)\n  no cash letter is open here\n  \
+                  no bytes that follow can mend it: the fault stands in the bytes up to the end of record 2, before offset 172\n";
     let file = "peer/samples/damaged-19-61-in-no-letter.x9";
     assert_eq!(run(&format!("check --explain {file}")), (1, output.to_string(), String::new()));
 }
@@ -119,6 +122,7 @@ fn check_explains_routing_numbers() {
          digits, a dash, three digits), TTTT-AAAA (four digits, a dash, four digits) or bTTTTAAAA (a blank, eight digits), unless it holds \
          a can't-read mark *",
         "  the check digit is wrong: it is 1 and should be 0",
+        "  no bytes that follow can mend it: the fault stands in the bytes up to the end of record 4, before offset 336",
     ];
     let output = format!("{}\n", lines.join("\n"));
     assert_eq!(run(&format!("check --explain {file}")), (1, output, String::new()));
@@ -232,7 +236,10 @@ fn three_hundred_mebibytes() {
     assert_eq!((status, complaint.ends_with("and it has 268435457\n")), (1, true), "{complaint}");
     assert_eq!(
         output,
-        format!("{line}  SIZE: the file has no byte, or more than 268435456\n  found 268435457 bytes\n")
+        format!(
+            "{line}  SIZE: the file has no byte, or more than 268435456\n  found 268435457 bytes\n  \
+             no bytes that follow can mend it: the file has too many already\n"
+        )
     );
 }
 

@@ -7,6 +7,7 @@ use crate::before::Before;
 use crate::character_set::CharacterSet;
 use crate::digits::{check_digit, number_in};
 use crate::kinds::{Field, Form, Kind, RoutingForm};
+use crate::more_bytes::{words_of_size, Answered};
 use crate::refusal::{Number, Refusal, Words};
 use crate::shown::{shown, shown_field};
 
@@ -15,19 +16,22 @@ const SHOWN: usize = 64;
 
 /// The refusal of a file by its length alone.
 pub(crate) fn size(length: u64) -> Refusal {
-    let words = Words { lines: vec![format!("found {length} bytes")], ..Words::default() };
+    let more_bytes = Some(words_of_size(length));
+    let words = Words { lines: vec![format!("found {length} bytes")], more_bytes, ..Words::default() };
     Refusal { number: Number::SIZE, record: 0, field: 0, offset: 0, words: Box::new(words) }
 }
 
 /// The refusal that the reading answered.
 pub(crate) fn reading(file: &[u8], number: Number, record: u64, field: u64, offset: u64) -> Refusal {
-    let mut words = Words::default();
+    let fault = Fault::in_file(file, number, field, offset);
+    let answered = Answered { number, record, offset, length: fault.length };
+    let mut words = Words { decided_by: answered.decided_by(), more_bytes: answered.words(), ..Words::default() };
     match number {
         Number::SIZE => return size(file.len() as u64),
         Number::ROOM => words.lines.push(format!("{record} rows are needed")),
         _ => {
             let before = Before::walk(file, offset);
-            describe(&mut words, &Fault::in_file(file, number, field, offset), &format!("record {record}"));
+            describe(&mut words, &fault, &format!("record {record}"));
             match number {
                 Number::TYPE if words.kind.is_some() => {
                     words.lines.push("the standard has this type of record, but it is not read here yet".to_string());

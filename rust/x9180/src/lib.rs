@@ -30,6 +30,7 @@
 //     explain → before → sums
 //     explain → before → shown → character_set
 //     explain → refusal → kinds → digits → character_set
+//     explain → more_bytes → refusal
 //     before → kinds → digits → character_set
 //     ffi → row → kinds → digits → character_set
 //     reading → row → kinds → digits → character_set
@@ -39,6 +40,7 @@ mod digits;
 mod explain;
 mod ffi;
 mod kinds;
+mod more_bytes;
 mod reading;
 mod refusal;
 mod row;
@@ -47,12 +49,10 @@ mod sums;
 
 pub use character_set::CharacterSet;
 pub use kinds::{DataType, Field, Form, Kind, Place, RoutingForm, Usage, KINDS};
+pub use more_bytes::LIMIT;
 pub use reading::{Bundle, Content, Item, ItemKind, Letter, Reading, Totals, View};
 pub use refusal::{Number, Refusal};
 pub use row::Row;
-
-/// The most bytes that a file may have.
-pub const LIMIT: usize = 268_435_456;
 
 /// Reads a whole file.
 ///

@@ -99,6 +99,10 @@ pub(crate) struct Words {
     pub found: Vec<u8>,
     /// The plain words, a line each.
     pub lines: Vec<String>,
+    /// How many of the file's first bytes decide the refusal.
+    pub decided_by: Option<u64>,
+    /// Whether bytes that follow could mend the file.
+    pub more_bytes: Option<String>,
 }
 
 impl Refusal {
@@ -137,6 +141,37 @@ impl Refusal {
     /// type. Never a picture's. They are as they stand in the file; [`CharacterSet::text`](crate::CharacterSet::text) translates them.
     pub fn found(&self) -> &[u8] {
         &self.words.found
+    }
+
+    /// How many of the file's first bytes decide the refusal: every file within the limit that begins with them is refused with the same
+    /// numbers, whatever follows (request 7). They end with the record at fault; for `AFTER` with the first byte behind the file, for `CUT`
+    /// with a length that leads past the limit. `None` where more bytes might change the answer, for `SIZE`, for `ROOM`, and from
+    /// [`picture`](crate::picture) and [`record`](crate::record).
+    ///
+    /// ```
+    /// # fn main() -> Result<(), std::io::Error> {
+    /// let mut file = std::fs::read("../../peer/samples/damaged-02-check-digit.x9")?;
+    /// let refusal = x9180::read(&file).unwrap_err();
+    /// assert_eq!(refusal.decided_by(), Some(252 + 4 + 80));
+    /// file.truncate(252 + 4 + 80);
+    /// file.extend(b"anything");
+    /// assert_eq!(x9180::read(&file), Err(refusal));
+    /// # Ok(())
+    /// # }
+    /// ```
+    pub fn decided_by(&self) -> Option<u64> {
+        self.words.decided_by
+    }
+
+    /// Whether bytes that follow could mend a refused file, in plain words. `None` from [`picture`](crate::picture) and
+    /// [`record`](crate::record), but for `SIZE`.
+    ///
+    /// ```
+    /// let refusal = x9180::read(&[0, 0, 0, 0x50]).unwrap_err();
+    /// assert_eq!(refusal.more_bytes(), Some("more bytes might mend it: no record has come whole"));
+    /// ```
+    pub fn more_bytes(&self) -> Option<&str> {
+        self.words.more_bytes.as_deref()
     }
 
     /// The line of the scope document for a refused file.

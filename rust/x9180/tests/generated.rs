@@ -1,9 +1,13 @@
 //! Files of the independent generator: the levels of accepted ones, the words of refused ones.
 
+use std::collections::BTreeMap;
+
 use peer_reader::copy::to_ebcdic;
 use peer_reader::random::Random;
 use peer_reader::stream::{file, shaped};
-use x9180::{picture, read, Bundle, Content, Item, ItemKind, Letter, Number, Row, Totals};
+use x9180::{
+    picture, read, record, Bundle, CharacterSet, Content, Item, ItemKind, Letter, Number, Refusal, Row, Totals,
+};
 
 /// In every accepted file, of either set, the levels hold each row once, in order, and their sums are those that the library added up and
 /// that the control records state.
@@ -152,4 +156,48 @@ fn the_last_line_says_why() {
     }
     assert!(told.iter().all(|told| *told > 300), "{told:?}");
     assert!(check_digits > 0);
+}
+
+/// The numbers of a refusal.
+fn numbers(refusal: &Refusal) -> (Number, u64, u64, u64) {
+    (refusal.number(), refusal.record(), refusal.field(), refusal.offset())
+}
+
+/// Request 7: with the bytes that decide, a file is refused with the same numbers, whatever follows them. With one byte less it is not, but
+/// for a length that leads past the limit.
+#[test]
+fn the_bytes_that_decide() {
+    let mut random = Random::new(7);
+    let mut decided: BTreeMap<Number, u64> = BTreeMap::new();
+    let sound = file(7, 0).bytes;
+    assert!(read(&sound).is_ok());
+    for index in (0..3_000).filter(|index| index / 2 % 5_000 != 2_500) {
+        let ascii = file(7, index / 2).bytes;
+        let file = if index % 2 == 0 { ascii } else { to_ebcdic(&ascii) };
+        let Err(refusal) = read(&file) else { continue };
+        let Some(end) = refusal.decided_by().map(|end| end as usize) else {
+            assert!(matches!(refusal.number(), Number::CUT | Number::OPEN | Number::SIZE), "file {index}");
+            continue;
+        };
+        let noise: Vec<u8> = (0..random.between(1, 300)).map(|_| random.byte()).collect();
+        for tail in [&[][..], &noise, &sound, &[0; 5_000]] {
+            let other = read(&[&file[..end], tail].concat()).unwrap_err();
+            assert_eq!(numbers(&other), numbers(&refusal), "file {index} with {} bytes behind {end}", tail.len());
+        }
+        let lacking = read(&file[..end - 1]).map_err(|lacking| numbers(&lacking));
+        assert!(lacking != Err(numbers(&refusal)) || refusal.number() == Number::CUT, "file {index}");
+        assert!(refusal.more_bytes().unwrap().starts_with("no bytes that follow can mend it: "), "file {index}");
+        *decided.entry(refusal.number()).or_default() += 1;
+    }
+    let seen: Vec<&str> = decided.keys().map(|number| number.name()).collect();
+    assert_eq!(seen, ["CUT", "LENGTH", "TYPE", "PLACE", "FIELD", "LINK", "TOTAL", "AFTER"], "{decided:?}");
+}
+
+/// Of a picture or a record alone nothing of the kind is said.
+#[test]
+fn records_alone_have_no_rest() {
+    for refusal in [picture(&[0, 0, 0, 2, b'5', b'2'], 0).unwrap_err(), record(CharacterSet::Ascii, b"52").unwrap_err()]
+    {
+        assert_eq!((refusal.number(), refusal.decided_by(), refusal.more_bytes()), (Number::LENGTH, None, None));
+    }
 }

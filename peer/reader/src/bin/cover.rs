@@ -1,5 +1,6 @@
 //! Runs the stream of files past the independent reader alone and says what it has covered: what `compare` demands of a run, without the
-//! proved library. Use: cover [FILES [SEED]]; 100,000 files and seed 18 unless given. Exit status 1 if a point is missing.
+//! proved library. Use: cover [FILES [SEED]]; 100,000 files and seed 18 unless given. Exit status 1 if a point is missing or a claim about
+//! tails does not hold.
 
 use std::process::ExitCode;
 use std::time::Instant;
@@ -10,6 +11,7 @@ use peer_reader::ebcdic;
 use peer_reader::picture::picture;
 use peer_reader::random::Random;
 use peer_reader::stream;
+use peer_reader::tails;
 use peer_reader::tally::Tally;
 
 fn main() -> ExitCode {
@@ -19,12 +21,18 @@ fn main() -> ExitCode {
     let seed = given.get(1).copied().unwrap_or(18);
     let begun = Instant::now();
     let mut tally = Tally::default();
-    let (mut accepted, mut bytes) = (0, 0);
+    let (mut accepted, mut bytes, mut broken) = (0, 0, 0);
     // SIZE of the picture call is met by chance in a stream of this length; `compare` has the largest file for it besides.
     tally.note_picture(&[], &picture(&[], 0));
     let mut put = |made: Vec<u8>, index: u64| {
         let reading = read_in(Set::by_library(&made), &made);
         tally.note_asked(&made, &reading, &mut Random::for_file(!seed, index));
+        let mut of_tails = tails::chosen(seed, index, &made, &reading);
+        let held = of_tails.as_mut().map_or(Ok(()), |random| tally.note_tails(&made, &reading, random));
+        if let Err(words) = held {
+            println!("file {index}: {words}");
+            broken += 1;
+        }
         accepted += u64::from(reading.answer.number == Number::Accepted);
         bytes += made.len();
     };
@@ -39,6 +47,6 @@ fn main() -> ExitCode {
     println!("{}", tally.report().trim_end());
     let missing = tally.missing();
     missing.iter().for_each(|(set, point)| println!("not covered in {set:?}: {point:?}"));
-    println!("points not covered {}", missing.len());
-    ExitCode::from(u8::from(!missing.is_empty()))
+    println!("points not covered {}, claims broken {broken}", missing.len());
+    ExitCode::from(u8::from(!missing.is_empty() || broken > 0))
 }

@@ -1,0 +1,4 @@
+pub mod SameBefore
+pub mod SameReading
+pub mod Outcomes
+pub mod Theorem
