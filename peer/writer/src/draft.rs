@@ -83,6 +83,25 @@ impl<'a> Row<'a> {
         u128::from(self.numbers[1])
     }
 
+    /// The flag as it is lent.
+    pub fn flag(&self) -> u64 {
+        self.numbers[2]
+    }
+
+    /// Whether the record's first 255 positions pass 2^64.
+    pub fn starts_near_the_end_of_64_bits(&self) -> bool {
+        self.numbers[1] > u64::MAX - 255
+    }
+
+    /// Whether the first character of a field or part lies in the text.
+    pub fn begins_in_text(&self, number: u8) -> bool {
+        let before = match self.layout.parts.iter().position(|part| part.number == number) {
+            Some(place) => self.part_place(place),
+            None => self.begin() + self.layout.field(number).first as u128 - 1,
+        };
+        before < self.text.len() as u128
+    }
+
     /// Looked at for a 70 only (point 23).
     pub fn asks_for_blank_micr(&self) -> bool {
         self.layout.code == 70 && self.numbers[2] == BLANK_MICR
@@ -98,10 +117,15 @@ impl<'a> Row<'a> {
         stretch(self.text, self.begin() + field.first as u128 - 1, field.size() as u128)
     }
 
-    /// The bytes of the part at this place, if they all lie in the text. Parts follow the fixed part and one another.
+    /// The bytes of the part at this place, if they all lie in the text.
     pub fn part(&self, place: usize) -> Option<&'a [u8]> {
+        stretch(self.text, self.part_place(place), u128::from(self.size(place)))
+    }
+
+    /// Where a part begins: parts follow the fixed part and one another.
+    fn part_place(&self, place: usize) -> u128 {
         let before: u128 = (0..place).map(|place| u128::from(self.size(place))).sum();
-        stretch(self.text, self.begin() + self.layout.fixed as u128 + before, u128::from(self.size(place)))
+        self.begin() + self.layout.fixed as u128 + before
     }
 
     /// The length that the written record will have.

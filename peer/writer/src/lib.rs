@@ -9,6 +9,7 @@ pub mod large;
 pub mod links;
 pub mod order;
 pub mod outgrow;
+pub mod points;
 pub mod promises;
 pub mod sheet;
 pub mod source;

@@ -185,18 +185,24 @@ fn set_out(draft: &Draft, out: &mut [u8]) {
     }
 }
 
+/// Sets an accepted draft out record by record, for the coverage: each row and its record's fixed part as it is written.
+pub fn set_out_for_tally(draft: &Draft, mut look: impl FnMut(&Row, &[u8])) {
+    let mut state = State::default();
+    for index in 0..draft.rows() {
+        let row = draft.row(index, draft.type_of(index) as u8);
+        let mut fixed = vec![0; row.layout.fixed];
+        set_out_fixed(draft, &state, &row, &mut fixed);
+        look(&row, &fixed);
+        state.go_on(&row);
+    }
+}
+
 /// One record with its length before it, high byte first (Annex D).
 fn set_out_record(draft: &Draft, state: &State, row: &Row, out: &mut [u8]) {
     let (length, body) = out.split_at_mut(4);
     length.copy_from_slice(&(body.len() as u32).to_be_bytes());
-    for field in row.layout.fields {
-        let place = &mut body[field.first - 1..field.last];
-        match source(row.layout, field.number) {
-            Source::Given => set_out_value(draft.set, row.value(field.number), place),
-            source => set_out_number(state.worked_out(draft, row, field.number, source), place),
-        }
-    }
-    let mut rest = &mut body[row.layout.fixed..];
+    let (fixed, mut rest) = body.split_at_mut(row.layout.fixed);
+    set_out_fixed(draft, state, row, fixed);
     for (index, part) in row.layout.parts.iter().enumerate() {
         let bytes = row.part(index).expect("a part of a judged record lies in the text");
         let (place, behind) = rest.split_at_mut(bytes.len());
@@ -205,6 +211,16 @@ fn set_out_record(draft: &Draft, state: &State, row: &Row, out: &mut [u8]) {
             _ => set_out_value(draft.set, bytes, place),
         }
         rest = behind;
+    }
+}
+
+fn set_out_fixed(draft: &Draft, state: &State, row: &Row, fixed: &mut [u8]) {
+    for field in row.layout.fields {
+        let place = &mut fixed[field.first - 1..field.last];
+        match source(row.layout, field.number) {
+            Source::Given => set_out_value(draft.set, row.value(field.number), place),
+            source => set_out_number(state.worked_out(draft, row, field.number, source), place),
+        }
     }
 }
 
