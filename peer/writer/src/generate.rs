@@ -248,8 +248,8 @@ fn near(random: &mut Random, set: Set, turn: usize) -> (Vec<u8>, Vec<u64>) {
     let row = &mut numbers[index * ROW..(index + 1) * ROW];
     let fixed = records[index].layout().fixed as u64;
     let back = random.draw() % (fixed + 3);
-    match random.below(5) {
-        0 => row[1] = u64::MAX - back,
+    match random.below(6) {
+        0 | 5 => row[1] = u64::MAX - back,
         1 => row[1] = size.wrapping_sub(back),
         2 => row[1] = random.pick(&[size, size + 1, 1 << 32, 1 << 63, (1 << 32) + row[1], u64::MAX]),
         3 => row[3 + random.below(7)] = outgrow::large_size(random),

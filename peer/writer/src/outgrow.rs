@@ -40,7 +40,7 @@ pub fn outside(random: &mut Random, set: Set, turn: usize) -> (Vec<u8>, Vec<u64>
         Some(field) => (field.first - 1, field.size()),
         None => filled_part(random, &mut records[index], number),
     };
-    let keep = start + random.below(size);
+    let keep = if random.percent(40) { start } else { start + random.below(size) };
     let mut lines = lines_of(&records);
     dress(random, set, &mut lines);
     lines[index].body.truncate(keep);
@@ -83,10 +83,11 @@ pub fn outgrown(random: &mut Random, set: Set, turn: usize) -> (Vec<u8>, Vec<u64
     let place = layout.parts.iter().position(|part| part.sized_by == number).expect("a part");
     let beyond = 10u64.pow(layout.field(number).size() as u32);
     let mut lines = lines_of(&records);
-    match turn / targets.len() % 4 {
+    match turn / targets.len() % 5 {
         0 => set_part(&mut lines[index], &layout.parts[place], place, beyond.min(100_000)),
         1 => lines[index].sizes[place] = beyond,
         2 => set_part(&mut lines[index], &layout.parts[place], place, (beyond - 1).min(99_999)),
+        3 => lines[index].sizes[place] = u64::MAX - random.draw() % 150,
         _ => lines[index].sizes[place] = large_size(random).max(beyond),
     }
     finish(random, set, lines)
