@@ -52,7 +52,7 @@ impl Maker {
     }
 }
 
-pub const RARE_SORTS: usize = 12;
+pub const RARE_SORTS: usize = 16;
 
 /// The large drafts of a stream, by turns.
 pub fn rare(random: &mut Random, turn: usize) -> Made {
@@ -68,7 +68,8 @@ pub fn rare(random: &mut Random, turn: usize) -> Made {
         8 => views(random, "rare: 99,999 views", 99_999),
         9 => items(random, "rare: 10,000 returns", 31, 10_000),
         10 => items(random, "rare: 9,999 credits", 61, 9_999),
-        _ => of_size(random, "rare: twice the largest file", 2 * LARGEST),
+        11 => of_size(random, "rare: twice the largest file", 2 * LARGEST),
+        sort => fault_past_the_limit(random, sort % 4),
     }
 }
 
@@ -157,6 +158,40 @@ fn of_size(random: &mut Random, shape: &'static str, size: u64) -> Made {
     made.text.extend(&data.body);
     made.text.resize(start as usize + 139 + 9_999_999, 0xA5);
     made
+}
+
+/// A fault at a record behind the limit, which comes before SIZE: PLACE, FIELD, LINK, TOTAL. The last three rows are the controls.
+fn fault_past_the_limit(random: &mut Random, sort: usize) -> Made {
+    let mut made = of_size(random, "rare: a fault past the limit", 2 * LARGEST);
+    let controls = made.numbers.len() - 3 * ROW;
+    match sort {
+        0 => made.numbers.extend_from_within(..ROW),
+        1 => made.numbers[controls + 2 * ROW + 1] = u64::MAX,
+        2 => {
+            let view = made.numbers[controls - 2 * ROW..controls].to_vec();
+            let start = view[ROW + 1] as usize;
+            let mut data = Rec { code: 52, body: made.text[start..start + layout(52).fixed].to_vec(), told: None };
+            let sequence: &[u8; 15] = if data.get(5)[0] == b'1' { b"222222222222222" } else { b"111111111111111" };
+            data.set(5, sequence);
+            insert(&mut made, controls, &data);
+            made.numbers.splice(controls..controls, view[..ROW].to_vec());
+        }
+        _ => {
+            let mut credit = record(random, 61, 0);
+            credit.set(2, b" ");
+            credit.set_number(7, 1_000_000_000_000);
+            insert(&mut made, controls, &credit);
+        }
+    }
+    made
+}
+
+/// A record without parts, its row at this place among the numbers and its text behind the rest.
+fn insert(made: &mut Made, place: usize, record: &Rec) {
+    let mut row = [0; ROW];
+    (row[0], row[1]) = (u64::from(record.code), made.text.len() as u64);
+    made.numbers.splice(place..place, row);
+    made.text.extend(&record.body);
 }
 
 /// Drafts of millions of rows, for runs that ask for them: a million cash letters, a million bundles, a file's sums past 64 bits.

@@ -3,7 +3,7 @@
 use std::collections::BTreeMap;
 
 use peer_reader::charset::Set;
-use peer_reader::descent::{Inside, Number};
+use peer_reader::descent::{Inside, Number, LARGEST};
 use peer_reader::harm::{insides, key_fields, lawful_pairs, place_targets};
 use peer_reader::layout::{layout, CARRIED, LAYOUTS, NOT_CARRIED};
 
@@ -51,6 +51,8 @@ pub enum Point {
     NearSize(u8, u8),
     /// An edge of the draft as it is lent.
     Lent(Lent),
+    /// A refusal at a record that would begin past the limit: it comes before SIZE.
+    PastLimit(Number),
 }
 
 #[derive(Clone, Copy, Debug, PartialEq, Eq, PartialOrd, Ord)]
@@ -141,7 +143,10 @@ impl Tally {
         match verdict.answer.number {
             Number::Accepted => points.extend(written(&draft)),
             Number::Size => {}
-            _ => points.extend(refused(&draft, verdict)),
+            number => {
+                points.extend(refused(&draft, verdict));
+                points.extend((verdict.answer.offset > LARGEST).then_some(Point::PastLimit(number)));
+            }
         }
         points.into_iter().for_each(|point| self.note(draft.set, point));
     }
@@ -456,6 +461,7 @@ pub fn demanded(set: Set) -> Vec<Point> {
     points.extend(sum_points());
     points.extend(lent_points());
     points.push(Point::EndAfter(0));
+    points.extend([Place, Field, Link, Total].map(Point::PastLimit));
     points.into_iter().filter(|point| set == Set::Ascii || can_be_in_ebcdic(point)).collect()
 }
 
@@ -470,7 +476,10 @@ fn can_be_in_ebcdic(point: &Point) -> bool {
     );
     let large = matches!(
         point,
-        Point::Answer(Number::Size) | Point::TooLong(70, 2 | 5 | 6, _) | Point::TooLong(_, _, Sum::Past64Bits)
+        Point::Answer(Number::Size)
+            | Point::PastLimit(_)
+            | Point::TooLong(70, 2 | 5 | 6, _)
+            | Point::TooLong(_, _, Sum::Past64Bits)
     );
     !untold && !large
 }
@@ -497,5 +506,6 @@ fn group_of(point: &Point) -> &'static str {
         Point::NearStart(_) => "starts near 2^64",
         Point::NearSize(..) => "sizes near 2^64",
         Point::Lent(_) => "edges of the slices",
+        Point::PastLimit(_) => "refusals past the limit",
     }
 }

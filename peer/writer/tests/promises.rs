@@ -102,6 +102,22 @@ fn values_alone_decide() {
     assert_eq!(written, 3_000);
 }
 
+/// Point 25: SIZE is judged behind every record. 53 views of 10,000,226 bytes and one of 6,858,341 stand before the controls of a file of twice the limit.
+#[test]
+fn a_fault_past_the_limit_comes_before_size() {
+    let controls = 84 * 4 + 53 * 10_000_226 + 6_858_341;
+    let expected = [
+        [6, 4 + 108 + 4, 0, 2 * LARGEST],
+        [7, 4 + 108 + 3, 6, controls + 84 + 89],
+        [8, 4 + 108 + 2, 5, controls + 84],
+        [9, 4 + 108 + 2, 7, controls + 88],
+    ];
+    for (sort, expected) in (12..16).zip(expected) {
+        let made = peer_writer::large::rare(&mut Random::new(6), sort);
+        assert_eq!(judge(&made.text, &made.numbers).answer.listed()[..4], expected, "sort {sort}");
+    }
+}
+
 /// The large drafts that need little memory: SIZE before ROOM, and the limit itself is only short of room.
 #[test]
 fn the_largest_file_and_one_byte_more() {

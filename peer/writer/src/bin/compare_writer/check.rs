@@ -53,8 +53,18 @@ pub fn check_draft(made: &Made, random: &mut Random, tally: &mut Tally, counts: 
     Ok(())
 }
 
-/// Bytes before and behind a lent buffer that no call may touch.
+/// Bytes before and behind a lent buffer that no call may touch, and before and behind what is read that no call may look at.
 const GUARD: usize = 64;
+
+/// A slice amid others of these contents: an answer that hangs on them is no answer to the slice.
+fn amid<T: Copy>(inner: &[T], around: T) -> Vec<T> {
+    [&[around; GUARD], inner, &[around; GUARD]].concat()
+}
+
+/// The same slice again.
+fn within<T>(around: &[T]) -> &[T] {
+    &around[GUARD..around.len() - GUARD]
+}
 
 /// Both sides on one draft and one buffer length: the number, the answer, every byte written, every byte left alone, guards on either side.
 pub fn writings_agree(text: &[u8], numbers: &[u64], room: usize, random: &mut Random) -> Result<(), Difference> {
@@ -62,7 +72,9 @@ pub fn writings_agree(text: &[u8], numbers: &[u64], room: usize, random: &mut Ra
     let mut theirs = vec![pattern; GUARD + room + GUARD];
     let mut ours = theirs.clone();
     let expected = write(text, numbers, &mut ours[GUARD..GUARD + room]).listed();
-    let (number, answer) = abi::write(text, numbers, &mut theirs[GUARD..GUARD + room])?;
+    let text_amid = amid(text, random.pick(b" 0\xF0\xF1\x40\x00"));
+    let numbers_amid = amid(numbers, random.pick(&[0, 1, 28, 35, 99, u64::MAX]));
+    let (number, answer) = abi::write(within(&text_amid), within(&numbers_amid), &mut theirs[GUARD..GUARD + room])?;
     if answer != expected || number != expected[0] {
         return Err(format!(
             "buffer of {room} bytes\n  proved      returns {number}, answer {answer:?}\n  independent answer {expected:?} ({})",
@@ -99,7 +111,8 @@ fn drafts_agree(file: &[u8], length: usize, random: &mut Random) -> Result<(), D
     let mut theirs = vec![pattern; ROW + length + ROW];
     let mut ours = theirs.clone();
     let expected = draft_of(file, &mut ours[ROW..ROW + length]).listed();
-    let (number, answer) = abi::draft_of(file, &mut theirs[ROW..ROW + length])?;
+    let file_amid = amid(file, random.pick(b" 0\xF0\xF1\x40\x00"));
+    let (number, answer) = abi::draft_of(within(&file_amid), &mut theirs[ROW..ROW + length])?;
     if answer != expected || number != expected[0] {
         return Err(format!(
             "draft of {length} numbers\n  proved      returns {number}, answer {answer:?}\n  independent answer {expected:?}"
