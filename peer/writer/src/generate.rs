@@ -319,3 +319,30 @@ fn flip(random: &mut Random, set: Set) -> (Vec<u8>, Vec<u64>) {
     }
     (text, numbers)
 }
+
+#[cfg(test)]
+mod tests {
+    use super::*;
+    use crate::write::judge;
+    use peer_reader::descent::Number;
+
+    #[test]
+    fn a_seed_and_an_index_give_the_same_draft_again() {
+        for index in (0..300).chain([1_250]) {
+            let (one, other) = (draft(3, index), draft(3, index));
+            assert!(one.text == other.text && one.numbers == other.numbers, "draft {index}");
+        }
+        assert!((0..64).any(|index| draft(3, index).text != draft(4, index).text));
+    }
+
+    /// Sound lines in any manner, set and junk, and an accepted file as its own draft.
+    #[test]
+    fn sound_drafts_are_written() {
+        for index in 0..600 {
+            let mut random = Random::for_file(5, index);
+            let made = shaped(&mut random, if index % 3 == 0 { "own" } else { "sound" }, index as usize);
+            let answer = judge(&made.text, &made.numbers).answer;
+            assert_eq!(answer.number, Number::Accepted, "draft {index}: {answer:?}");
+        }
+    }
+}

@@ -194,10 +194,13 @@ fn insert(made: &mut Made, place: usize, record: &Rec) {
     made.text.extend(&record.body);
 }
 
-/// Drafts of millions of rows, for runs that ask for them: a million cash letters, a million bundles, a file's sums past 64 bits.
+pub const HEAVY_SORTS: usize = 4;
+
+/// Drafts of up to three million rows, for runs that ask for them: a million cash letters, a million bundles, a file's debits and credits past
+/// 64 bits, of which 64 bits would leave fifteen digits.
 pub fn heavy(random: &mut Random, sort: usize) -> Made {
     let mut maker = Maker::begin(random);
-    match sort % 3 {
+    match sort % HEAVY_SORTS {
         0 => {
             let rows = [maker.header(random, b'N'), maker.put(&record(random, 90, 0))];
             maker.repeat(&rows, 999_999);
@@ -211,8 +214,9 @@ pub fn heavy(random: &mut Random, sort: usize) -> Made {
             maker.repeat(&rows, 999_999);
             maker.finish(random, "heavy: 1,000,000 bundles", &[90, 99])
         }
-        _ => {
+        sort => {
             let mut credit = record(random, 61, 0);
+            credit.set(2, if sort == 2 { b"9" } else { b"1" });
             credit.set_number(7, 99_999_999_999_999);
             let rows = [maker.header(random, b'N'), maker.put(&credit), maker.put(&record(random, 90, 0))];
             maker.repeat(&rows, 184_468);

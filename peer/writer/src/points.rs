@@ -509,3 +509,56 @@ fn group_of(point: &Point) -> &'static str {
         Point::PastLimit(_) => "refusals past the limit",
     }
 }
+
+#[cfg(test)]
+mod tests {
+    use super::*;
+    use crate::generate;
+    use crate::write::judge;
+
+    /// What is demanded, counted by hand: fields of the standard's tables, pairs of the reader's coverage, rules of document 01.
+    #[test]
+    fn the_points_are_as_many_as_the_documents_give() {
+        let of = |set: Set, group: &str| demanded(set).iter().filter(|point| group_of(point) == group).count();
+        // 303 fields, less 19 types, 42 that are worked out besides, and 4 Binary parts.
+        assert_eq!(of(Set::Ascii, "values refused at FIELD"), 303 - 19 - 42 - 4);
+        let longer = outside_targets().into_iter().filter(|(code, field)| !one_character(*code, *field)).count();
+        assert_eq!(of(Set::Ascii, "values outside the text"), 242 + longer);
+        assert_eq!(of(Set::Ascii, "worked-out fields with something else in the text"), 19 + 42);
+        assert_eq!(of(Set::Ascii, "lengths and counts outgrown"), 2 * (6 + 6 + 7 + 2));
+        assert_eq!(of(Set::Ascii, "pairs refused at PLACE"), 404);
+        assert_eq!(of(Set::Ascii, "lawful pairs written"), 100);
+        assert_eq!(of(Set::Ascii, "LINK rules refused"), 2 + 7 + 7 + 6 + 8 + 8);
+        for set in [Set::Ascii, Set::Ebcdic] {
+            let mut points = demanded(set);
+            points.sort_unstable();
+            assert!(points.windows(2).all(|pair| pair[0] != pair[1]));
+        }
+    }
+
+    /// Nothing is refused at FIELD, LINK, PLACE or TOTAL that is not demanded, and no pair is written that is not lawful.
+    #[test]
+    fn no_other_points_are_met() {
+        let mut tally = Tally::default();
+        for index in (0..4_000).filter(|index| index % 2_500 != 1_250) {
+            let made = generate::draft(18, index);
+            tally.note_draft(&made, &judge(&made.text, &made.numbers));
+        }
+        let demanded = demanded(Set::Ascii);
+        for point in tally.met.iter().flat_map(|met| met.keys()) {
+            let closed = matches!(
+                point,
+                Point::FieldRefused(..)
+                    | Point::Outside(..)
+                    | Point::Outgrown(..)
+                    | Point::PairWritten(..)
+                    | Point::PairRefused(..)
+                    | Point::LinkRefused(..)
+                    | Point::TooLong(..)
+                    | Point::PlaceOutside(..)
+                    | Point::Junk(..)
+            );
+            assert!(!closed || demanded.contains(point), "{point:?}");
+        }
+    }
+}

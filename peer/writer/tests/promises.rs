@@ -129,3 +129,20 @@ fn the_largest_file_and_one_byte_more() {
         assert_eq!(answer.listed()[4..], [0; 8]);
     }
 }
+
+/// Some hundred megabytes each: `cargo test --release -- --ignored`. A cash letter takes 84 + 89 bytes, a bundle of a 61 takes 84 + 88 + 84, a cash letter of one
+/// 61 takes 84 + 88 + 89.
+#[test]
+#[ignore = "takes half a gigabyte"]
+fn heavy_drafts_are_refused_at_the_sum_that_is_too_long() {
+    let expected = [
+        [9, 2_000_002, 2, 84 + 1_000_000 * 173],
+        [9, 3_000_003, 2, 168 + 1_000_000 * 256],
+        [9, 553_409, 5, 84 + 184_469 * 261],
+        [9, 553_409, 8, 84 + 184_469 * 261],
+    ];
+    for (sort, expected) in expected.into_iter().enumerate() {
+        let made = peer_writer::large::heavy(&mut Random::new(7), sort);
+        assert_eq!(write(&made.text, &made.numbers, &mut []).listed()[..4], expected, "{}", made.shape);
+    }
+}

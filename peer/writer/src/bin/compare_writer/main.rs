@@ -57,7 +57,7 @@ fn main() -> ExitCode {
     let shared = Shared { done: AtomicU64::new(0), stop: AtomicBool::new(false), found: Mutex::new(Vec::new()) };
     let (mut tally, mut counts) = run(&options, &shared);
     if options.heavy {
-        for sort in 0..3 {
+        for sort in 0..large::HEAVY_SORTS as u64 {
             let made = large::heavy(&mut Random::for_file(options.seed, sort), sort as usize);
             put_draft(&options, &shared, &made, ("heavy", sort), &mut tally, &mut counts);
         }
