@@ -751,3 +751,37 @@ fn the_draft_has_flags_and_sizes() {
         assert_eq!(out, file);
     }
 }
+
+// ---- what an earlier record must not decide ----
+
+/// 184,468 times 99,999,999,999,999 is 18,446,799,999,999,815,532; 64 bits would leave 55,926,290,263,916 of it, which fourteen digits state.
+#[test]
+fn a_sum_past_64_bits_is_too_long() {
+    for (usage, field) in [('9', 4), (' ', 9)] {
+        let mut hand = letter('N').put(credit(usage, 99_999_999_999_999));
+        let row = hand.numbers[20..30].to_vec();
+        hand.numbers.extend(row.repeat(184_467));
+        closed(hand).refused(TOTAL, 184_471, field, 84 * 2 + 88 * 184_468);
+    }
+}
+
+/// A bundle of checks, and one of a 61 and a return: the kind is the bundle's own.
+#[test]
+fn a_bundle_behind_another_has_a_kind_of_its_own() {
+    let first = bundle('E').put(check(1, ' ', 0)).put(bundle_nines());
+    let second = first.put(bundle_header()).put(credit('1', 2)).put(returned(3, 0)).put(return_addendum_b());
+    assert_eq!(closed_bundle(second.clone()).written().1, [12, 1, 2, 3, 0, 4, 1, 2]);
+    second.put(check(1, ' ', 0)).refused(PLACE, 10, 0, 84 * 8 + 88);
+}
+
+/// The first record's text stands behind the others', and it is the first row that tells the set.
+#[test]
+fn the_first_row_may_begin_anywhere_in_the_text() {
+    let hand = closed(letter('N'));
+    for (set, before) in [(Set::Ascii, b"\xF0\xF1"), (Set::Ebcdic, b"01")] {
+        let mut moved = Hand { text: set.bytes(&hand.text), numbers: hand.numbers.clone() };
+        moved.text[..2].copy_from_slice(before);
+        moved.text.extend(set.bytes(&file_header()));
+        assert_eq!(moved.number(0, 1, 325).written(), hand.written());
+    }
+}
