@@ -1,6 +1,7 @@
 //! A draft in the making: lines with their own bytes, laid out in a text in one manner or another.
 
 use std::collections::BTreeMap;
+use std::path::Path;
 
 use peer_reader::charset::{Set, Text};
 use peer_reader::copy::{ebcdic_bytes, translate_record};
@@ -28,6 +29,17 @@ pub struct Made {
     pub shape: &'static str,
     pub text: Vec<u8>,
     pub numbers: Vec<u64>,
+}
+
+impl Made {
+    /// Saves the text as it is, and the numbers one row a line.
+    pub fn save(&self, folder: &Path, name: &str) -> std::io::Result<()> {
+        let line = |row: &[u64]| row.iter().map(u64::to_string).collect::<Vec<_>>().join(" ") + "\n";
+        let lines: String = self.numbers.chunks(ROW).map(line).collect();
+        std::fs::create_dir_all(folder)?;
+        std::fs::write(folder.join(format!("{name}.text")), &self.text)?;
+        std::fs::write(folder.join(format!("{name}.draft")), lines)
+    }
 }
 
 impl Line {

@@ -5,7 +5,7 @@ mod abi;
 mod check;
 mod shrink;
 
-use std::path::{Path, PathBuf};
+use std::path::PathBuf;
 use std::process::ExitCode;
 use std::sync::atomic::{AtomicBool, AtomicU64, Ordering};
 use std::sync::Mutex;
@@ -153,7 +153,7 @@ fn put_draft(options: &Options, shared: &Shared, made: &Made, name: Name, tally:
         println!("  shrunk to {} rows, {} bytes of text: {words}", small.numbers.len() / ROW, small.text.len());
     }
     let name = format!("seed{}-{sort}{index}", options.seed);
-    let saved = save(&options.save, &name, made).and_then(|()| save(&options.save, &format!("{name}.small"), &small));
+    let saved = made.save(&options.save, &name).and_then(|()| small.save(&options.save, &format!("{name}.small")));
     note(shared, name, saved);
 }
 
@@ -165,15 +165,6 @@ fn put_file(options: &Options, shared: &Shared, file: &[u8], (sort, index): Name
     let folder = &options.save;
     let saved = std::fs::create_dir_all(folder).and_then(|()| std::fs::write(folder.join(format!("{name}.x9")), file));
     note(shared, name, saved);
-}
-
-/// The text as it is, and the numbers one row a line.
-fn save(folder: &Path, name: &str, made: &Made) -> std::io::Result<()> {
-    let line = |row: &[u64]| row.iter().map(u64::to_string).collect::<Vec<_>>().join(" ") + "\n";
-    let lines: String = made.numbers.chunks(ROW).map(line).collect();
-    std::fs::create_dir_all(folder)?;
-    std::fs::write(folder.join(format!("{name}.text")), &made.text)?;
-    std::fs::write(folder.join(format!("{name}.draft")), lines)
 }
 
 /// Notes a difference; after ten the run stops.
