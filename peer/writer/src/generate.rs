@@ -116,6 +116,9 @@ pub fn dress(random: &mut Random, set: Set, lines: &mut [Line]) {
         }
         if junk {
             line.junk(random, set, index == 0);
+        } else if set == Set::Ebcdic && index == 0 && line.body.len() >= 2 && random.percent(70) {
+            // A first record of another type than 01 would tell ASCII.
+            line.body[..2].copy_from_slice(&[0xF0, 0xF1]);
         }
     }
 }

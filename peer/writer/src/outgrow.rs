@@ -34,13 +34,15 @@ pub fn length_targets() -> Vec<(u8, u8)> {
 
 /// A text that ends within one field of a record, or before its first character.
 pub fn outside(random: &mut Random, set: Set, turn: usize) -> (Vec<u8>, Vec<u64>) {
-    let (code, number) = at(&outside_targets(), turn);
+    let targets = outside_targets();
+    let (code, number) = at(&targets, turn);
     let (mut records, index) = harm::holding(random, &Wish::holding(code), code);
     let (start, size) = match layout(code).fields.iter().find(|field| field.number == number) {
         Some(field) => (field.first - 1, field.size()),
         None => filled_part(random, &mut records[index], number),
     };
-    let keep = if random.percent(40) { start } else { start + random.below(size) };
+    let some = size > 1 && turn / targets.len() % 2 == 1;
+    let keep = if some { start + random.between(1, size - 1) } else { start };
     let mut lines = lines_of(&records);
     dress(random, set, &mut lines);
     lines[index].body.truncate(keep);
