@@ -124,8 +124,8 @@ impl Completer<'_> {
     fn addenda(&self, code: u8) -> u64 {
         let behind = self.rows[self.bodies.len() + 1..].iter();
         let of_kind = |row: &&&[u64]| match code {
-            25 => matches!(row[0], 26 | 27 | 28),
-            _ => matches!(row[0], 32 | 33 | 34 | 35),
+            25 => matches!(row[0], 26..=28),
+            _ => matches!(row[0], 32..=35),
         };
         behind.take_while(of_kind).count() as u64
     }

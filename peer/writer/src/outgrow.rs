@@ -150,7 +150,7 @@ const MOST_OF_61: u64 = 99_999_999_999_999;
 
 /// Sums at the edge of a control field: one too many by turns, in a bundle, a cash letter, a file.
 pub fn sums(random: &mut Random, turn: usize) -> Vec<Line> {
-    let over = u64::from(turn / SUM_SORTS % 3 > 0);
+    let over = u64::from(!(turn / SUM_SORTS).is_multiple_of(3));
     let mut records = vec![record(random, 1, 0)];
     match turn % SUM_SORTS {
         0 => bundle(random, &mut records, 100, Some(100 * over), None),
