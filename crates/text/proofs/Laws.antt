@@ -38,6 +38,12 @@ module _ (test : ℕ → Bool) (s : List ℕ) (i : ℕ) where
   pub every-ends : length s ≤ i → every test (drop i s) ≡ true
   every-ends h = rw (drop-of-length-le s h)
 
+  pub every-fails : i < length s → test (getD s i 0) ≡ false → every test (drop i s) ≡ false
+  every-fails h e = rw (every-turn h, e)
+
+  pub every-goes-on : i < length s → test (getD s i 0) ≡ true → every test (drop i s) ≡ every test (drop (i + 1) s)
+  every-goes-on h e = rw (every-turn h, e)
+
   -- a loop that carries whether all have passed so far
   pub every-carried : (all : Bool) → i < length s
       → (all && test (getD s i 0)) && every test (drop (i + 1) s) ≡ all && every test (drop i s)

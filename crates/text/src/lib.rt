@@ -28,7 +28,7 @@ ghost use Rattle.text.specs.Characters.{isBlank, isNumeric};
 ghost use Rattle.text.specs.Ranges.{within};
 ghost use Rattle.text.specs.Capitals.{capital};
 ghost use Rattle.text.specs.DataTypes.{every, some, admits, blankEmbedded, ofType, isMark};
-ghost use Rattle.text.specs.Number.{codeOfZero, digit, valueAfter, number};
+ghost use Rattle.text.specs.Number.{digit, valueAfter, number};
 
 fn is_within(low: u8, high: u8, x: u8) -> bool
     ensures { λ r. ⌜ r ≡ within low high x ⌝ }
@@ -216,26 +216,31 @@ pub fn of_type(set: CharacterSet, t: DataType, s: &[u8]) -> bool
     }
 }
 
+// With an early end: most fields that are asked for it begin with another character.
 pub fn all_blank(set: CharacterSet, s: &[u8]) -> bool
     ensures { λ r. ⌜ r ≡ every (isBlank set) (now (s .entry)) ⌝ }
 {
-    all_admitted(set, DataType::AB, s)
+    let mut i = 0;
+    while i < s.len() {
+        if !is_blank(set, s[i]) {
+            return false;
+        }
+        i += 1;
+    }
+    true
 }
 
 pub fn all_numeric(set: CharacterSet, s: &[u8]) -> bool
     ensures { λ r. ⌜ r ≡ every (isNumeric set) (now (s .entry)) ⌝ }
 {
-    all_admitted(set, DataType::N, s)
-}
-
-// The digits stand in a row in either set.
-fn code_of_zero(set: CharacterSet) -> u8
-    ensures { λ r. ⌜ (r ≡ codeOfZero set) × (r ≤ 0xF0) ⌝ }
-{
-    match set {
-        CharacterSet::Ascii => b'0',
-        CharacterSet::Ebcdic => 0xF0,
+    let mut i = 0;
+    while i < s.len() {
+        if !is_numeric(set, s[i]) {
+            return false;
+        }
+        i += 1;
     }
+    true
 }
 
 pub fn some_numeric(set: CharacterSet, s: &[u8]) -> bool
@@ -251,18 +256,35 @@ pub fn some_numeric(set: CharacterSet, s: &[u8]) -> bool
     false
 }
 
+fn digit_in_ascii(x: u8) -> u64
+    ensures { λ r. ⌜ (r ≡ digit Ascii x) × (r ≤ 9) ⌝ }
+{
+    if b'0' <= x {
+        if x <= b'9' {
+            return (x - b'0') as u64;
+        }
+    }
+    0
+}
+
+fn digit_in_ebcdic(x: u8) -> u64
+    ensures { λ r. ⌜ (r ≡ digit Ebcdic x) × (r ≤ 9) ⌝ }
+{
+    if 0xF0 <= x {
+        if x <= 0xF9 {
+            return (x - 0xF0) as u64;
+        }
+    }
+    0
+}
+
 pub fn digit_of(set: CharacterSet, x: u8) -> u64
     ensures { λ r. ⌜ (r ≡ digit set x) × (r ≤ 9) ⌝ }
 {
-    let zero = code_of_zero(set);
-    if x < zero {
-        return 0;
+    match set {
+        CharacterSet::Ascii => digit_in_ascii(x),
+        CharacterSet::Ebcdic => digit_in_ebcdic(x),
     }
-    let digit = x - zero;
-    if digit <= 9 {
-        return digit as u64;
-    }
-    0
 }
 
 fn value_of(set: CharacterSet, s: &[u8]) -> u64
