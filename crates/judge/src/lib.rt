@@ -58,7 +58,7 @@ fn line_holds(set: CharacterSet, packed: u64, body: &[u8]) -> bool
     let start = layout::place_of(packed / 0x1_0000_0000_0000);
     let size = (packed / 0x100_0000_0000 % 0x100) as usize;
     let part = frame::part_within(body, start, size);
-    let usage = layout::usage_of(packed / 0x1_0000_0000 % 0x100);
+    let usage = layout::usage_of(packed / 0x1_0000_0000 % 2);
     if field::is_left_blank(set, usage, part) {
         return true;
     }
