@@ -5,105 +5,19 @@ use measure::Sums;
 use standing::Standing;
 use text::CharacterSet;
 use text::DataType;
-ghost use mathlib.Core.Bool.{true, _||_, cond};
-ghost use mathlib.Core.List.{List, [], _∷_};
+ghost use mathlib.Core.Bool.{cond};
+ghost use mathlib.Core.List.{List};
 ghost use mathlib.Core.Path.{_≡_};
-ghost use Prim.Native.Nat.{ℕ, _+_, _-_, _/_, _%_, _<_, _≤_};
-ghost use lib.Dec.{leb, eqb};
-ghost use lib.ListN.{length, getD, drop};
+ghost use Prim.Native.Nat.{ℕ, _+_, _-_, _/_, _%_, _≤_};
+ghost use lib.ListN.{length, getD};
 ghost use lib.Seq.{sets};
 ghost use Rattle.text.specs.declared.character_set.CharacterSet.{CharacterSet};
-ghost use Rattle.frame.specs.Frames.{part};
-ghost use Rattle.layout.specs.Layout.{sizedParts};
 ghost use Rattle.layout.specs.Packing.{lineOf};
 ghost use Rattle.standing.specs.History.{isBofdAddendum};
 ghost use Rattle.standing.specs.Standing.{Roomy};
-ghost use Rattle.ascii_copy.specs.AsciiCopy.{translated};
 ghost use Rattle.draft.specs.Owned.{Owned};
-ghost use Rattle.draft.specs.Values.{isGiven, layoutOf, piece, valuesOfRow, valuesOfRows};
-ghost use Rattle.draft.specs.Completed.{isOwnAddendum, addendaBehind, times, charactersOf, partSizedAt, sumsFor, ownStatement, statement, leavesBlank, workedOut, fixedPart};
-
-// 26 to 28 of a 25, 32 to 35 of a 31.
-fn is_own_addendum(item: u64, kind: u64) -> bool
-    ensures { λ r. ⌜ r ≡ isOwnAddendum item kind ⌝ }
-{
-    match item {
-        25 => (26 <= kind) & (kind <= 28),
-        31 => (32 <= kind) & (kind <= 35),
-        _ => false,
-    }
-}
-
-// How many rows right behind the first are addenda of its kind.
-pub fn addenda_behind(rows: &[u64]) -> u64
-    ensures { λ r. ⌜ ((set : CharacterSet) (text : List ℕ) → r ≡ addendaBehind (getD (now (rows .entry)) 0 0) (valuesOfRows set text (length (now (rows .entry)) / 10 - 1) (drop 10 (now (rows .entry))))) × (r < 0x4000_0000_0000_0000) ⌝ }
-{
-    if rows.len() < 10 {
-        return 0;
-    }
-    let item = rows[0];
-    let mut at = 10;
-    let mut count = 0;
-    while 10 <= rows.len() - at {
-        if !is_own_addendum(item, rows[at]) {
-            return count;
-        }
-        count += 1;
-        at += 10;
-    }
-    count
-}
-
-// Whether so many bytes from a place of the record that starts at `start` lie in the text.
-pub fn lies_within(text: &[u8], start: usize, place: usize, size: usize) -> bool
-    ensures { λ r. ⌜ r ≡ (eqb size 0 || leb (start + place + size) (length (now (text .entry)))) ⌝ }
-{
-    if size == 0 {
-        return true;
-    }
-    let length = text.len();
-    if length < start {
-        return false;
-    }
-    if length - start < place {
-        return false;
-    }
-    size <= length - start - place
-}
-
-// Bytes as they are, from a place of one slice to a place of another.
-pub fn copy_bytes(text: &[u8], from: usize, size: usize, out: &mut [u8], at: usize)
-    requires { ⌜ (from + size ≤ length (now text)) × (at + size ≤ length (now out)) ⌝ }
-    ensures { λ _. ⌜ now (out .exit) ≡ sets (now (out .entry)) at (part from size (now (text .entry))) ⌝ }
-{
-    let mut i = 0;
-    while i < size {
-        out[at + i] = text[from + i];
-        i += 1;
-    }
-}
-
-fn translate_bytes(text: &[u8], from: usize, size: usize, out: &mut [u8], at: usize)
-    requires { ⌜ (from + size ≤ length (now text)) × (at + size ≤ length (now out)) ⌝ }
-    ensures { λ _. ⌜ now (out .exit) ≡ sets (now (out .entry)) at (translated (part from size (now (text .entry)))) ⌝ }
-{
-    let mut i = 0;
-    while i < size {
-        out[at + i] = ascii_copy::counterpart_of(text[from + i]);
-        i += 1;
-    }
-}
-
-fn put_times(out: &mut [u8], at: usize, size: usize, byte: u8)
-    requires { ⌜ at + size ≤ length (now out) ⌝ }
-    ensures { λ _. ⌜ now (out .exit) ≡ sets (now (out .entry)) at (times size byte) ⌝ }
-{
-    let mut i = 0;
-    while i < size {
-        out[at + i] = byte;
-        i += 1;
-    }
-}
+ghost use Rattle.draft.specs.Values.{isGiven, layoutOf, piece, valuesOfRow};
+ghost use Rattle.draft.specs.Completed.{charactersOf, sumsFor, statement, workedOut, fixedPart};
 
 fn is_binary(data_type: DataType) -> bool {
     match data_type {
@@ -133,8 +47,8 @@ pub fn put_piece(
     requires { ⌜ at + size ≤ length (now out) ⌝ }
     ensures { λ _. ⌜ now (out .exit) ≡ sets (now (out .entry)) at (charactersOf (piece set (now (text .entry)) data_type (start + place) size)) ⌝ }
 {
-    if !lies_within(text, start, place, size) {
-        put_times(out, at, size, 0);
+    if !draft_rows::lies_within(text, start, place, size) {
+        copying::put_times(out, at, size, 0);
         return;
     }
     if size == 0 {
@@ -142,47 +56,10 @@ pub fn put_piece(
     }
     let from = start + place;
     if is_ascii(set) | is_binary(data_type) {
-        copy_bytes(text, from, size, out, at);
+        copying::copy_bytes(text, from, size, out, at);
         return;
     }
-    translate_bytes(text, from, size, out, at)
-}
-
-// The size of the part whose size stands at a position. The sizes stand in the row from its fourth number on.
-fn part_sized_at<'a>(own: &'a [u64], rows: &'a [u64], first: u64) -> u64
-    requires { ⌜ Owned (layoutOf (getD (now rows) 0 0)) (now own) × (10 ≤ length (now rows)) ⌝ }
-    ensures { λ r. ⌜ ((set : CharacterSet) (text : List ℕ) → r ≡ partSizedAt first (sizedParts (layoutOf (getD (now (rows .entry)) 0 0))) (valuesOfRow set text (now (rows .entry)) .parts)) ⌝ }
-{
-    let header = own[0];
-    let end = layout::fields_in(header) + 1;
-    let parts = end - layout::parts_in(header);
-    let mut i = parts;
-    while i < end {
-        if own[i] / 0x1_0000_0000_0000 == first {
-            return rows[3 + (i - parts)];
-        }
-        i += 1;
-    }
-    0
-}
-
-// What a field states that is worked out from its own record and the addenda behind it, 0 of any other.
-pub fn own_statement<'a>(
-    own: &'a [u64],
-    rows: &'a [u64],
-    addenda: u64,
-    first: u64,
-    origin: Origin,
-) -> u64
-    requires { ⌜ Owned (layoutOf (getD (now rows) 0 0)) (now own) × (10 ≤ length (now rows)) ⌝ }
-    ensures { λ r. ⌜ ((set : CharacterSet) (text : List ℕ) → r ≡ ownStatement (valuesOfRow set text (now (rows .entry))) addenda first origin) ⌝ }
-{
-    match origin {
-        Origin::TypeNumber => rows[0],
-        Origin::PartSize => part_sized_at(own, rows, first),
-        Origin::AddendumCount => addenda,
-        _ => 0,
-    }
+    copying::translate_bytes(text, from, size, out, at)
 }
 
 fn sums_for(kind: u64, s: Standing) -> Sums
@@ -231,27 +108,7 @@ fn statement<'a>(
         Origin::LetterCount => s.letters,
         Origin::RecordCount => s.records.0 + 1,
         Origin::ItemCount => s.items.0,
-        _ => own_statement(own, rows, addenda, first, origin),
-    }
-}
-
-fn is_given(origin: Origin) -> bool
-    ensures { λ r. ⌜ r ≡ isGiven origin ⌝ }
-{
-    match origin {
-        Origin::Given => true,
-        _ => false,
-    }
-}
-
-// A blank MICR total (70.4), where the row asks for one with a 1.
-fn leaves_blank(rows: &[u64], origin: Origin) -> bool
-    requires { ⌜ 10 ≤ length (now rows) ⌝ }
-    ensures { λ r. ⌜ ((set : CharacterSet) (text : List ℕ) → r ≡ leavesBlank (valuesOfRow set text (now (rows .entry))) origin) ⌝ }
-{
-    match origin {
-        Origin::MicrCents => (rows[0] == 70) & (rows[2] == 1),
-        _ => false,
+        _ => draft_rows::own_statement(own, rows, addenda, first, origin),
     }
 }
 
@@ -273,7 +130,7 @@ fn put_line(
     let origin = layout::origin_of(packed / 0x2_0000_0000 % 0x80);
     let first = packed / 0x1_0000_0000_0000;
     let size = (packed / 0x100_0000_0000 % 0x100) as usize;
-    if is_given(origin) {
+    if draft_rows::is_given(origin) {
         let data_type = layout::data_type_of(packed / 0x100_0000 % 0x100);
         let start = rows[1] as usize;
         put_piece(
@@ -288,8 +145,8 @@ fn put_line(
         );
         return;
     }
-    if leaves_blank(rows, origin) {
-        put_times(out, at, size, 32);
+    if draft_rows::leaves_blank(rows, origin) {
+        copying::put_times(out, at, size, 32);
         return;
     }
     decimal::put_digits(

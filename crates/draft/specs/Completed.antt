@@ -1,5 +1,5 @@
 -- A record made out of its values: what is worked out is filled in (request 4, points 24 and 25).
-use Prim.Native.Nat.{ℕ, zero, suc, _+_, min}
+use Prim.Native.Nat.{ℕ, _+_, min}
 use mathlib.Core.Bool.{Bool, true, false, _&&_, cond}
 use mathlib.Core.List.{List, [], _∷_, _++_}
 use lib.Dec.{eqb}
@@ -8,6 +8,7 @@ use Rattle.text.specs.Ranges.{within}
 use Rattle.text.specs.DataTypes.{ofType}
 use Rattle.text.specs.declared.character_set.CharacterSet.the-variants.{Ascii}
 use Rattle.decimal.specs.Digits.{digits, fits}
+use Rattle.copying.specs.Times.{times}
 use Rattle.layout.specs.declared.packing.Origin.{Origin}
 use Rattle.layout.specs.declared.packing.Origin.the-variants.{Given, TypeNumber, PartSize, AddendumCount, RecordNumber, DebitCount, DebitCents, MicrCents, ViewCount, CreditCount, CreditCents, BundleCount, LetterCount, RecordCount, ItemCount}
 use Rattle.layout.specs.Layout.{Line, Layout, Sized, sizedParts}
@@ -39,11 +40,7 @@ abbrev pub isHere : Piece → Bool
 isHere (here xs) = true
 isHere (missing n) = false
 
--- so many of one byte; what is missing is filled with 00, and never written
-abbrev pub times : ℕ → ℕ → List ℕ
-times zero x = []
-times (suc n) x = x ∷ times n x
-
+-- what is missing is filled with 00, and never written
 abbrev pub charactersOf : Piece → List ℕ
 charactersOf (here xs) = xs
 charactersOf (missing n) = times n 0

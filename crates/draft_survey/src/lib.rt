@@ -56,7 +56,7 @@ fn judge_row(
         return Turn::Faulty(Fault::Place);
     }
     let own = layout::own_numbers(layouts, kind);
-    let addenda = completing::addenda_behind(rows);
+    let addenda = draft_rows::addenda_behind(rows);
     let at = sheet::slot_of(kind);
     let body = at + 4;
     let fixed = completing::complete(set, own, text, rows, addenda, s, sheet, body);

@@ -24,7 +24,7 @@ use Rattle.file_as_records.specs.Framed.{fieldOf}
 use Rattle.arrangement.specs.Tree.{File}
 use Rattle.arrangement.specs.Arranged.{Arranges}
 use Rattle.draft.specs.Values.{layoutOf, valuesOfDraft, valuesOf}
-use Rattle.draft.specs.Completed.{times}
+use Rattle.copying.specs.Times.{times}
 
 -- the sizes of a record's parts, "numbers that the writer does not look at are 0"
 abbrev pub sizesIn : CharacterSet → List ℕ → List ℕ

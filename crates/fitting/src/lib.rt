@@ -38,11 +38,11 @@ fn line_fits<'a>(own: &'a [u64], packed: u64, text: &'a [u8], rows: &'a [u64], a
     let size = (packed / 0x100_0000_0000 % 0x100) as usize;
     match origin {
         Origin::Given => {
-            completing::lies_within(text, rows[1] as usize, layout::place_of(first), size)
+            draft_rows::lies_within(text, rows[1] as usize, layout::place_of(first), size)
         }
         _ => decimal::fits_in(
             size,
-            completing::own_statement(own, rows, addenda, first, origin),
+            draft_rows::own_statement(own, rows, addenda, first, origin),
         ),
     }
 }
@@ -106,7 +106,7 @@ fn part_fits(
 ) -> bool
     ensures { λ r. ⌜ r ≡ (isHere (piece set (now (text .entry)) data_type (start + place) size) && ofType Ascii data_type (charactersOf (piece set (now (text .entry)) data_type (start + place) size))) ⌝ }
 {
-    if !completing::lies_within(text, start, place, size) {
+    if !draft_rows::lies_within(text, start, place, size) {
         return false;
     }
     if size == 0 {

@@ -65,7 +65,7 @@ pub fn write_record(
 {
     let size = fitting::size_of(own, rows);
     put_length(out, size);
-    completing::copy_bytes(fixed, 0, fixed.len(), out, 4);
+    copying::copy_bytes(fixed, 0, fixed.len(), out, 4);
     put_parts(set, own, text, rows, out, 4 + fixed.len());
     4 + size
 }
@@ -82,7 +82,7 @@ fn write_row(
 ) -> Progress {
     let kind = rows[0];
     let own = layout::own_numbers(layouts, kind);
-    let addenda = completing::addenda_behind(rows);
+    let addenda = draft_rows::addenda_behind(rows);
     let at = sheet::slot_of(kind);
     let body = at + 4;
     let fixed = completing::complete(set, own, text, rows, addenda, s, sheet, body);
