@@ -1,8 +1,8 @@
 -- The sizes that a row gives the parts of its record, found by where they are stated. Assumes nothing.
 use mathlib.Core.Path.{_≡_, refl, sym, _∙_, ap}
 use mathlib.Core.Bool.{Bool, true, false, _&&_, _||_, cond}
-use mathlib.Core.List.{List, [], _∷_, map}
-use Prim.Native.Nat.{ℕ, zero, suc, _+_, _-_, _/_, _≤_, _<_, min}
+use mathlib.Core.List.{List, [], _∷_}
+use Prim.Native.Nat.{ℕ, zero, suc, _+_, _-_, _/_, _≤_, _<_}
 use native.Mathlib.Nat.{add-zero, not-suc-le-zero, le-of-suc-le-suc}
 use native.Mathlib.Omega.{arith}
 use borrow.Author.Tests.{eq-eqb, ne-eqb, eqb-true, leb-true}
@@ -18,7 +18,7 @@ use Rattle.layout.specs.Layout.{Layout, Sized, sizedParts}
 use Rattle.layout.specs.Layouts.{layouts}
 use Rattle.layout.specs.Packing.{Block, fieldsIn, partsIn, linesIn, sizedOf, sizedFrom}
 use Rattle.judge.proofs.Laws.{both-true}
-use Rattle.judge.proofs.Dispatch.{Whole, whole}
+use Rattle.judge.proofs.Dispatch.{whole}
 use Rattle.draft.specs.Owned.{Owned}
 use Rattle.draft.specs.Values.{here, missing, inAscii, piece, partsGiven, valuesAt, valuesOfRow, layoutAmong, layoutOf}
 use Rattle.draft.specs.Completed.{sizeOf, partSizedAt}
@@ -64,13 +64,13 @@ module _ (xs : List ℕ) where
 piece-size : (set : CharacterSet) (text : List ℕ) (t : DataType) (start size : ℕ) → sizeOf (piece set text t start size) ≡ size
 piece-size set text t start size = by-test (eqb size 0) (leb (start + size) (length text)) refl refl
   where
-    there : take size (drop start text) ≡ take size (drop start text) → size ≤ length text - start → length (inAscii set t (take size (drop start text))) ≡ size
-    there e h = length-in-ascii (take size (drop start text)) set t ∙ omega (arith, length-take size (drop start text), length-drop start text)
+    there : size ≤ length text - start → length (inAscii set t (take size (drop start text))) ≡ size
+    there h = length-in-ascii (take size (drop start text)) set t ∙ omega (arith, length-take size (drop start text), length-drop start text)
 
     by-test : (none enough : Bool) → eqb size 0 ≡ none → leb (start + size) (length text) ≡ enough
         → sizeOf (cond (none || enough) (here (inAscii set t (take size (drop start text)))) (missing size)) ≡ size
-    by-test true enough n e = there refl (omega (arith, eqb-true size 0 n))
-    by-test false true n e = there refl (omega (arith, leb-true (start + size) (length text) e))
+    by-test true enough n e = there (omega (arith, eqb-true size 0 n))
+    by-test false true n e = there (omega (arith, leb-true (start + size) (length text) e))
     by-test false false n e = refl
 
 -- the size of the part whose size stands at a position, by the numbers of the parts
@@ -102,14 +102,18 @@ length-sized : (n : ℕ) (ps : List ℕ) → length (sizedFrom n ps) ≡ length 
 length-sized n [] = refl
 length-sized n (p ∷ ps) = ap suc (length-sized (n + 1) ps)
 
--- What is looked for stands from the place i on among the numbers of the parts, with the row's sizes beside them.
+-- the size that is looked for
+abbrev pub asked : List ℕ → ℕ → CharacterSet → List ℕ → ℕ
+asked rows first set text = partSizedAt first (sizedParts (layoutOf (getD rows 0 0))) (valuesOfRow set text rows .parts)
+
+-- It stands from the place i on among the numbers of the parts, with the row's sizes beside them.
 pub record Left (own rows : List ℕ) (first parts end i : ℕ) : Type 0 where
   pub from : parts ≤ i
   pub long : end ≤ length own
   pub few : end ≤ parts + 7
   pub gives : (set : CharacterSet) (text : List ℕ)
       → sizeAt first (take (end - i) (drop i own)) (drop (3 + (i - parts)) rows)
-      ≡ partSizedAt first (sizedParts (layoutOf (getD rows 0 0))) (valuesOfRow set text rows .parts)
+      ≡ asked rows first set text
 
 -- all of them to begin with
 module _ (own rows : List ℕ) (owned : Owned (layoutOf (getD rows 0 0)) own) where
@@ -136,7 +140,7 @@ module _ (own rows : List ℕ) (owned : Owned (layoutOf (getD rows 0 0)) own) wh
     few-lent = omega (arith, few-parts (getD rows 0 0), length-sized (linesIn (getD own 0 0) + 1) lent, ap length same)
 
     told : (first : ℕ) (set : CharacterSet) (text : List ℕ)
-        → sizeAt first lent (drop 3 rows) ≡ partSizedAt first (sizedParts (layoutOf (getD rows 0 0))) (valuesOfRow set text rows .parts)
+        → sizeAt first lent (drop 3 rows) ≡ asked rows first set text
     unfolding valuesOfRow valuesAt
     told first set text =
         let at = getD rows 1 0 + layoutOf (getD rows 0 0) .fixedLength in
@@ -156,7 +160,7 @@ module _ (own rows : List ℕ) (owned : Owned (layoutOf (getD rows 0 0)) own) wh
 
 -- one turn of the loop
 module _ {own rows : List ℕ} {first parts end i : ℕ} (l : Left own rows first parts end i) where
-  pub left-none : end ≤ i → (set : CharacterSet) (text : List ℕ) → 0 ≡ partSizedAt first (sizedParts (layoutOf (getD rows 0 0))) (valuesOfRow set text rows .parts)
+  pub left-none : end ≤ i → (set : CharacterSet) (text : List ℕ) → 0 ≡ asked rows first set text
   left-none h set text = let e : 0 ≡ end - i = omega arith in ap (λ (k : ℕ). sizeAt first (take k (drop i own)) (drop (3 + (i - parts)) rows)) e ∙ l .gives set text
 
   module _ (inside : i < end) where
@@ -164,7 +168,7 @@ module _ {own rows : List ℕ} {first parts end i : ℕ} (l : Left own rows firs
     next = let e : end - i ≡ suc (end - (i + 1)) = omega arith in rw (rest own i (omega arith), e)
 
     pub left-here : getD own i 0 / 0x1_0000_0000_0000 ≡ first → (set : CharacterSet) (text : List ℕ)
-        → getD rows (3 + (i - parts)) 0 ≡ partSizedAt first (sizedParts (layoutOf (getD rows 0 0))) (valuesOfRow set text rows .parts)
+        → getD rows (3 + (i - parts)) 0 ≡ asked rows first set text
     left-here h set text = sym found ∙ l .gives set text
       where
         found : sizeAt first (take (end - i) (drop i own)) (drop (3 + (i - parts)) rows) ≡ getD rows (3 + (i - parts)) 0

@@ -1,4 +1,4 @@
-use borrow.Author.Tests.{eq-eqb, ne-eqb}
+use borrow.Author.Tests.{ne-eqb}
 use Rattle.draft_rows.proofs.is_own_addendum.Statement.{statement}
 use Rattle.draft_rows.proofs.is_own_addendum.Tie as tie
 

@@ -1,7 +1,6 @@
-use Prim.Native.Nat.{_+_, _-_}
+use Prim.Native.Nat.{_+_}
 use lib.ListN.{length}
 use denote.Ref.{now}
-use native.Mathlib.Omega.{arith}
 use borrow.Author.Needs.{needs}
 use borrow.Author.Tests.{eq-eqb, ne-eqb, lt-leb}
 use Rattle.draft_rows.proofs.lies_within.Statement.{statement}
