@@ -36,7 +36,7 @@ module _ (test : Layout → Bool) (t : ℕ) where
   unfolding layoutOf
   every-layout e = let both = both-true (test unknownRecord) (all test layouts) e in among layouts (both .0) (both .1)
 
-abbrev numbersOf : List Layout → List ℕ
+abbrev pub numbersOf : List Layout → List ℕ
 numbersOf [] = []
 numbersOf (k ∷ ks) = k .typeNumber ∷ numbersOf ks
 

@@ -12,7 +12,7 @@ use lib.ListN.{length, getD, take, drop, length-append, length-take, length-drop
 use Rattle.text.specs.declared.character_set.CharacterSet.{CharacterSet}
 use Rattle.text.specs.declared.character_set.CharacterSet.the-variants.{Ascii, Ebcdic}
 use Rattle.text.specs.declared.data_types.DataType.{DataType}
-use Rattle.decimal.specs.Digits.{digits}
+use Rattle.decimal.specs.Digits.{digits, fits}
 use Rattle.copying.specs.Times.{times}
 use Rattle.frame.specs.Frames.{part}
 use Rattle.layout.specs.Layout.{Line, Layout, Sized, sizedParts}
@@ -21,7 +21,7 @@ use Rattle.standing.specs.declared.Standing.{Standing}
 use Rattle.standing.specs.Standing.{cappedFigures}
 use Rattle.ascii_copy.proofs.Records.{length-as}
 use Rattle.draft.specs.Values.{Piece, here, missing, Values, isGiven, inAscii, piece, fieldsGiven, partsGiven, layoutOf, valuesAt, valuesOfRow, valuesOfRows, valuesOfDraft, valuesOfBody, setOfText}
-use Rattle.draft.specs.Completed.{next, sizeOf, charactersOf, leavesBlank, workedOut, fixedPart, allParts, allSizes, completed, statement}
+use Rattle.draft.specs.Completed.{sizeOf, isHere, charactersOf, ownStatement, statement, leavesBlank, workedOut, fixedPart, allParts, allSizes, completed, firstUnfit}
 use Rattle.draft.proofs.Own.{every-layout}
 
 -- the sizes of the given fields among lines, and of all of them together
@@ -121,6 +121,11 @@ unfolding digits
 digits-long zero value = refl
 digits-long (suc n) value = length-append (digits n (value / 10)) _ ∙ ap (λ (k : ℕ). k + 1) (digits-long n (value / 10)) ∙ omega arith
 
+-- a field that is not the first at fault
+pub right-line : (t : Bool) (n others : ℕ) → 1 ≤ n → cond t others n ≡ 0 → (t ≡ true) × (others ≡ 0)
+right-line true n others h e = (refl, e)
+right-line false n others h e = absurd (omega arith)
+
 -- and a line as its size says
 module _ (v : Values) (addenda : ℕ) (s : Standing) where
   pub worked-out-long : (l : Line) → length (workedOut v addenda s l) ≡ l .size
@@ -130,21 +135,47 @@ module _ (v : Values) (addenda : ℕ) (s : Standing) where
       by true = length-times (l .size) 0x20
       by false = digits-long (l .size) (statement v addenda s (l .first) (l .origin))
 
+  -- the characters of a line in front of the others, with the pieces that are left for those
+  pub record Front (l : Line) (ls : List Line) (ps : List Piece) : Type 0 where
+    pub own : List ℕ
+    pub others : List Piece
+    pub is : fixedPart v addenda s (l ∷ ls) ps ≡ own ++ fixedPart v addenda s ls others
+    pub long : length own ≡ l .size
+    pub shape : map sizeOf others ≡ givenSizes ls
+    pub fit : 1 ≤ l .number → firstUnfit v addenda (l ∷ ls) ps ≡ 0 → firstUnfit v addenda ls others ≡ 0
+
+  pub front : (l : Line) (ls : List Line) (ps : List Piece) → map sizeOf ps ≡ givenSizes (l ∷ ls) → Front l ls ps
+  unfolding fixedPart firstUnfit
+  front l ls ps e = by (isGiven (l .origin)) refl ps e
+    where
+      by : (c : Bool) → isGiven (l .origin) ≡ c → (ps : List Piece) → map sizeOf ps ≡ cond c (l .size ∷ givenSizes ls) (givenSizes ls) → Front l ls ps
+      by true q [] e = let z : _≡_ {A = ℕ} 0 1 = cc in absurd (omega arith)
+      by true q (p ∷ ps) e =
+          let same : sizeOf p ≡ l .size = cc in
+          record {
+            own = charactersOf p;
+            others = ps;
+            is = rw q;
+            long = piece-long p ∙ same;
+            shape = cc;
+            fit = λ h f. right-line (isHere p) (l .number) (firstUnfit v addenda ls ps) h (rw q at f) .1;
+          }
+      by false q ps e =
+          record {
+            own = workedOut v addenda s l;
+            others = ps;
+            is = rw q;
+            long = worked-out-long l;
+            shape = e;
+            fit = λ h f. right-line (fits (l .size) (ownStatement v addenda (l .first) (l .origin))) (l .number) (firstUnfit v addenda ls ps) h (rw q at f) .1;
+          }
+
   lines-long : (ls : List Line) (ps : List Piece) → map sizeOf ps ≡ givenSizes ls → length (fixedPart v addenda s ls ps) ≡ lineSizes ls
   unfolding fixedPart
   lines-long [] ps e = refl
-  lines-long (l ∷ ls) ps e = by (isGiven (l .origin)) ps e (lines-long ls)
-    where
-      by : (c : Bool) (ps : List Piece) → map sizeOf ps ≡ cond c (l .size ∷ givenSizes ls) (givenSizes ls)
-          → ((qs : List Piece) → map sizeOf qs ≡ givenSizes ls → length (fixedPart v addenda s ls qs) ≡ lineSizes ls)
-          → length (cond c (charactersOf (next ps) ++ fixedPart v addenda s ls (drop 1 ps)) (workedOut v addenda s l ++ fixedPart v addenda s ls ps))
-          ≡ l .size + lineSizes ls
-      by true [] e later = let z : _≡_ {A = ℕ} 0 1 = cc in absurd (omega arith)
-      by true (p ∷ ps) e later =
-          let same : sizeOf p ≡ l .size = cc in
-          length-append (charactersOf p) (fixedPart v addenda s ls ps) ∙ ap₂ _+_ (piece-long p ∙ same) (later ps (cc))
-      by false ps e later =
-          length-append (workedOut v addenda s l) (fixedPart v addenda s ls ps) ∙ ap₂ _+_ (worked-out-long l) (later ps e)
+  lines-long (l ∷ ls) ps e =
+      let f = front l ls ps e in
+      ap length (f .is) ∙ length-append (f .own) (fixedPart v addenda s ls (f .others)) ∙ ap₂ _+_ (f .long) (lines-long ls (f .others) (f .shape))
 
   pub fixed-long : Shaped v → length (fixedPart v addenda s (layoutOf (v .type) .lines) (v .fields)) ≡ layoutOf (v .type) .fixedLength
   fixed-long shaped =
