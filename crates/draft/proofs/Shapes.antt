@@ -116,7 +116,7 @@ unfolding allParts allSizes
 parts-long [] = refl
 parts-long (p ∷ ps) = length-append (charactersOf p) (allParts ps) ∙ ap₂ _+_ (piece-long p) (parts-long ps)
 
-digits-long : (n value : ℕ) → length (digits n value) ≡ n
+pub digits-long : (n value : ℕ) → length (digits n value) ≡ n
 unfolding digits
 digits-long zero value = refl
 digits-long (suc n) value = length-append (digits n (value / 10)) _ ∙ ap (λ (k : ℕ). k + 1) (digits-long n (value / 10)) ∙ omega arith
