@@ -6,8 +6,9 @@ use mathlib.Core.List.{List, [], _∷_, _++_, map, append-assoc}
 use mathlib.Core.Path.{_≡_, refl, ap, ap₂, sym, _∙_}
 use borrow.Author.Tests.{eqb-true, eq-eqb, eqb-false, leb-true, le-leb, ltb-true, lt-ltb, not-true}
 use lib.Dec.{leb, ltb, eqb}
-use lib.ListN.{length, getD, take, drop, length-take, length-drop, List·getD-append}
+use lib.ListN.{length, take, drop, length-take, length-drop, List·getD-append}
 use lib.Seq.{take-at, drop-at, take-append-le, drop-append-le, drop-append-add}
+use Rattle.text.specs.declared.character_set.CharacterSet.{CharacterSet}
 use Rattle.text.specs.declared.character_set.CharacterSet.the-variants.{Ascii}
 use Rattle.text.specs.declared.data_types.DataType.{DataType}
 use Rattle.text.specs.Characters.{isNumeric}
@@ -25,14 +26,13 @@ use Rattle.layout.specs.declared.packing.Origin.the-variants.{Given, TypeNumber
 use Rattle.layout.specs.Layout.{Line, Layout, Sized, sizedParts}
 use Rattle.layout.specs.Layouts.{layouts}
 use Rattle.layout.specs.Packing.{originOf}
-use Rattle.judge.specs.declared.Judged.{Judged}
 use Rattle.judge.specs.declared.Judged.the-variants.{Sound}
 use Rattle.judge.specs.Alone.{lineHolds, firstWrong, statedSize, statedSizes, firstWrongPart, isVariable, unlessField, judged, alone, typeOf, amongLayouts, judgedAs}
 use Rattle.judge.proofs.Laws.{both-true}
 use Rattle.order.specs.MayFollow.{isOneOf, isCarried}
 use Rattle.standing.specs.declared.Standing.{Standing}
 use Rattle.standing.specs.Standing.{cappedFigures}
-use Rattle.draft.specs.Values.{Piece, here, missing, Values, isGiven, layoutAmong, layoutOf}
+use Rattle.draft.specs.Values.{Piece, Values, layoutAmong, layoutOf}
 use Rattle.draft.specs.Completed.{sizeOf, isHere, charactersOf, partSizedAt, ownStatement, fixedPart, allParts, allSizes, completed, firstUnfit, firstUnfitPart, lower}
 use Rattle.draft.specs.Drafted.{fieldFault}
 use Rattle.draft.specs.Promises.{everyHere}
@@ -204,19 +204,20 @@ fit-parts v shaped =
     parts-fit (sizedParts (layoutOf (v .type))) (v .parts) (shaped .parts) (every-layout (λ k. allNumbered (sizedParts k)) (v .type) refl)
 
 -- a carried record is judged by the layout of its type
-judged-among : (t : ℕ) (body : List ℕ) (ks : List Layout) → isOneOf t (numbersOf ks) ≡ true → amongLayouts Ascii ks t body ≡ alone Ascii (layoutAmong ks t) body
-judged-among t body [] e = let z : _≡_ {A = ℕ} 0 1 = cc in absurd (omega arith)
-judged-among t body (k ∷ ks) e = by (eqb t (k .typeNumber)) e (judged-among t body ks)
-  where
-    by : (c : Bool) → c || isOneOf t (numbersOf ks) ≡ true
-        → (isOneOf t (numbersOf ks) ≡ true → amongLayouts Ascii ks t body ≡ alone Ascii (layoutAmong ks t) body)
-        → cond c (alone Ascii k body) (amongLayouts Ascii ks t body) ≡ alone Ascii (cond c k (layoutAmong ks t)) body
-    by true e later = refl
-    by false e later = later e
+module _ (set : CharacterSet) (t : ℕ) (body : List ℕ) where
+  judged-among : (ks : List Layout) → isOneOf t (numbersOf ks) ≡ true → amongLayouts set ks t body ≡ alone set (layoutAmong ks t) body
+  judged-among [] e = let z : _≡_ {A = ℕ} 0 1 = cc in absurd (omega arith)
+  judged-among (k ∷ ks) e = by (eqb t (k .typeNumber)) e (judged-among ks)
+    where
+      by : (c : Bool) → c || isOneOf t (numbersOf ks) ≡ true
+          → (isOneOf t (numbersOf ks) ≡ true → amongLayouts set ks t body ≡ alone set (layoutAmong ks t) body)
+          → cond c (alone set k body) (amongLayouts set ks t body) ≡ alone set (cond c k (layoutAmong ks t)) body
+      by true e later = refl
+      by false e later = later e
 
-judged-carried : (t : ℕ) (body : List ℕ) → isCarried t ≡ true → judgedAs Ascii t body ≡ alone Ascii (layoutOf t) body
-unfolding judgedAs layoutOf isCarried
-judged-carried t body e = judged-among t body layouts e
+  pub judged-carried : isCarried t ≡ true → judgedAs set t body ≡ alone set (layoutOf t) body
+  unfolding judgedAs layoutOf isCarried
+  judged-carried e = judged-among layouts e
 
 -- computed of the layouts: so many positions past the first stands a field of a size that states a part's, in at most 19 digits
 abbrev statesAt : ℕ → ℕ → ℕ → List Line → Bool
@@ -365,7 +366,7 @@ module _ (digits-states : (n value : ℕ) → n ≤ 19 → fits n value ≡ true
       let states = completed-states v addenda s shaped fit in
       let long = completed-long v addenda s shaped in
       let sizes = sizes-stated body states in
-      judged-carried (v .type) body c
+      judged-carried Ascii (v .type) body c
       ∙ rw (
         le-leb (k .fixedLength) (length body) (omega arith),
         filled body (k .fixedLength) states long,

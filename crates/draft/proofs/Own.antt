@@ -1,15 +1,15 @@
 -- The layout of a type: what a test says of every layout holds of it, and its numbers in the code's table are its own. Assumes nothing.
-use Prim.Native.Nat.{ℕ, zero, suc, _≤_}
+use Prim.Native.Nat.{ℕ, zero, suc, _≤_, _<_}
 use native.Mathlib.Omega.{arith}
 use mathlib.Core.Bool.{Bool, true, false, _&&_, _||_, cond}
 use mathlib.Core.List.{List, [], _∷_, map}
-use mathlib.Core.Path.{_≡_, refl, ap, sym, _∙_}
-use borrow.Author.Tests.{eqb-true, leb-true}
-use lib.Dec.{leb, eqb}
+use mathlib.Core.Path.{_≡_, refl, ap, sym}
+use borrow.Author.Tests.{eqb-true, leb-true, ltb-true}
+use lib.Dec.{leb, ltb, eqb}
 use lib.ListN.{length, getD, drop}
 use Rattle.layout.specs.Layout.{Layout, sizedParts}
 use Rattle.layout.specs.Layouts.{layouts}
-use Rattle.layout.specs.Packing.{Block, blockOf, blockIn, blocksIn, typeIn, fieldsIn, isWhole, ownIn, Packed}
+use Rattle.layout.specs.Packing.{Block, blockOf, blockIn, blocksIn, typeIn, fieldsIn, ownIn, Packed}
 use Rattle.judge.proofs.Laws.{both-true}
 use Rattle.judge.proofs.Dispatch.{table-own}
 use Rattle.order.specs.MayFollow.{isOneOf, isCarried, carried}
@@ -53,6 +53,9 @@ carried-among t (k ∷ ks) e = by (eqb t (k .typeNumber)) refl e (carried-among 
 pub carried-type : (t : ℕ) → isCarried t ≡ true → layoutOf t .typeNumber ≡ t
 unfolding layoutOf isCarried
 carried-type t e = carried-among t layouts e
+
+pub carried-below : (t : ℕ) → isCarried t ≡ true → t < 100
+carried-below t e = omega (arith, carried-type t e, ltb-true (layoutOf t .typeNumber) 100 (every-layout (λ k. ltb (k .typeNumber) 100) t refl))
 
 -- its numbers are the first whose block has its type
 record Found (k : Layout) (own : List ℕ) : Type 0 where

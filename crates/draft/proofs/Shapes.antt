@@ -1,11 +1,10 @@
 -- Values have a piece for each given field, as long as the field, and one for each part: so a completed record is as long as its layout and its
 -- parts say. Assumes nothing.
 use Prim.Native.Nat.{ℕ, zero, suc, _+_, _-_, _/_, _≤_}
-use native.Mathlib.Nat.{zero-add}
 use native.Mathlib.Omega.{arith}
-use mathlib.Core.Bool.{Bool, true, false, _&&_, _||_, cond}
+use mathlib.Core.Bool.{Bool, true, false, _||_, cond}
 use mathlib.Core.List.{List, [], _∷_, _++_, map}
-use mathlib.Core.Path.{_≡_, refl, ap, ap₂, sym, _∙_}
+use mathlib.Core.Path.{_≡_, refl, ap, ap₂, _∙_}
 use borrow.Author.Tests.{eqb-true, leb-true}
 use lib.Dec.{leb, eqb}
 use lib.ListN.{length, getD, take, drop, length-append, length-take, length-drop}
@@ -15,7 +14,7 @@ use Rattle.text.specs.declared.data_types.DataType.{DataType}
 use Rattle.decimal.specs.Digits.{digits, fits}
 use Rattle.copying.specs.Times.{times}
 use Rattle.frame.specs.Frames.{part}
-use Rattle.layout.specs.Layout.{Line, Layout, Sized, sizedParts}
+use Rattle.layout.specs.Layout.{Line, Sized, sizedParts}
 use Rattle.judge.specs.Alone.{typeOf}
 use Rattle.standing.specs.declared.Standing.{Standing}
 use Rattle.standing.specs.Standing.{cappedFigures}
