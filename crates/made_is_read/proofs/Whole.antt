@@ -56,3 +56,72 @@ one-longer : (v : Values) (vs : List Values) (file : List ℕ) (past : List Entr
     → length (fileWith v vs file past) ≡ length file + 4 + length (bodyOf v vs file past)
 one-longer v vs file past =
     let body = bodyOf v vs file past in omega (arith, length-append file (framed (body ∷ [])), length-append body [])
+
+offset-small : (n : ℕ) → n ≤ 268_435_456 → offsetOf n ≡ n
+offset-small n h = omega arith
+
+-- where the rows end, the file does
+ends-likewise : (file : List ℕ) (past : List Entry) → length file ≤ 268_435_456
+    → rowsEnded file past (standing Ascii file past) ≡ asDrafted (length file) (ended Ascii file past (length file))
+unfolding rowsEnded endedWith
+ends-likewise file past small =
+    rw (standing-records Ascii file past, offset-small (length file) small) (cases (eqb (standing Ascii file past .last) 99))
+  where
+    totals : Totals
+    totals = totalsOf (standing Ascii file past)
+
+    cases : (b : Bool) → cond b (Written (length file) totals) (Refused Place (length past + 1) (length file))
+        ≡ asDrafted (length file) (cond b (answers.Accepted totals) (answers.Refused Open (length past + 1) (length file)))
+    cases true = refl
+    cases false = refl
+
+module _ (Shaped : Values → Type 0)
+    (completed-type : (v : Values) (addenda : ℕ) (s : Standing) → v .type < 100 → typeOf Ascii (completed v addenda s) ≡ v .type)
+    (completed-judged : (v : Values) (addenda : ℕ) (s : Standing) → Shaped v → isCarried (v .type) ≡ true
+    → firstUnfit v addenda (layoutOf (v .type) .lines) (v .fields) ≡ 0 → everyHere (v .parts) ≡ true
+    → judgedAs Ascii (v .type) (completed v addenda s)
+    ≡ judge.unlessField (fieldFault v addenda s) (judge.unlessField (firstUnfitPart (sizedParts (layoutOf (v .type))) (v .parts)) Sound))
+    (completed-two : (v : Values) (addenda : ℕ) (s : Standing) → 2 ≤ length (completed v addenda s))
+    (fit-type : (v : Values) (addenda : ℕ) → firstUnfit v addenda (layoutOf (v .type) .lines) (v .fields) ≡ 0 → v .type < 100) where
+  abbrev AllShaped : List Values → Type 0
+  AllShaped [] = Unit {0}
+  AllShaped (v ∷ vs) = Shaped v × AllShaped vs
+
+  -- from a record on
+  module _ (whole : List ℕ) (small : length whole ≤ 268_435_456) where
+    run-likewise : (vs : List Values) (file : List ℕ) (past : List Entry) → AllShaped vs → allFit vs ≡ true → completedFrom vs file past ≡ whole
+        → ReadTo Ascii whole past (length file) → (n : ℕ) → length whole ≤ length file + n
+        → answerFrom vs file past ≡ asDrafted (length whole) (run Ascii n whole (length file) past)
+    unfolding completedFrom answerFrom allFit
+    run-likewise [] file past shapes fit e r n h =
+        ends-likewise file past (omega (arith, ap length e))
+        ∙ ap (λ (f : List ℕ). asDrafted (length f) (ended Ascii f past (length file))) e
+        ∙ ap (asDrafted (length whole)) (sym (run-end Ascii whole (length file) past n (omega (arith, ap length e))))
+    run-likewise (v ∷ vs) file past shapes fit e r n h =
+        let fits = and-eq-true-iff (eqb (firstUnfit v (addendaBehind (v .type) vs) (layoutOf (v .type) .lines) (v .fields)) 0) (everyHere (v .parts) && allFit vs) .0 fit in
+        let others = and-eq-true-iff (everyHere (v .parts)) (allFit vs) .0 (fits .1) in
+        let more = appended vs (fileWith v vs file past) (pastWith v vs file past) in
+        cases (turnOfRow v vs file past (standing Ascii file past)) (stepOf Ascii whole (standing Ascii whole past) (length file)) refl
+        (omega (arith, ap length e, ap length (more .is), length-append (fileWith v vs file past) (more .rest), one-longer v vs file past))
+        (step-likewise Shaped completed-type completed-judged completed-two fit-type v vs file past (shapes .0) (eqb-true _ 0 (fits .0)) (others .0)
+        whole (more .rest) small (sym e ∙ more .is) r)
+        (λ q m l. run-likewise vs (fileWith v vs file past) (pastWith v vs file past) (shapes .1) (others .1) e q m l)
+      where
+        longer : List ℕ
+        longer = fileWith v vs file past
+
+        newer : List Entry
+        newer = pastWith v vs file past
+
+        cases : (turn : Turn) (step : Step) → stepOf Ascii whole (standing Ascii whole past) (length file) ≡ step → length file < length whole
+            → Likewise (v .type) (length (bodyOf v vs file past)) turn step
+            → (ReadTo Ascii whole newer (length longer) → (m : ℕ) → length whole ≤ length longer + m
+            → answerFrom vs longer newer ≡ asDrafted (length whole) (run Ascii m whole (length longer) newer))
+            → afterTurn file past turn (answerFrom vs longer newer) ≡ asDrafted (length whole) (run Ascii n whole (length file) past)
+        cases turn step q k (stops fault) others =
+            rw (run-stop Ascii whole (length file) past n fault k (omega arith) q, offset-small (length file) (omega arith))
+        cases turn step q k goes others =
+            let there : length longer ≡ length file + 4 + length (bodyOf v vs file past) = one-longer v vs file past in
+            others (subst (λ (at : ℕ). ReadTo Ascii whole newer at) (sym there) (on r q)) (n - 1) (omega (arith, there))
+            ∙ ap (λ (at : ℕ). asDrafted (length whole) (run Ascii (n - 1) whole at newer)) there
+            ∙ ap (asDrafted (length whole)) (sym (run-on Ascii whole (length file) past n (v .type) (length (bodyOf v vs file past)) k (omega arith) q))
