@@ -9,6 +9,7 @@ use lib.ListN.{length, take, drop, length-append, length-take}
 use lib.Seq.{take-all, take-append-seam, drop-append-seam}
 use borrow.Author.Tests.{le-leb}
 use Rattle.text.specs.declared.character_set.CharacterSet.the-variants.{Ascii}
+use Rattle.decimal.specs.Digits.{digits}
 use Rattle.frame.specs.declared.Frame.the-variants.{Whole}
 use Rattle.frame.specs.Frames.{part, frameAt}
 use Rattle.frame.specs.Unless.{unless}
@@ -94,8 +95,12 @@ module _ (Shaped : Values → Type 0)
     → firstUnfit v addenda (layoutOf (v .type) .lines) (v .fields) ≡ 0 → everyHere (v .parts) ≡ true
     → judgedAs Ascii (v .type) (completed v addenda s)
     ≡ judge.unlessField (fieldFault v addenda s) (judge.unlessField (firstUnfitPart (sizedParts (layoutOf (v .type))) (v .parts)) Sound))
-    (completed-two : (v : Values) (addenda : ℕ) (s : Standing) → 2 ≤ length (completed v addenda s))
+    (completed-front : (v : Values) (addenda : ℕ) (s : Standing) → take 2 (completed v addenda s) ≡ digits 2 (v .type))
     (fit-type : (v : Values) (addenda : ℕ) → firstUnfit v addenda (layoutOf (v .type) .lines) (v .fields) ≡ 0 → v .type < 100) where
+  two-long : (v : Values) (addenda : ℕ) (s : Standing) → 2 ≤ length (completed v addenda s)
+  unfolding digits
+  two-long v addenda s = omega (arith, ap length (completed-front v addenda s), length-take 2 (completed v addenda s))
+
   module _ (v : Values) (vs : List Values) (file : List ℕ) (past : List Entry) (shape : Shaped v)
       (fit : firstUnfit v (addendaBehind (v .type) vs) (layoutOf (v .type) .lines) (v .fields) ≡ 0) (here : everyHere (v .parts) ≡ true) where
     abbrev t : ℕ
@@ -147,7 +152,7 @@ module _ (Shaped : Values → Type 0)
         (cond (eqb (s .last) 99) (Stop After) (ofTurn n (turnOf Ascii longer s (length file) body)))
     unfolding turnOfRow turnOf
     turn-likewise =
-        rw (le-leb 2 (length body) (completed-two v addenda s), completed-type v addenda s (fit-type v addenda fit))
+        rw (le-leb 2 (length body) (two-long v addenda s), completed-type v addenda s (fit-type v addenda fit))
         (by-place (mayFollow (s .inside) (s .last) (s .present) t) refl)
 
     -- and in a longer one that is read to there

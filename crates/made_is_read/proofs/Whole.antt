@@ -1,24 +1,26 @@
 -- A draft that is made out is read as it was made: the reader's answer to the file is the writer's. Assumes nothing.
-use Prim.Native.Nat.{ℕ, _+_, _-_, _*_, _/_, _≤_, _<_, min}
+use Prim.Native.Nat.{ℕ, _+_, _-_, _*_, _/_, _%_, _≤_, _<_}
 use native.Mathlib.Omega.{arith}
 use mathlib.Core.Bool.{Bool, true, false, _&&_, cond, and-eq-true-iff}
 use mathlib.Core.List.{List, [], _∷_, _++_, append-assoc, append-nil}
 use mathlib.Core.Path.{_≡_, refl, sym, ap, _∙_, subst}
 use lib.Dec.{leb, eqb}
-use lib.ListN.{length, getD, length-append}
-use borrow.Author.Tests.{le-leb, eqb-true}
+use lib.ListN.{length, getD, take, length-append}
+use borrow.Author.Tests.{le-leb, ne-eqb, eqb-true, eq-eqb}
 use Rattle.text.specs.CharacterSet.{setOf}
 use Rattle.text.specs.declared.character_set.CharacterSet.the-variants.{Ascii}
+use Rattle.decimal.specs.Digits.{digits}
+use Rattle.frame.specs.Unless.{unless}
 use Rattle.layout.specs.Layout.{sizedParts}
 use Rattle.judge.specs.declared.Judged.the-variants.{Sound}
 use Rattle.judge.specs.Alone.{typeOf, judgedAs}
-use Rattle.order.specs.MayFollow.{isCarried}
+use Rattle.order.specs.MayFollow.{isCarried, mayFollow}
 use Rattle.standing.specs.History.{Entry, entry}
 use Rattle.standing.specs.Standing.{standing}
 use Rattle.standing.specs.declared.Standing.{Standing}
 use Rattle.standing.proofs.Laws.{standing-records}
 use Rattle.passes.specs.declared.Fault.{Fault}
-use Rattle.passes.specs.declared.Fault.the-variants.{Place, Open}
+use Rattle.passes.specs.declared.Fault.the-variants.{Place, Field, Open}
 use Rattle.passes.specs.declared.Totals.{Totals}
 use Rattle.passes.specs.declared.Turn.{Turn}
 use Rattle.passes.specs.declared.Step.{Step}
@@ -75,14 +77,42 @@ ends-likewise file past small =
     cases true = refl
     cases false = refl
 
+-- the character set, by the first of two characters behind the first length
+ascii-set : (file : List ℕ) (d : ℕ) → getD file 4 0 ≡ d → d < 0xF0 → setOf file ≡ Ascii
+unfolding setOf
+ascii-set file d q h = rw (q, ne-eqb d 0xF0 (λ e. omega arith))
+
+first-of : (b rest : List ℕ) {c d : ℕ} → take 2 b ≡ c ∷ d ∷ [] → getD (b ++ rest) 0 0 ≡ c
+first-of [] rest e = cc
+first-of (x ∷ xs) rest e = cc
+
+-- a check that is passed
+through : (c : Bool) (fault : Fault) (next : Turn) {t : ℕ} → unless c (turns.Faulty fault) next ≡ turns.Good t → (c ≡ true) × (next ≡ turns.Good t)
+through true fault next e = (refl, e)
+through false fault next e = (cc, cc)
+
+written-as : (a : Answer) (m : ℕ) {n : ℕ} {t : Totals} → asDrafted m a ≡ Written n t → a ≡ answers.Accepted t
+written-as (answers.Accepted t) m e = cc
+written-as (answers.Refused fault place offset) m e = cc
+
+written-some : (vs : List Values) {n : ℕ} {t : Totals} → answerFrom vs [] [] ≡ Written n t → 1 ≤ length (made vs)
+unfolding made completedFrom answerFrom rowsEnded standing
+written-some [] e = let z : _≡_ {A = ℕ} 0 1 = cc in absurd (omega arith)
+written-some (v ∷ vs) e =
+    let more = appended vs (fileWith v vs [] []) (pastWith v vs [] []) in
+    omega (arith, ap length (more .is), length-append (fileWith v vs [] []) (more .rest), one-longer v vs [] [])
+
 module _ (Shaped : Values → Type 0)
     (completed-type : (v : Values) (addenda : ℕ) (s : Standing) → v .type < 100 → typeOf Ascii (completed v addenda s) ≡ v .type)
     (completed-judged : (v : Values) (addenda : ℕ) (s : Standing) → Shaped v → isCarried (v .type) ≡ true
     → firstUnfit v addenda (layoutOf (v .type) .lines) (v .fields) ≡ 0 → everyHere (v .parts) ≡ true
     → judgedAs Ascii (v .type) (completed v addenda s)
     ≡ judge.unlessField (fieldFault v addenda s) (judge.unlessField (firstUnfitPart (sizedParts (layoutOf (v .type))) (v .parts)) Sound))
-    (completed-two : (v : Values) (addenda : ℕ) (s : Standing) → 2 ≤ length (completed v addenda s))
-    (fit-type : (v : Values) (addenda : ℕ) → firstUnfit v addenda (layoutOf (v .type) .lines) (v .fields) ≡ 0 → v .type < 100) where
+    (completed-front : (v : Values) (addenda : ℕ) (s : Standing) → take 2 (completed v addenda s) ≡ digits 2 (v .type))
+    (fit-type : (v : Values) (addenda : ℕ) → firstUnfit v addenda (layoutOf (v .type) .lines) (v .fields) ≡ 0 → v .type < 100)
+    (fit-lines : (v : Values) (addenda : ℕ) (s : Standing) → fieldFault v addenda s ≡ 0
+    → firstUnfit v addenda (layoutOf (v .type) .lines) (v .fields) ≡ 0)
+    (fit-parts : (v : Values) → Shaped v → firstUnfitPart (sizedParts (layoutOf (v .type))) (v .parts) ≡ 0 → everyHere (v .parts) ≡ true) where
   abbrev AllShaped : List Values → Type 0
   AllShaped [] = Unit {0}
   AllShaped (v ∷ vs) = Shaped v × AllShaped vs
@@ -103,7 +133,7 @@ module _ (Shaped : Values → Type 0)
         let more = appended vs (fileWith v vs file past) (pastWith v vs file past) in
         cases (turnOfRow v vs file past (standing Ascii file past)) (stepOf Ascii whole (standing Ascii whole past) (length file)) refl
         (omega (arith, ap length e, ap length (more .is), length-append (fileWith v vs file past) (more .rest), one-longer v vs file past))
-        (step-likewise Shaped completed-type completed-judged completed-two fit-type v vs file past (shapes .0) (eqb-true _ 0 (fits .0)) (others .0)
+        (step-likewise Shaped completed-type completed-judged completed-front fit-type v vs file past (shapes .0) (eqb-true _ 0 (fits .0)) (others .0)
         whole (more .rest) small (sym e ∙ more .is) r)
         (λ q m l. run-likewise vs (fileWith v vs file past) (pastWith v vs file past) (shapes .1) (others .1) e q m l)
       where
@@ -125,3 +155,85 @@ module _ (Shaped : Values → Type 0)
             others (subst (λ (at : ℕ). ReadTo Ascii whole newer at) (sym there) (on r q)) (n - 1) (omega (arith, there))
             ∙ ap (λ (at : ℕ). asDrafted (length whole) (run Ascii (n - 1) whole at newer)) there
             ∙ ap (asDrafted (length whole)) (sym (run-on Ascii whole (length file) past n (v .type) (length (bodyOf v vs file past)) k (omega arith) q))
+
+  made-ascii : (vs : List Values) → 1 ≤ length (made vs) → setOf (made vs) ≡ Ascii
+  unfolding made completedFrom digits
+  made-ascii [] h = absurd (omega arith)
+  made-ascii (v ∷ vs) h =
+      let more = appended vs (fileWith v vs [] []) (pastWith v vs [] []) in
+      let body = bodyOf v vs [] [] in
+      ascii-set (made (v ∷ vs)) (0x30 + v .type / 10 % 10)
+      (ap (λ (f : List ℕ). getD f 4 0) (more .is)
+      ∙ ap (λ (f : List ℕ). getD f 0 0) (append-assoc body [] (more .rest))
+      ∙ first-of body (more .rest) (completed-front v (addendaBehind (v .type) vs) (standing Ascii [] [])))
+      (omega arith)
+
+  -- the writer's answer is the reader's
+  pub as-the-reader : (vs : List Values) → AllShaped vs → allFit vs ≡ true → 1 ≤ length (made vs) → length (made vs) ≤ 268_435_456
+      → answerFrom vs [] [] ≡ asDrafted (length (made vs)) (surveyed (made vs))
+  unfolding made surveyed
+  as-the-reader vs shapes fit some small =
+      let read : surveyed (made vs) ≡ run Ascii (length (made vs)) (made vs) 0 [] =
+      rw (made-ascii vs some, le-leb 1 (length (made vs)) some, le-leb (length (made vs)) 268_435_456 small) in
+      run-likewise (made vs) small vs [] [] shapes fit refl start (length (made vs)) (omega arith)
+      ∙ ap (asDrafted (length (made vs))) (sym read)
+
+  -- what is written has nothing that is outgrown or outside the text
+  good-fits : (v : Values) (vs : List Values) (file : List ℕ) (past : List Entry) (s : Standing) {u : ℕ} → Shaped v
+      → turnOfRow v vs file past s ≡ turns.Good u
+      → (firstUnfit v (addendaBehind (v .type) vs) (layoutOf (v .type) .lines) (v .fields) ≡ 0) × (everyHere (v .parts) ≡ true)
+  unfolding turnOfRow
+  good-fits v vs file past s shape e =
+      let field = fieldFault v (addendaBehind (v .type) vs) s in
+      let other = firstUnfitPart (sizedParts (layoutOf (v .type))) (v .parts) in
+      let placed = through (mayFollow (s .inside) (s .last) (s .present) (v .type)) Place _ e in
+      let lines = through (eqb field 0) (Field field) _ (placed .1) in
+      let parts = through (eqb other 0) (Field other) _ (lines .1) in
+      (fit-lines v (addendaBehind (v .type) vs) s (eqb-true field 0 (lines .0)), fit-parts v shape (eqb-true other 0 (parts .0)))
+
+  written-fits : (vs : List Values) (file : List ℕ) (past : List Entry) {n : ℕ} {t : Totals} → AllShaped vs → answerFrom vs file past ≡ Written n t
+      → (allFit vs ≡ true) × (n ≡ length (completedFrom vs file past))
+  unfolding allFit answerFrom completedFrom rowsEnded
+  written-fits [] file past {n} {t} shapes e = (refl, cases (eqb (standing Ascii file past .last) 99) e)
+    where
+      cases : (b : Bool) → cond b (Written (length file) (totalsOf (standing Ascii file past))) (Refused Place (length past + 1) (offsetOf (length file))) ≡ Written n t
+          → n ≡ length file
+      cases true q = cc
+      cases false q = cc
+  written-fits (v ∷ vs) file past {n} {t} shapes e =
+      cases (turnOfRow v vs file past (standing Ascii file past)) refl e
+      (λ q. written-fits vs (fileWith v vs file past) (pastWith v vs file past) (shapes .1) q)
+    where
+      longer : List ℕ
+      longer = fileWith v vs file past
+
+      newer : List Entry
+      newer = pastWith v vs file past
+
+      cases : (turn : Turn) → turnOfRow v vs file past (standing Ascii file past) ≡ turn → afterTurn file past turn (answerFrom vs longer newer) ≡ Written n t
+          → (answerFrom vs longer newer ≡ Written n t → (allFit vs ≡ true) × (n ≡ length (completedFrom vs longer newer)))
+          → (allFit (v ∷ vs) ≡ true) × (n ≡ length (completedFrom vs longer newer))
+      cases (turns.Faulty fault) w q others = (cc, cc)
+      cases (turns.Good u) w q others =
+          let fits = good-fits v vs file past (standing Ascii file past) (shapes .0) w in
+          let rest = others q in
+          (rw (eq-eqb _ 0 (fits .0), fits .1, rest .0), rest .1)
+
+  -- what is written is accepted
+  pub accepted : (vs : List Values) {n : ℕ} {t : Totals} → AllShaped vs → answerFrom vs [] [] ≡ Written n t → n ≤ 268_435_456
+      → (n ≡ length (made vs)) × (setOf (made vs) ≡ Ascii) × (surveyed (made vs) ≡ answers.Accepted t)
+  unfolding made
+  accepted vs {n} {t} shapes e h =
+      let fits = written-fits vs [] [] shapes e in
+      let some = written-some vs e in (
+        fits .1,
+        made-ascii vs some,
+        written-as (surveyed (made vs)) (length (made vs)) (sym (as-the-reader vs shapes (fits .0) some (omega (arith, fits .1))) ∙ e),
+      )
+
+  -- with rows enough
+  pub read-back : (vs : List Values) {n : ℕ} {t : Totals} → AllShaped vs → answerFrom vs [] [] ≡ Written n t → n ≤ 268_435_456
+      → (table : List ℕ) → 7 * t .records .0 ≤ length table → answerOf (made vs) (length table) ≡ answers.Accepted t
+  unfolding answerOf
+  read-back vs {t = t} shapes e h table room =
+      rw (accepted vs shapes e h .2, le-leb (t .records .0) (length table / 7) (omega arith))
