@@ -1,23 +1,24 @@
 -- One record of a draft, completed, is judged by the reader as the writer judges its row. Assumes nothing.
 use Prim.Native.Nat.{ℕ, _+_, _≤_, _<_}
 use native.Mathlib.Omega.{arith}
-use mathlib.Core.Bool.{Bool, true, false, not, cond, and-eq-true-iff}
+use mathlib.Core.Bool.{Bool, true, false, not, _||_, cond, and-eq-true-iff}
 use mathlib.Core.List.{List, [], _∷_, _++_, append-assoc, append-nil}
 use mathlib.Core.Path.{_≡_, refl, sym, ap, _∙_, subst}
-use lib.Dec.{leb, eqb}
+use lib.Dec.{eqb}
 use lib.ListN.{length, take, drop, length-append, length-take}
 use lib.Seq.{take-all, take-append-seam, drop-append-seam}
-use borrow.Author.Tests.{le-leb}
+use borrow.Author.Tests.{le-leb, ltb-true}
 use Rattle.text.specs.declared.character_set.CharacterSet.the-variants.{Ascii}
-use Rattle.decimal.specs.Digits.{digits}
-use Rattle.frame.specs.declared.Frame.the-variants.{Whole}
-use Rattle.frame.specs.Frames.{part, frameAt}
+use Rattle.text.specs.Characters.{isNumeric}
+use Rattle.text.specs.DataTypes.{every}
+use Rattle.text.specs.Number.{number}
+use Rattle.decimal.specs.Digits.{digits, fits}
 use Rattle.frame.specs.Unless.{unless}
-use Rattle.layout.specs.Layout.{sizedParts}
-use Rattle.judge.specs.declared.Judged.{Judged}
+use Rattle.layout.specs.Layout.{Layout, sizedParts}
+use Rattle.layout.specs.Layouts.{layouts}
 use Rattle.judge.specs.declared.Judged.the-variants.{Sound, WrongField}
-use Rattle.judge.specs.Alone.{typeOf, judgedAs}
-use Rattle.order.specs.MayFollow.{outside, inside, table, inTable, follows, oneItemType, mayFollow, isCarried}
+use Rattle.judge.specs.Alone.{judgedAs}
+use Rattle.order.specs.MayFollow.{outside, inside, table, inTable, follows, oneItemType, mayFollow, isOneOf, isCarried}
 use Rattle.order.proofs.Pairs.{throughout, listed}
 use Rattle.standing.specs.History.{Entry}
 use Rattle.standing.specs.Standing.{standing}
@@ -36,11 +37,13 @@ use Rattle.file_as_records.specs.Framed.{lengthField, framed}
 use Rattle.file_as_records.proofs.ReadThrough.{part-is, frame-is}
 use Rattle.own_fault.proofs.SameBefore.{standing-same}
 use Rattle.own_fault.proofs.SameReading.{ReadTo, past-same, step-same}
-use Rattle.draft.specs.Values.{Values, layoutOf}
+use Rattle.draft.specs.Values.{Values, unknownRecord, layoutAmong, layoutOf}
 use Rattle.draft.specs.Completed.{addendaBehind, completed, firstUnfit, firstUnfitPart}
 use Rattle.draft.specs.Drafted.{bodyOf, fileWith, fieldFault, unlessField, turnOfRow}
 use Rattle.draft.specs.Promises.{everyHere, asPlace}
-use Rattle.judge.specs.Alone as judge
+use Rattle.draft.proofs.Own.{numbersOf, carried-below}
+use Rattle.draft.proofs.Shapes.{Shaped, right-line}
+use Rattle.draft.proofs.Judged.{completed-front, completed-type, completed-judged}
 
 -- what follows is carried, and nothing follows a 99
 by-tables : (law : ℕ → ℕ → Bool) → throughout law outside ≡ true → throughout law inside ≡ true → (opened : Bool) (last present next : ℕ)
@@ -89,17 +92,30 @@ module _ (t n : ℕ) where
   alone field other turn true false l = stops (Field other)
   alone field other turn false c l = stops (Field field)
 
-module _ (Shaped : Values → Type 0)
-    (completed-type : (v : Values) (addenda : ℕ) (s : Standing) → v .type < 100 → typeOf Ascii (completed v addenda s) ≡ v .type)
-    (completed-judged : (v : Values) (addenda : ℕ) (s : Standing) → Shaped v → isCarried (v .type) ≡ true
-    → firstUnfit v addenda (layoutOf (v .type) .lines) (v .fields) ≡ 0 → everyHere (v .parts) ≡ true
-    → judgedAs Ascii (v .type) (completed v addenda s)
-    ≡ judge.unlessField (fieldFault v addenda s) (judge.unlessField (firstUnfitPart (sizedParts (layoutOf (v .type))) (v .parts)) Sound))
-    (completed-front : (v : Values) (addenda : ℕ) (s : Standing) → take 2 (completed v addenda s) ≡ digits 2 (v .type))
-    (fit-type : (v : Values) (addenda : ℕ) → firstUnfit v addenda (layoutOf (v .type) .lines) (v .fields) ≡ 0 → v .type < 100) where
+-- a type that outgrows field 1 is not carried, and so field 1 is all that is known of it
+unknown-among : (t : ℕ) (ks : List Layout) → isOneOf t (numbersOf ks) ≡ false → layoutAmong ks t ≡ unknownRecord
+unknown-among t [] e = refl
+unknown-among t (k ∷ ks) e = by (eqb t (k .typeNumber)) e (unknown-among t ks)
+  where
+    by : (c : Bool) → c || isOneOf t (numbersOf ks) ≡ false → (isOneOf t (numbersOf ks) ≡ false → layoutAmong ks t ≡ unknownRecord)
+        → cond c k (layoutAmong ks t) ≡ unknownRecord
+    by true e later = let z : _≡_ {A = ℕ} 0 1 = cc in absurd (omega arith)
+    by false e later = later e
+
+fit-type : (v : Values) (addenda : ℕ) → firstUnfit v addenda (layoutOf (v .type) .lines) (v .fields) ≡ 0 → v .type < 100
+unfolding isCarried layoutOf firstUnfit fits
+fit-type v addenda e = by (isCarried (v .type)) refl
+  where
+    by : (c : Bool) → isCarried (v .type) ≡ c → v .type < 100
+    by true c = carried-below (v .type) c
+    by false c =
+        ltb-true (v .type) 100 (right-line (fits 2 (v .type)) 1 0 (omega arith) (rw (unknown-among (v .type) layouts c) at e) .0)
+
+module _ (digits-numeric : (n value : ℕ) → every (isNumeric Ascii) (digits n value) ≡ true)
+    (digits-states : (n value : ℕ) → n ≤ 19 → fits n value ≡ true → number Ascii (digits n value) ≡ value) where
   two-long : (v : Values) (addenda : ℕ) (s : Standing) → 2 ≤ length (completed v addenda s)
   unfolding digits
-  two-long v addenda s = omega (arith, ap length (completed-front v addenda s), length-take 2 (completed v addenda s))
+  two-long v addenda s = omega (arith, ap length (completed-front digits-numeric digits-states v addenda s), length-take 2 (completed v addenda s))
 
   module _ (v : Values) (vs : List Values) (file : List ℕ) (past : List Entry) (shape : Shaped v)
       (fit : firstUnfit v (addendaBehind (v .type) vs) (layoutOf (v .type) .lines) (v .fields) ≡ 0) (here : everyHere (v .parts) ≡ true) where
@@ -143,7 +159,7 @@ module _ (Shaped : Values → Type 0)
         (ofTurn n (unless (isCarried t) (Faulty UnknownType) (unless b (Faulty Place) (unlessAlone (judgedAs Ascii t body) turn)))))
     by-place true b =
         let c = follows-carried (s .inside) (s .last) (s .present) t b in
-        rw (nothing-after (s .inside) (s .last) (s .present) t b, c, completed-judged v addenda s shape c fit here)
+        rw (nothing-after (s .inside) (s .last) (s .present) t b, c, completed-judged digits-states v addenda s shape c fit here)
         (alone t n field other turn (eqb field 0) (eqb other 0) turn-agreed)
     by-place false b = unplaced t n (eqb (s .last) 99) (isCarried t)
 
@@ -152,7 +168,7 @@ module _ (Shaped : Values → Type 0)
         (cond (eqb (s .last) 99) (Stop After) (ofTurn n (turnOf Ascii longer s (length file) body)))
     unfolding turnOfRow turnOf
     turn-likewise =
-        rw (le-leb 2 (length body) (two-long v addenda s), completed-type v addenda s (fit-type v addenda fit))
+        rw (le-leb 2 (length body) (two-long v addenda s), completed-type digits-numeric digits-states v addenda s (fit-type v addenda fit))
         (by-place (mayFollow (s .inside) (s .last) (s .present) t) refl)
 
     -- and in a longer one that is read to there

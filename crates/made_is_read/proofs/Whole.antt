@@ -4,18 +4,19 @@ use native.Mathlib.Omega.{arith}
 use mathlib.Core.Bool.{Bool, true, false, _&&_, cond, and-eq-true-iff}
 use mathlib.Core.List.{List, [], _∷_, _++_, append-assoc, append-nil}
 use mathlib.Core.Path.{_≡_, refl, sym, ap, _∙_, subst}
-use lib.Dec.{leb, eqb}
+use lib.Dec.{eqb}
 use lib.ListN.{length, getD, take, length-append}
 use borrow.Author.Tests.{le-leb, ne-eqb, eqb-true, eq-eqb}
 use Rattle.text.specs.CharacterSet.{setOf}
 use Rattle.text.specs.declared.character_set.CharacterSet.the-variants.{Ascii}
-use Rattle.decimal.specs.Digits.{digits}
+use Rattle.text.specs.Characters.{isNumeric}
+use Rattle.text.specs.DataTypes.{every}
+use Rattle.text.specs.Number.{number}
+use Rattle.decimal.specs.Digits.{digits, fits}
 use Rattle.frame.specs.Unless.{unless}
 use Rattle.layout.specs.Layout.{sizedParts}
-use Rattle.judge.specs.declared.Judged.the-variants.{Sound}
-use Rattle.judge.specs.Alone.{typeOf, judgedAs}
-use Rattle.order.specs.MayFollow.{isCarried, mayFollow}
-use Rattle.standing.specs.History.{Entry, entry}
+use Rattle.order.specs.MayFollow.{mayFollow}
+use Rattle.standing.specs.History.{Entry}
 use Rattle.standing.specs.Standing.{standing}
 use Rattle.standing.specs.declared.Standing.{Standing}
 use Rattle.standing.proofs.Laws.{standing-records}
@@ -29,16 +30,15 @@ use Rattle.passes.specs.Reading.{totalsOf, stepOf, endedWith, ended, run, surve
 use Rattle.passes.proofs.Laws.{run-end, run-stop, run-on}
 use Rattle.file_as_records.specs.Framed.{framed}
 use Rattle.own_fault.proofs.SameReading.{ReadTo, start, on}
-use Rattle.draft.specs.declared.Outcome.{Outcome}
 use Rattle.draft.specs.declared.Outcome.the-variants.{Written, Refused}
 use Rattle.draft.specs.Values.{Values, layoutOf}
-use Rattle.draft.specs.Completed.{addendaBehind, completed, firstUnfit, firstUnfitPart}
+use Rattle.draft.specs.Completed.{addendaBehind, firstUnfit, firstUnfitPart}
 use Rattle.draft.specs.Drafted.{bodyOf, fileWith, pastWith, completedFrom, made, fieldFault, turnOfRow, offsetOf, afterTurn, rowsEnded, answerFrom}
-use Rattle.draft.specs.Promises.{everyHere, allFit, asPlace, asDrafted}
+use Rattle.draft.specs.Promises.{everyHere, allFit, asDrafted}
 use Rattle.made_is_read.proofs.Record.{Likewise, stops, goes, step-likewise}
-use Rattle.judge.specs.Alone as judge
+use Rattle.draft.proofs.Shapes.{Shaped, AllShaped}
+use Rattle.draft.proofs.Judged.{completed-front, fit-lines, fit-parts}
 use Rattle.passes.specs.declared.Answer.the-variants as answers
-use Rattle.passes.specs.declared.Step.the-variants as steps
 use Rattle.passes.specs.declared.Turn.the-variants as turns
 
 -- records more stand behind those of the file
@@ -102,21 +102,8 @@ written-some (v ∷ vs) e =
     let more = appended vs (fileWith v vs [] []) (pastWith v vs [] []) in
     omega (arith, ap length (more .is), length-append (fileWith v vs [] []) (more .rest), one-longer v vs [] [])
 
-module _ (Shaped : Values → Type 0)
-    (completed-type : (v : Values) (addenda : ℕ) (s : Standing) → v .type < 100 → typeOf Ascii (completed v addenda s) ≡ v .type)
-    (completed-judged : (v : Values) (addenda : ℕ) (s : Standing) → Shaped v → isCarried (v .type) ≡ true
-    → firstUnfit v addenda (layoutOf (v .type) .lines) (v .fields) ≡ 0 → everyHere (v .parts) ≡ true
-    → judgedAs Ascii (v .type) (completed v addenda s)
-    ≡ judge.unlessField (fieldFault v addenda s) (judge.unlessField (firstUnfitPart (sizedParts (layoutOf (v .type))) (v .parts)) Sound))
-    (completed-front : (v : Values) (addenda : ℕ) (s : Standing) → take 2 (completed v addenda s) ≡ digits 2 (v .type))
-    (fit-type : (v : Values) (addenda : ℕ) → firstUnfit v addenda (layoutOf (v .type) .lines) (v .fields) ≡ 0 → v .type < 100)
-    (fit-lines : (v : Values) (addenda : ℕ) (s : Standing) → fieldFault v addenda s ≡ 0
-    → firstUnfit v addenda (layoutOf (v .type) .lines) (v .fields) ≡ 0)
-    (fit-parts : (v : Values) → Shaped v → firstUnfitPart (sizedParts (layoutOf (v .type))) (v .parts) ≡ 0 → everyHere (v .parts) ≡ true) where
-  abbrev AllShaped : List Values → Type 0
-  AllShaped [] = Unit {0}
-  AllShaped (v ∷ vs) = Shaped v × AllShaped vs
-
+module _ (digits-numeric : (n value : ℕ) → every (isNumeric Ascii) (digits n value) ≡ true)
+    (digits-states : (n value : ℕ) → n ≤ 19 → fits n value ≡ true → number Ascii (digits n value) ≡ value) where
   -- from a record on
   module _ (whole : List ℕ) (small : length whole ≤ 268_435_456) where
     run-likewise : (vs : List Values) (file : List ℕ) (past : List Entry) → AllShaped vs → allFit vs ≡ true → completedFrom vs file past ≡ whole
@@ -133,7 +120,7 @@ module _ (Shaped : Values → Type 0)
         let more = appended vs (fileWith v vs file past) (pastWith v vs file past) in
         cases (turnOfRow v vs file past (standing Ascii file past)) (stepOf Ascii whole (standing Ascii whole past) (length file)) refl
         (omega (arith, ap length e, ap length (more .is), length-append (fileWith v vs file past) (more .rest), one-longer v vs file past))
-        (step-likewise Shaped completed-type completed-judged completed-front fit-type v vs file past (shapes .0) (eqb-true _ 0 (fits .0)) (others .0)
+        (step-likewise digits-numeric digits-states v vs file past (shapes .0) (eqb-true _ 0 (fits .0)) (others .0)
         whole (more .rest) small (sym e ∙ more .is) r)
         (λ q m l. run-likewise vs (fileWith v vs file past) (pastWith v vs file past) (shapes .1) (others .1) e q m l)
       where
@@ -165,7 +152,7 @@ module _ (Shaped : Values → Type 0)
       ascii-set (made (v ∷ vs)) (0x30 + v .type / 10 % 10)
       (ap (λ (f : List ℕ). getD f 4 0) (more .is)
       ∙ ap (λ (f : List ℕ). getD f 0 0) (append-assoc body [] (more .rest))
-      ∙ first-of body (more .rest) (completed-front v (addendaBehind (v .type) vs) (standing Ascii [] [])))
+      ∙ first-of body (more .rest) (completed-front digits-numeric digits-states v (addendaBehind (v .type) vs) (standing Ascii [] [])))
       (omega arith)
 
   -- the writer's answer is the reader's
