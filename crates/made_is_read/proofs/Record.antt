@@ -7,12 +7,10 @@ use mathlib.Core.Path.{_≡_, refl, sym, ap, _∙_, subst}
 use lib.Dec.{eqb}
 use lib.ListN.{length, take, drop, length-append, length-take}
 use lib.Seq.{take-all, take-append-seam, drop-append-seam}
-use borrow.Author.Tests.{le-leb, ltb-true}
+use borrow.Author.Tests.{le-leb, ltb-true, not-true}
 use Rattle.text.specs.declared.character_set.CharacterSet.the-variants.{Ascii}
-use Rattle.text.specs.Characters.{isNumeric}
-use Rattle.text.specs.DataTypes.{every}
-use Rattle.text.specs.Number.{number}
 use Rattle.decimal.specs.Digits.{digits, fits}
+use Rattle.decimal.proofs.Laws.{digits-numeric, digits-states}
 use Rattle.frame.specs.Unless.{unless}
 use Rattle.layout.specs.Layout.{Layout, sizedParts}
 use Rattle.layout.specs.Layouts.{layouts}
@@ -60,13 +58,9 @@ pub follows-carried : (opened : Bool) (last present next : ℕ) → mayFollow op
 unfolding isCarried
 follows-carried opened last present next e = by-tables (λ last next. isCarried next) refl refl opened last present next e
 
-untrue : (b : Bool) → not b ≡ true → b ≡ false
-untrue true e = sym e
-untrue false e = refl
-
 nothing-after : (opened : Bool) (last present next : ℕ) → mayFollow opened last present next ≡ true → eqb last 99 ≡ false
 nothing-after opened last present next e =
-    untrue (eqb last 99) (by-tables (λ last next. not (eqb last 99)) refl refl opened last present next e)
+    not-true (eqb last 99) (by-tables (λ last next. not (eqb last 99)) refl refl opened last present next e)
 
 -- the writer's turn and the reader's step: they stop for the same, as the writer names it, or both go on
 pub data Likewise (t size : ℕ) : Turn → Step → Type 0 where
@@ -111,105 +105,103 @@ fit-type v addenda e = by (isCarried (v .type)) refl
     by false c =
         ltb-true (v .type) 100 (right-line (fits 2 (v .type)) 1 0 (omega arith) (rw (unknown-among (v .type) layouts c) at e) .0)
 
-module _ (digits-numeric : (n value : ℕ) → every (isNumeric Ascii) (digits n value) ≡ true)
-    (digits-states : (n value : ℕ) → n ≤ 19 → fits n value ≡ true → number Ascii (digits n value) ≡ value) where
-  two-long : (v : Values) (addenda : ℕ) (s : Standing) → 2 ≤ length (completed v addenda s)
-  unfolding digits
-  two-long v addenda s = omega (arith, ap length (completed-front digits-numeric digits-states v addenda s), length-take 2 (completed v addenda s))
+two-long : (v : Values) (addenda : ℕ) (s : Standing) → 2 ≤ length (completed v addenda s)
+unfolding digits
+two-long v addenda s = omega (arith, ap length (completed-front digits-numeric digits-states v addenda s), length-take 2 (completed v addenda s))
 
-  module _ (v : Values) (vs : List Values) (file : List ℕ) (past : List Entry) (shape : Shaped v)
-      (fit : firstUnfit v (addendaBehind (v .type) vs) (layoutOf (v .type) .lines) (v .fields) ≡ 0) (here : everyHere (v .parts) ≡ true) where
-    abbrev t : ℕ
-    t = v .type
+module _ (v : Values) (vs : List Values) (file : List ℕ) (past : List Entry) (shape : Shaped v)
+    (fit : firstUnfit v (addendaBehind (v .type) vs) (layoutOf (v .type) .lines) (v .fields) ≡ 0) (here : everyHere (v .parts) ≡ true) where
+  abbrev t : ℕ
+  t = v .type
 
-    abbrev addenda : ℕ
-    addenda = addendaBehind (v .type) vs
+  abbrev addenda : ℕ
+  addenda = addendaBehind (v .type) vs
 
-    abbrev s : Standing
-    s = standing Ascii file past
+  abbrev s : Standing
+  s = standing Ascii file past
 
-    abbrev body : List ℕ
-    body = bodyOf v vs file past
+  abbrev body : List ℕ
+  body = bodyOf v vs file past
 
-    abbrev n : ℕ
-    n = length (bodyOf v vs file past)
+  abbrev n : ℕ
+  n = length (bodyOf v vs file past)
 
-    abbrev longer : List ℕ
-    longer = fileWith v vs file past
+  abbrev longer : List ℕ
+  longer = fileWith v vs file past
 
-    abbrev turn : Turn
-    turn = agreement Ascii (fileWith v vs file past) (standing Ascii file past) (length file) (v .type)
+  abbrev turn : Turn
+  turn = agreement Ascii (fileWith v vs file past) (standing Ascii file past) (length file) (v .type)
 
-    abbrev field : ℕ
-    field = fieldFault v (addendaBehind (v .type) vs) (standing Ascii file past)
+  abbrev field : ℕ
+  field = fieldFault v (addendaBehind (v .type) vs) (standing Ascii file past)
 
-    abbrev other : ℕ
-    other = firstUnfitPart (sizedParts (layoutOf (v .type))) (v .parts)
+  abbrev other : ℕ
+  other = firstUnfitPart (sizedParts (layoutOf (v .type))) (v .parts)
 
-    turn-agreed : Likewise t n turn (ofTurn n turn)
-    unfolding agreement
-    turn-agreed =
-        let link = linkFault Ascii longer s t (length file) in
-        let total = totalFault Ascii longer s t (length file) in
-        agreed t n link total (eqb link 0) (eqb total 0)
+  turn-agreed : Likewise t n turn (ofTurn n turn)
+  unfolding agreement
+  turn-agreed =
+      let link = linkFault Ascii longer s t (length file) in
+      let total = totalFault Ascii longer s t (length file) in
+      agreed t n link total (eqb link 0) (eqb total 0)
 
-    by-place : (b : Bool) → mayFollow (s .inside) (s .last) (s .present) t ≡ b
-        → Likewise t n (unless b (Faulty Place) (unlessField field (unlessField other turn)))
-        (cond (eqb (s .last) 99) (Stop After)
-        (ofTurn n (unless (isCarried t) (Faulty UnknownType) (unless b (Faulty Place) (unlessAlone (judgedAs Ascii t body) turn)))))
-    by-place true b =
-        let c = follows-carried (s .inside) (s .last) (s .present) t b in
-        rw (nothing-after (s .inside) (s .last) (s .present) t b, c, completed-judged digits-states v addenda s shape c fit here)
-        (alone t n field other turn (eqb field 0) (eqb other 0) turn-agreed)
-    by-place false b = unplaced t n (eqb (s .last) 99) (isCarried t)
+  by-place : (b : Bool) → mayFollow (s .inside) (s .last) (s .present) t ≡ b
+      → Likewise t n (unless b (Faulty Place) (unlessField field (unlessField other turn)))
+      (cond (eqb (s .last) 99) (Stop After)
+      (ofTurn n (unless (isCarried t) (Faulty UnknownType) (unless b (Faulty Place) (unlessAlone (judgedAs Ascii t body) turn)))))
+  by-place true b =
+      let c = follows-carried (s .inside) (s .last) (s .present) t b in
+      rw (nothing-after (s .inside) (s .last) (s .present) t b, c, completed-judged digits-states v addenda s shape c fit here)
+      (alone t n field other turn (eqb field 0) (eqb other 0) turn-agreed)
+  by-place false b = unplaced t n (eqb (s .last) 99) (isCarried t)
 
-    -- the record in the file that ends with it
-    turn-likewise : Likewise t n (turnOfRow v vs file past s)
-        (cond (eqb (s .last) 99) (Stop After) (ofTurn n (turnOf Ascii longer s (length file) body)))
-    unfolding turnOfRow turnOf
-    turn-likewise =
-        rw (le-leb 2 (length body) (two-long v addenda s), completed-type digits-numeric digits-states v addenda s (fit-type v addenda fit))
-        (by-place (mayFollow (s .inside) (s .last) (s .present) t) refl)
+  -- the record in the file that ends with it
+  turn-likewise : Likewise t n (turnOfRow v vs file past s)
+      (cond (eqb (s .last) 99) (Stop After) (ofTurn n (turnOf Ascii longer s (length file) body)))
+  unfolding turnOfRow turnOf
+  turn-likewise =
+      rw (le-leb 2 (length body) (two-long v addenda s), completed-type digits-numeric digits-states v addenda s (fit-type v addenda fit))
+      (by-place (mayFollow (s .inside) (s .last) (s .present) t) refl)
 
-    -- and in a longer one that is read to there
-    module _ (whole rest : List ℕ) (small : length whole ≤ 268_435_456) (e : whole ≡ longer ++ rest) (r : ReadTo Ascii whole past (length file)) where
-      -- the files with the record and without it are beginnings of the whole
-      begins : (xs ys : List ℕ) → whole ≡ xs ++ ys → take (length xs) xs ≡ take (length xs) whole
-      begins xs ys q = take-all (length xs) xs (omega arith) ∙ sym (ap (take (length xs)) q ∙ take-append-seam xs ys)
+  -- and in a longer one that is read to there
+  module _ (whole rest : List ℕ) (small : length whole ≤ 268_435_456) (e : whole ≡ longer ++ rest) (r : ReadTo Ascii whole past (length file)) where
+    -- the files with the record and without it are beginnings of the whole
+    begins : (xs ys : List ℕ) → whole ≡ xs ++ ys → take (length xs) xs ≡ take (length xs) whole
+    begins xs ys q = take-all (length xs) xs (omega arith) ∙ sym (ap (take (length xs)) q ∙ take-append-seam xs ys)
 
-      begins-long : (xs ys : List ℕ) → whole ≡ xs ++ ys → length xs ≤ length whole
-      begins-long xs ys q = omega (arith, ap length q, length-append xs ys)
+    begins-long : (xs ys : List ℕ) → whole ≡ xs ++ ys → length xs ≤ length whole
+    begins-long xs ys q = omega (arith, ap length q, length-append xs ys)
 
-      stands : (xs ys : List ℕ) → whole ≡ xs ++ ys → length file ≤ length xs → standing Ascii xs past ≡ standing Ascii whole past
-      stands xs ys q h = standing-same Ascii whole xs past (past-same whole xs (length xs) (begins xs ys q) (begins-long xs ys q) Ascii r h)
+    stands : (xs ys : List ℕ) → whole ≡ xs ++ ys → length file ≤ length xs → standing Ascii xs past ≡ standing Ascii whole past
+    stands xs ys q h = standing-same Ascii whole xs past (past-same whole xs (length xs) (begins xs ys q) (begins-long xs ys q) Ascii r h)
 
-      -- the record behind the file
-      long : length longer ≡ length file + 4 + n
-      long = omega (arith, length-append file (framed (body ∷ [])), length-append body [])
+    -- the record behind the file
+    long : length longer ≡ length file + 4 + n
+    long = omega (arith, length-append file (framed (body ∷ [])), length-append body [])
 
-      in-longer : stepOf Ascii longer s (length file)
-          ≡ cond (eqb (s .last) 99) (Stop After) (ofTurn n (turnOf Ascii longer s (length file) body))
-      unfolding stepOf
-      in-longer =
-          let b : drop (length file) longer ≡ lengthField n ++ (body ++ []) = drop-append-seam file (framed (body ∷ [])) in
-          rw (frame-is longer (length file) body [] b (omega (arith, begins-long longer rest e)), part-is longer (length file) body [] b)
+    in-longer : stepOf Ascii longer s (length file)
+        ≡ cond (eqb (s .last) 99) (Stop After) (ofTurn n (turnOf Ascii longer s (length file) body))
+    unfolding stepOf
+    in-longer =
+        let b : drop (length file) longer ≡ lengthField n ++ (body ++ []) = drop-append-seam file (framed (body ∷ [])) in
+        rw (frame-is longer (length file) body [] b (omega (arith, begins-long longer rest e)), part-is longer (length file) body [] b)
 
-      in-whole : drop (length file) whole ≡ lengthField n ++ (body ++ rest)
-      in-whole =
-          ap (drop (length file)) (e ∙ append-assoc file (framed (body ∷ [])) rest)
-          ∙ drop-append-seam file (framed (body ∷ []) ++ rest)
-          ∙ ap (λ (x : List ℕ). lengthField n ++ (x ++ rest)) (append-nil body)
+    in-whole : drop (length file) whole ≡ lengthField n ++ (body ++ rest)
+    in-whole =
+        ap (drop (length file)) (e ∙ append-assoc file (framed (body ∷ [])) rest)
+        ∙ drop-append-seam file (framed (body ∷ []) ++ rest)
+        ∙ ap (λ (x : List ℕ). lengthField n ++ (x ++ rest)) (append-nil body)
 
-      stands-before : standing Ascii longer past ≡ s
-      stands-before =
-          stands longer rest e (omega (arith, long))
-          ∙ sym (stands file (framed (body ∷ []) ++ rest) (e ∙ append-assoc file (framed (body ∷ [])) rest) (omega arith))
+    stands-before : standing Ascii longer past ≡ s
+    stands-before =
+        stands longer rest e (omega (arith, long))
+        ∙ sym (stands file (framed (body ∷ []) ++ rest) (e ∙ append-assoc file (framed (body ∷ [])) rest) (omega arith))
 
-      pub step-likewise : Likewise t n (turnOfRow v vs file past s) (stepOf Ascii whole (standing Ascii whole past) (length file))
-      step-likewise =
-          subst (λ (step : Step). Likewise t n (turnOfRow v vs file past s) step)
-          (sym in-longer
-          ∙ ap (λ (u : Standing). stepOf Ascii longer u (length file)) (sym stands-before)
-          ∙ step-same whole longer (length longer) (begins longer rest e) (begins-long longer rest e) Ascii r (length file + 4) n
-          (frame-is whole (length file) body rest in-whole small) (omega (arith, long)))
-          turn-likewise
+    pub step-likewise : Likewise t n (turnOfRow v vs file past s) (stepOf Ascii whole (standing Ascii whole past) (length file))
+    step-likewise =
+        subst (λ (step : Step). Likewise t n (turnOfRow v vs file past s) step)
+        (sym in-longer
+        ∙ ap (λ (u : Standing). stepOf Ascii longer u (length file)) (sym stands-before)
+        ∙ step-same whole longer (length longer) (begins longer rest e) (begins-long longer rest e) Ascii r (length file + 4) n
+        (frame-is whole (length file) body rest in-whole small) (omega (arith, long)))
+        turn-likewise
