@@ -11,8 +11,7 @@ use lib.Seq.{take-at, drop-at, take-append-le, drop-append-le, drop-append-add}
 use Rattle.text.specs.declared.character_set.CharacterSet.{CharacterSet}
 use Rattle.text.specs.declared.character_set.CharacterSet.the-variants.{Ascii}
 use Rattle.text.specs.declared.data_types.DataType.{DataType}
-use Rattle.text.specs.Characters.{isNumeric}
-use Rattle.text.specs.DataTypes.{every, ofType}
+use Rattle.text.specs.DataTypes.{ofType}
 use Rattle.text.specs.Number.{number}
 use Rattle.field.specs.declared.Usage.{Usage}
 use Rattle.field.specs.declared.Usage.the-variants.{Mandatory, Conditional}
@@ -20,6 +19,7 @@ use Rattle.field.specs.declared.Rule.{Rule}
 use Rattle.field.specs.declared.Rule.the-variants.{DataTypeAlone, Numbers, AllDigits, OneOrTwoDigits, StandardLevel, CollectionType, BundleCollectionType, SourceOfWork, Code, Date, HoursMinutes, HoursMinutesSeconds, Routing, ClippingCoordinate}
 use Rattle.field.specs.Rules.{follows, meets, holds}
 use Rattle.decimal.specs.Digits.{digits, fits}
+use Rattle.decimal.proofs.Laws.{digits-long, digits-numeric, digits-states}
 use Rattle.frame.specs.Frames.{part}
 use Rattle.layout.specs.declared.packing.Origin.{Origin}
 use Rattle.layout.specs.declared.packing.Origin.the-variants.{Given, TypeNumber, PartSize, AddendumCount, RecordNumber, DebitCount, DebitCents, MicrCents, ViewCount, CreditCount, CreditCents, BundleCount, LetterCount, RecordCount, ItemCount}
@@ -37,7 +37,7 @@ use Rattle.draft.specs.Completed.{sizeOf, isHere, charactersOf, partSize
 use Rattle.draft.specs.Drafted.{fieldFault}
 use Rattle.draft.specs.Promises.{everyHere}
 use Rattle.draft.proofs.Own.{every-layout, numbersOf}
-use Rattle.draft.proofs.Shapes.{Shaped, givenSizes, right-line, piece-long, digits-long, front, fixed-long, completed-long}
+use Rattle.draft.proofs.Shapes.{Shaped, givenSizes, right-line, piece-long, front, fixed-long, completed-long}
 
 -- an origin by its number in the code's table
 abbrev codeOf : Origin → ℕ
@@ -82,30 +82,28 @@ abbrev typeFirst : List Line → Bool
 typeFirst [] = false
 typeFirst (l ∷ ls) = eqb (codeOf (l .origin)) 1 && eqb (l .size) 2
 
-module _ (digits-numeric : (n value : ℕ) → every (isNumeric Ascii) (digits n value) ≡ true)
-    (digits-states : (n value : ℕ) → n ≤ 19 → fits n value ≡ true → number Ascii (digits n value) ≡ value) where
-  module _ (v : Values) (addenda : ℕ) (s : Standing) where
-    type-first : (ls : List Line) (ps : List Piece) (rest : List ℕ) → typeFirst ls ≡ true → take 2 (fixedPart v addenda s ls ps ++ rest) ≡ digits 2 (v .type)
-    unfolding fixedPart
-    type-first [] ps rest e = let z : _≡_ {A = ℕ} 0 1 = cc in absurd (omega arith)
-    type-first (l ∷ ls) ps rest e =
-        let both = both-true (eqb (codeOf (l .origin)) 1) (eqb (l .size) 2) e in
-        rw (is-origin (l .origin) 1 (both .0), eqb-true (l .size) 2 (both .1), append-assoc)
-        (take-at (digits 2 (v .type)) (fixedPart v addenda s ls ps ++ rest) 2 (digits-long 2 (v .type)))
+module _ (v : Values) (addenda : ℕ) (s : Standing) where
+  type-first : (ls : List Line) (ps : List Piece) (rest : List ℕ) → typeFirst ls ≡ true → take 2 (fixedPart v addenda s ls ps ++ rest) ≡ digits 2 (v .type)
+  unfolding fixedPart
+  type-first [] ps rest e = let z : _≡_ {A = ℕ} 0 1 = cc in absurd (omega arith)
+  type-first (l ∷ ls) ps rest e =
+      let both = both-true (eqb (codeOf (l .origin)) 1) (eqb (l .size) 2) e in
+      rw (is-origin (l .origin) 1 (both .0), eqb-true (l .size) 2 (both .1), append-assoc)
+      (take-at (digits 2 (v .type)) (fixedPart v addenda s ls ps ++ rest) 2 (digits-long 2 (v .type)))
 
-  module _ (v : Values) (addenda : ℕ) (s : Standing) where
-    pub completed-front : take 2 (completed v addenda s) ≡ digits 2 (v .type)
-    unfolding completed
-    completed-front =
-        type-first v addenda (cappedFigures s) (layoutOf (v .type) .lines) (v .fields) (allParts (v .parts)) (every-layout (λ k. typeFirst (k .lines)) (v .type) refl)
+module _ (v : Values) (addenda : ℕ) (s : Standing) where
+  completed-front : take 2 (completed v addenda s) ≡ digits 2 (v .type)
+  unfolding completed
+  completed-front =
+      type-first v addenda (cappedFigures s) (layoutOf (v .type) .lines) (v .fields) (allParts (v .parts)) (every-layout (λ k. typeFirst (k .lines)) (v .type) refl)
 
-    pub completed-type : v .type < 100 → typeOf Ascii (completed v addenda s) ≡ v .type
-    unfolding typeOf fits
-    completed-type h =
-        let long : 2 ≤ length (completed v addenda s) =
-        omega (arith, length-take 2 (completed v addenda s), ap length completed-front, digits-long 2 (v .type)) in
-        rw (le-leb 2 (length (completed v addenda s)) long, completed-front, digits-numeric 2 (v .type))
-        (digits-states 2 (v .type) (omega arith) (lt-ltb (v .type) 100 h))
+  pub completed-type : v .type < 100 → typeOf Ascii (completed v addenda s) ≡ v .type
+  unfolding typeOf fits
+  completed-type h =
+      let long : 2 ≤ length (completed v addenda s) =
+      omega (arith, length-take 2 (completed v addenda s), ap length completed-front, digits-long 2 (v .type)) in
+      rw (le-leb 2 (length (completed v addenda s)) long, completed-front, digits-numeric 2 (v .type))
+      (digits-states 2 (v .type) (omega arith) (lt-ltb (v .type) 100 h))
 
 -- computed of the layouts: no line looks past the fixed part
 abbrev looksWithin : ℕ → Rule → Bool
@@ -286,92 +284,91 @@ module _ (body : List ℕ) where
   filled fixed (one e r) l = refl
 
 -- the field that states the size of a part, behind the fields before it
-module _ (digits-states : (n value : ℕ) → n ≤ 19 → fits n value ≡ true → number Ascii (digits n value) ≡ value) where
-  module _ (v : Values) (addenda : ℕ) (s : Standing) (rest : List ℕ) where
-    stated-here : (l : Line) (ls : List Line) (ps : List Piece) (first size : ℕ) → 1 ≤ l .number
-        → eqb (codeOf (l .origin)) 2 && (eqb (l .first) first && (eqb (l .size) size && leb size 19)) ≡ true → firstUnfit v addenda (l ∷ ls) ps ≡ 0
-        → number Ascii (take size (fixedPart v addenda s (l ∷ ls) ps ++ rest)) ≡ ownStatement v addenda first PartSize
-    unfolding fixedPart firstUnfit
-    stated-here l ls ps first size n e u =
-        let o = both-true (eqb (codeOf (l .origin)) 2) _ e in
-        let f = both-true (eqb (l .first) first) _ (o .1) in
-        let z = both-true (eqb (l .size) size) (leb size 19) (f .1) in
-        let origin = is-origin (l .origin) 2 (o .0) in
-        let starts = eqb-true (l .first) first (f .0) in
-        let long = eqb-true (l .size) size (z .0) in
-        let states = ownStatement v addenda first PartSize in
-        let fit = right-line (fits size states) (l .number) (firstUnfit v addenda ls ps) n (rw (origin, starts, long) at u) in
-        rw (origin, starts, long, append-assoc)
-        (ap (number Ascii) (take-at (digits size states) (fixedPart v addenda s ls ps ++ rest) size (digits-long size states))
-        ∙ digits-states size states (leb-true size 19 (z .1)) (fit .0))
+module _ (v : Values) (addenda : ℕ) (s : Standing) (rest : List ℕ) where
+  stated-here : (l : Line) (ls : List Line) (ps : List Piece) (first size : ℕ) → 1 ≤ l .number
+      → eqb (codeOf (l .origin)) 2 && (eqb (l .first) first && (eqb (l .size) size && leb size 19)) ≡ true → firstUnfit v addenda (l ∷ ls) ps ≡ 0
+      → number Ascii (take size (fixedPart v addenda s (l ∷ ls) ps ++ rest)) ≡ ownStatement v addenda first PartSize
+  unfolding fixedPart firstUnfit
+  stated-here l ls ps first size n e u =
+      let o = both-true (eqb (codeOf (l .origin)) 2) _ e in
+      let f = both-true (eqb (l .first) first) _ (o .1) in
+      let z = both-true (eqb (l .size) size) (leb size 19) (f .1) in
+      let origin = is-origin (l .origin) 2 (o .0) in
+      let starts = eqb-true (l .first) first (f .0) in
+      let long = eqb-true (l .size) size (z .0) in
+      let states = ownStatement v addenda first PartSize in
+      let fit = right-line (fits size states) (l .number) (firstUnfit v addenda ls ps) n (rw (origin, starts, long) at u) in
+      rw (origin, starts, long, append-assoc)
+      (ap (number Ascii) (take-at (digits size states) (fixedPart v addenda s ls ps ++ rest) size (digits-long size states))
+      ∙ digits-states size states (leb-true size 19 (z .1)) (fit .0))
 
-    stated-at : (ls : List Line) (ps : List Piece) (past first size : ℕ) → map sizeOf ps ≡ givenSizes ls → firstUnfit v addenda ls ps ≡ 0
-        → statesAt past first size ls ≡ true → number Ascii (part past size (fixedPart v addenda s ls ps ++ rest)) ≡ ownStatement v addenda first PartSize
-    stated-at [] ps past first size g u e = let z : _≡_ {A = ℕ} 0 1 = cc in absurd (omega arith)
-    stated-at (l ∷ ls) ps past first size g u e =
-        let both = both-true (leb 1 (l .number)) _ e in
-        let n = leb-true 1 (l .number) (both .0) in
-        let f = front v addenda s l ls ps g in
-        by (eqb past 0) refl n (both .1) (stated-at ls (f .others) (past - l .size) first size (f .shape) (f .fit n u))
-      where
-        by : (c : Bool) → eqb past 0 ≡ c → 1 ≤ l .number
-            → cond c (eqb (codeOf (l .origin)) 2 && (eqb (l .first) first && (eqb (l .size) size && leb size 19)))
-            (leb (l .size) past && statesAt (past - l .size) first size ls) ≡ true
-            → (statesAt (past - l .size) first size ls ≡ true
-            → number Ascii (part (past - l .size) size (fixedPart v addenda s ls (front v addenda s l ls ps g .others) ++ rest)) ≡ ownStatement v addenda first PartSize)
-            → number Ascii (part past size (fixedPart v addenda s (l ∷ ls) ps ++ rest)) ≡ ownStatement v addenda first PartSize
-        by true q n e later = rw (eqb-true past 0 q) (stated-here l ls ps first size n e u)
-        by false q n e later =
-            let f = front v addenda s l ls ps g in
-            let both = both-true (leb (l .size) past) (statesAt (past - l .size) first size ls) e in
-            let passes = leb-true (l .size) past (both .0) in
-            let place : past ≡ length (f .own) + (past - l .size) = omega (arith, f .long) in
-            let others = fixedPart v addenda s ls (f .others) ++ rest in
-            let moves : drop past (fixedPart v addenda s (l ∷ ls) ps ++ rest) ≡ drop (past - l .size) others =
-            ap₂ (λ (k : ℕ) (xs : List ℕ). drop k xs) place (ap (λ (xs : List ℕ). xs ++ rest) (f .is) ∙ append-assoc (f .own) (fixedPart v addenda s ls (f .others)) rest)
-            ∙ drop-append-add (f .own) others (past - l .size) in
-            ap (λ (xs : List ℕ). number Ascii (take size xs)) moves ∙ later (both .1)
+  stated-at : (ls : List Line) (ps : List Piece) (past first size : ℕ) → map sizeOf ps ≡ givenSizes ls → firstUnfit v addenda ls ps ≡ 0
+      → statesAt past first size ls ≡ true → number Ascii (part past size (fixedPart v addenda s ls ps ++ rest)) ≡ ownStatement v addenda first PartSize
+  stated-at [] ps past first size g u e = let z : _≡_ {A = ℕ} 0 1 = cc in absurd (omega arith)
+  stated-at (l ∷ ls) ps past first size g u e =
+      let both = both-true (leb 1 (l .number)) _ e in
+      let n = leb-true 1 (l .number) (both .0) in
+      let f = front v addenda s l ls ps g in
+      by (eqb past 0) refl n (both .1) (stated-at ls (f .others) (past - l .size) first size (f .shape) (f .fit n u))
+    where
+      by : (c : Bool) → eqb past 0 ≡ c → 1 ≤ l .number
+          → cond c (eqb (codeOf (l .origin)) 2 && (eqb (l .first) first && (eqb (l .size) size && leb size 19)))
+          (leb (l .size) past && statesAt (past - l .size) first size ls) ≡ true
+          → (statesAt (past - l .size) first size ls ≡ true
+          → number Ascii (part (past - l .size) size (fixedPart v addenda s ls (front v addenda s l ls ps g .others) ++ rest)) ≡ ownStatement v addenda first PartSize)
+          → number Ascii (part past size (fixedPart v addenda s (l ∷ ls) ps ++ rest)) ≡ ownStatement v addenda first PartSize
+      by true q n e later = rw (eqb-true past 0 q) (stated-here l ls ps first size n e u)
+      by false q n e later =
+          let f = front v addenda s l ls ps g in
+          let both = both-true (leb (l .size) past) (statesAt (past - l .size) first size ls) e in
+          let passes = leb-true (l .size) past (both .0) in
+          let place : past ≡ length (f .own) + (past - l .size) = omega (arith, f .long) in
+          let others = fixedPart v addenda s ls (f .others) ++ rest in
+          let moves : drop past (fixedPart v addenda s (l ∷ ls) ps ++ rest) ≡ drop (past - l .size) others =
+          ap₂ (λ (k : ℕ) (xs : List ℕ). drop k xs) place (ap (λ (xs : List ℕ). xs ++ rest) (f .is) ∙ append-assoc (f .own) (fixedPart v addenda s ls (f .others)) rest)
+          ∙ drop-append-add (f .own) others (past - l .size) in
+          ap (λ (xs : List ℕ). number Ascii (take size xs)) moves ∙ later (both .1)
 
-  module _ (v : Values) (addenda : ℕ) (s : Standing) (shaped : Shaped v) (fit : firstUnfit v addenda (layoutOf (v .type) .lines) (v .fields) ≡ 0) where
-    all-stated : (ss : List Sized) → allStated (layoutOf (v .type) .lines) ss ≡ true
-        → StatedBy (completed v addenda s) (λ first. partSizedAt first (sizedParts (layoutOf (v .type))) (v .parts)) ss
-    unfolding completed
-    all-stated [] e = tt
-    all-stated (x ∷ xs) e =
-        let both = both-true (statesAt (x .first - 1) (x .first) (x .size) (layoutOf (v .type) .lines)) (allStated (layoutOf (v .type) .lines) xs) e in (
-          stated-at v addenda (cappedFigures s) (allParts (v .parts)) (layoutOf (v .type) .lines) (v .fields) (x .first - 1) (x .first) (x .size) (shaped .fields) fit
-              (both .0),
-          all-stated xs (both .1),
-        )
-
-    completed-states : Stating (completed v addenda s) (sizedParts (layoutOf (v .type))) (v .parts)
-    completed-states =
-        stating (completed v addenda s) (sizedParts (layoutOf (v .type))) (v .parts) (shaped .parts) (every-layout (λ k. allApart (sizedParts k)) (v .type) refl)
-        (all-stated (sizedParts (layoutOf (v .type))) (every-layout (λ k. allStated (k .lines) (sizedParts k)) (v .type) refl))
-
-    parts-behind : drop (layoutOf (v .type) .fixedLength) (completed v addenda s) ≡ allParts (v .parts)
-    unfolding completed
-    parts-behind =
-        drop-at (fixedPart v addenda (cappedFigures s) (layoutOf (v .type) .lines) (v .fields)) (allParts (v .parts)) (layoutOf (v .type) .fixedLength)
-        (fixed-long v addenda (cappedFigures s) shaped)
-
-  pub completed-judged : (v : Values) (addenda : ℕ) (s : Standing) → Shaped v → isCarried (v .type) ≡ true
-      → firstUnfit v addenda (layoutOf (v .type) .lines) (v .fields) ≡ 0 → everyHere (v .parts) ≡ true
-      → judgedAs Ascii (v .type) (completed v addenda s)
-      ≡ unlessField (fieldFault v addenda s) (unlessField (firstUnfitPart (sizedParts (layoutOf (v .type))) (v .parts)) Sound)
-  unfolding judged fieldFault
-  completed-judged v addenda s shaped c fit h =
-      let k = layoutOf (v .type) in
-      let body = completed v addenda s in
-      let states = completed-states v addenda s shaped fit in
-      let long = completed-long v addenda s shaped in
-      let sizes = sizes-stated body states in
-      judged-carried Ascii (v .type) body c
-      ∙ rw (
-        le-leb (k .fixedLength) (length body) (omega arith),
-        filled body (k .fixedLength) states long,
-        eq-eqb (length body) (k .fixedLength + statedSizes Ascii (sizedParts k) body) (omega arith),
-        parts-behind v addenda s shaped fit,
-        parts-judged body states h,
-        fit,
+module _ (v : Values) (addenda : ℕ) (s : Standing) (shaped : Shaped v) (fit : firstUnfit v addenda (layoutOf (v .type) .lines) (v .fields) ≡ 0) where
+  all-stated : (ss : List Sized) → allStated (layoutOf (v .type) .lines) ss ≡ true
+      → StatedBy (completed v addenda s) (λ first. partSizedAt first (sizedParts (layoutOf (v .type))) (v .parts)) ss
+  unfolding completed
+  all-stated [] e = tt
+  all-stated (x ∷ xs) e =
+      let both = both-true (statesAt (x .first - 1) (x .first) (x .size) (layoutOf (v .type) .lines)) (allStated (layoutOf (v .type) .lines) xs) e in (
+        stated-at v addenda (cappedFigures s) (allParts (v .parts)) (layoutOf (v .type) .lines) (v .fields) (x .first - 1) (x .first) (x .size) (shaped .fields) fit
+            (both .0),
+        all-stated xs (both .1),
       )
+
+  completed-states : Stating (completed v addenda s) (sizedParts (layoutOf (v .type))) (v .parts)
+  completed-states =
+      stating (completed v addenda s) (sizedParts (layoutOf (v .type))) (v .parts) (shaped .parts) (every-layout (λ k. allApart (sizedParts k)) (v .type) refl)
+      (all-stated (sizedParts (layoutOf (v .type))) (every-layout (λ k. allStated (k .lines) (sizedParts k)) (v .type) refl))
+
+  parts-behind : drop (layoutOf (v .type) .fixedLength) (completed v addenda s) ≡ allParts (v .parts)
+  unfolding completed
+  parts-behind =
+      drop-at (fixedPart v addenda (cappedFigures s) (layoutOf (v .type) .lines) (v .fields)) (allParts (v .parts)) (layoutOf (v .type) .fixedLength)
+      (fixed-long v addenda (cappedFigures s) shaped)
+
+pub completed-judged : (v : Values) (addenda : ℕ) (s : Standing) → Shaped v → isCarried (v .type) ≡ true
+    → firstUnfit v addenda (layoutOf (v .type) .lines) (v .fields) ≡ 0 → everyHere (v .parts) ≡ true
+    → judgedAs Ascii (v .type) (completed v addenda s)
+    ≡ unlessField (fieldFault v addenda s) (unlessField (firstUnfitPart (sizedParts (layoutOf (v .type))) (v .parts)) Sound)
+unfolding judged fieldFault
+completed-judged v addenda s shaped c fit h =
+    let k = layoutOf (v .type) in
+    let body = completed v addenda s in
+    let states = completed-states v addenda s shaped fit in
+    let long = completed-long v addenda s shaped in
+    let sizes = sizes-stated body states in
+    judged-carried Ascii (v .type) body c
+    ∙ rw (
+      le-leb (k .fixedLength) (length body) (omega arith),
+      filled body (k .fixedLength) states long,
+      eq-eqb (length body) (k .fixedLength + statedSizes Ascii (sizedParts k) body) (omega arith),
+      parts-behind v addenda s shaped fit,
+      parts-judged body states h,
+      fit,
+    )

@@ -12,6 +12,7 @@ use Rattle.text.specs.declared.character_set.CharacterSet.{CharacterSet}
 use Rattle.text.specs.declared.character_set.CharacterSet.the-variants.{Ascii, Ebcdic}
 use Rattle.text.specs.declared.data_types.DataType.{DataType}
 use Rattle.decimal.specs.Digits.{digits, fits}
+use Rattle.decimal.proofs.Laws.{digits-long}
 use Rattle.copying.specs.Times.{times}
 use Rattle.frame.specs.Frames.{part}
 use Rattle.layout.specs.Layout.{Line, Sized, sizedParts}
@@ -114,11 +115,6 @@ pub parts-long : (ps : List Piece) → length (allParts ps) ≡ allSizes ps
 unfolding allParts allSizes
 parts-long [] = refl
 parts-long (p ∷ ps) = length-append (charactersOf p) (allParts ps) ∙ ap₂ _+_ (piece-long p) (parts-long ps)
-
-pub digits-long : (n value : ℕ) → length (digits n value) ≡ n
-unfolding digits
-digits-long zero value = refl
-digits-long (suc n) value = length-append (digits n (value / 10)) _ ∙ ap (λ (k : ℕ). k + 1) (digits-long n (value / 10)) ∙ omega arith
 
 -- a field that is not the first at fault
 pub right-line : (t : Bool) (n others : ℕ) → 1 ≤ n → cond t others n ≡ 0 → (t ≡ true) × (others ≡ 0)
