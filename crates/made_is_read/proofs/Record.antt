@@ -10,7 +10,6 @@ use lib.Seq.{take-all, take-append-seam, drop-append-seam}
 use borrow.Author.Tests.{le-leb, ltb-true, not-true}
 use Rattle.text.specs.declared.character_set.CharacterSet.the-variants.{Ascii}
 use Rattle.decimal.specs.Digits.{digits, fits}
-use Rattle.decimal.proofs.Laws.{digits-numeric, digits-states}
 use Rattle.frame.specs.Unless.{unless}
 use Rattle.layout.specs.Layout.{Layout, sizedParts}
 use Rattle.layout.specs.Layouts.{layouts}
@@ -107,7 +106,7 @@ fit-type v addenda e = by (isCarried (v .type)) refl
 
 two-long : (v : Values) (addenda : ℕ) (s : Standing) → 2 ≤ length (completed v addenda s)
 unfolding digits
-two-long v addenda s = omega (arith, ap length (completed-front digits-numeric digits-states v addenda s), length-take 2 (completed v addenda s))
+two-long v addenda s = omega (arith, ap length (completed-front v addenda s), length-take 2 (completed v addenda s))
 
 module _ (v : Values) (vs : List Values) (file : List ℕ) (past : List Entry) (shape : Shaped v)
     (fit : firstUnfit v (addendaBehind (v .type) vs) (layoutOf (v .type) .lines) (v .fields) ≡ 0) (here : everyHere (v .parts) ≡ true) where
@@ -151,7 +150,7 @@ module _ (v : Values) (vs : List Values) (file : List ℕ) (past : List Entry) (
       (ofTurn n (unless (isCarried t) (Faulty UnknownType) (unless b (Faulty Place) (unlessAlone (judgedAs Ascii t body) turn)))))
   by-place true b =
       let c = follows-carried (s .inside) (s .last) (s .present) t b in
-      rw (nothing-after (s .inside) (s .last) (s .present) t b, c, completed-judged digits-states v addenda s shape c fit here)
+      rw (nothing-after (s .inside) (s .last) (s .present) t b, c, completed-judged v addenda s shape c fit here)
       (alone t n field other turn (eqb field 0) (eqb other 0) turn-agreed)
   by-place false b = unplaced t n (eqb (s .last) 99) (isCarried t)
 
@@ -160,7 +159,7 @@ module _ (v : Values) (vs : List Values) (file : List ℕ) (past : List Entry) (
       (cond (eqb (s .last) 99) (Stop After) (ofTurn n (turnOf Ascii longer s (length file) body)))
   unfolding turnOfRow turnOf
   turn-likewise =
-      rw (le-leb 2 (length body) (two-long v addenda s), completed-type digits-numeric digits-states v addenda s (fit-type v addenda fit))
+      rw (le-leb 2 (length body) (two-long v addenda s), completed-type v addenda s (fit-type v addenda fit))
       (by-place (mayFollow (s .inside) (s .last) (s .present) t) refl)
 
   -- and in a longer one that is read to there

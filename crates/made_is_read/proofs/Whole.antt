@@ -10,7 +10,6 @@ use borrow.Author.Tests.{le-leb, ne-eqb, eqb-true, eq-eqb}
 use Rattle.text.specs.CharacterSet.{setOf}
 use Rattle.text.specs.declared.character_set.CharacterSet.the-variants.{Ascii}
 use Rattle.decimal.specs.Digits.{digits}
-use Rattle.decimal.proofs.Laws.{digits-numeric, digits-states}
 use Rattle.frame.specs.Unless.{unless}
 use Rattle.layout.specs.Layout.{sizedParts}
 use Rattle.order.specs.MayFollow.{mayFollow}
@@ -149,7 +148,7 @@ made-ascii (v ∷ vs) h =
     ascii-set (made (v ∷ vs)) (0x30 + v .type / 10 % 10)
     (ap (λ (f : List ℕ). getD f 4 0) (more .is)
     ∙ ap (λ (f : List ℕ). getD f 0 0) (append-assoc body [] (more .rest))
-    ∙ first-of body (more .rest) (completed-front digits-numeric digits-states v (addendaBehind (v .type) vs) (standing Ascii [] [])))
+    ∙ first-of body (more .rest) (completed-front v (addendaBehind (v .type) vs) (standing Ascii [] [])))
     (omega arith)
 
 -- the writer's answer is the reader's
