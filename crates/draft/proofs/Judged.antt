@@ -92,7 +92,7 @@ module _ (v : Values) (addenda : ℕ) (s : Standing) where
       (take-at (digits 2 (v .type)) (fixedPart v addenda s ls ps ++ rest) 2 (digits-long 2 (v .type)))
 
 module _ (v : Values) (addenda : ℕ) (s : Standing) where
-  completed-front : take 2 (completed v addenda s) ≡ digits 2 (v .type)
+  pub completed-front : take 2 (completed v addenda s) ≡ digits 2 (v .type)
   unfolding completed
   completed-front =
       type-first v addenda (cappedFigures s) (layoutOf (v .type) .lines) (v .fields) (allParts (v .parts)) (every-layout (λ k. typeFirst (k .lines)) (v .type) refl)
