@@ -7,7 +7,7 @@ use native.Mathlib.Nat.{not-suc-le-zero, add-zero, sub-eq-zero-of-le, mul-assoc,
 use native.Mathlib.Omega.{arith}
 use borrow.Author.Tests.{leb-true, le-leb, ltb-true, ltb-false, lt-ltb, le-ltb, eq-eqb, ne-eqb}
 use lib.Dec.{leb, ltb, eqb}
-use lib.ListN.{length, take, set, length-append}
+use lib.ListN.{length, set, length-append}
 use lib.Seq.{sets, set-comm, take-all}
 use Rattle.text.specs.declared.character_set.CharacterSet.the-variants.{Ascii}
 use Rattle.text.specs.Characters.{isNumeric}
