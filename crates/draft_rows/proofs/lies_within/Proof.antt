@@ -8,13 +8,13 @@ use Rattle.draft_rows.proofs.lies_within.Tie as tie
 use Rattle.draft_rows.proofs.Rows.{lies}
 
 returns : tie.Need-returns
-returns c = rw (eq-eqb _ _ (c .if1 .taken))
+returns c = rw (eq-eqb (c .before .args .size) 0 (search needs))
 
 returns-2 : tie.Need-returns-2
-returns-2 c = simp (ne-eqb _ _ (c .before .if1 .left), lt-leb (c .before .before .args .start + c .before .before .args .place + c .before .before .args .size) (length (now (c .before .before .args .text))) (search needs))
+returns-2 c = simp (ne-eqb (c .before .before .args .size) 0 (search needs), lt-leb (c .before .before .args .start + c .before .before .args .place + c .before .before .args .size) (length (now (c .before .before .args .text))) (search needs))
 
 returns-3 : tie.Need-returns-3
-returns-3 c = simp (ne-eqb _ _ (c .before .before .if1 .left), lt-leb (c .before .before .before .args .start + c .before .before .before .args .place + c .before .before .before .args .size) (length (now (c .before .before .before .args .text))) (search needs))
+returns-3 c = simp (ne-eqb (c .before .before .before .args .size) 0 (search needs), lt-leb (c .before .before .before .args .start + c .before .before .before .args .place + c .before .before .before .args .size) (length (now (c .before .before .before .args .text))) (search needs))
 
 sub-result : tie.Need-sub-result
 sub-result c = search needs
