@@ -1,1 +1,3 @@
 pub mod Addenda
+pub mod Lines
+pub mod Stated
