@@ -1,3 +1,4 @@
 pub mod Addenda
 pub mod Lines
 pub mod Stated
+pub mod Itself
