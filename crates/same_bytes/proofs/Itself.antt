@@ -12,12 +12,11 @@ use Rattle.text.specs.declared.character_set.CharacterSet.the-variants.{Ascii}
 use Rattle.text.specs.Characters.{isNumeric}
 use Rattle.text.specs.DataTypes.{every}
 use Rattle.text.specs.Number.{number}
-use Rattle.decimal.specs.Digits.{digits, fits}
 use Rattle.frame.specs.Frames.{part}
 use Rattle.layout.specs.Layout.{Line, Layout, sizedParts}
 use Rattle.layout.specs.Layouts.{layouts}
 use Rattle.layout.specs.Laid.{endToEnd}
-use Rattle.judge.specs.declared.Judged.the-variants.{Sound}
+use Rattle.judge.specs.declared.Judged.the-variants.{Sound, UnknownType}
 use Rattle.judge.specs.Alone.{firstWrong, firstWrongPart, isVariable, statedSizes, judged, alone, typeOf, amongLayouts, judgedAs}
 use Rattle.judge.proofs.Laws.{both-true, kept, length-not-sound, field-not-sound}
 use Rattle.order.specs.MayFollow.{isOneOf, carried, isCarried}
@@ -32,11 +31,14 @@ use Rattle.same_bytes.proofs.Addenda.{check-states, return-states}
 use Rattle.same_bytes.proofs.Lines.{Said, worked, numbered, lines-again, parts-again}
 use Rattle.same_bytes.proofs.Stated.{valuesAs, Told, all-lines}
 
+unknown-not-sound : UnknownType ≡ Sound → ⊥
+unknown-not-sound e = let z : _≡_ {A = ℕ} 0 1 = cc in omega arith
+
 -- what holds of each kind holds of the kind that a sound record is of
 module _ (P : ℕ → Layout → Type 0) (t : ℕ) (b : Body) where
   among : (ks : List Layout) → All (λ (k : Layout). P (k .typeNumber) k) ks → amongLayouts Ascii ks t b ≡ Sound
       → P t (layoutAmong ks t) × (alone Ascii (layoutAmong ks t) b ≡ Sound)
-  among [] all sound = ?
+  among [] all sound = absurd (unknown-not-sound sound)
   among (k ∷ ks) all sound = by (eqb t (k .typeNumber)) refl sound (among ks (all .1))
     where
       by : (c : Bool) → eqb t (k .typeNumber) ≡ c → cond c (alone Ascii k b) (amongLayouts Ascii ks t b) ≡ Sound
@@ -94,37 +96,35 @@ record ItselfAs (t : ℕ) (past : List Body) (b : Body) (addenda : ℕ) : Type 0
   fields : firstWrong Ascii (layoutOf t .lines) b ≡ 0
   parts : firstUnfitPart (sizedParts (layoutOf t)) (valuesAs t b .parts) ≡ 0
 
-module _ (digits-again : (xs : List ℕ) → length xs ≤ 19 → every (isNumeric Ascii) xs ≡ true → digits (length xs) (number Ascii xs) ≡ xs)
-    (number-fits : (xs : List ℕ) → length xs ≤ 19 → fits (length xs) (number Ascii xs) ≡ true) where
-  module _ (t : ℕ) (past : List Body) (b : Body) (addenda : ℕ) (sound : judgedAs Ascii t b ≡ Sound) (told : Told t past b addenda) where
-    own-kind : laid (layoutOf t) ≡ true
-    unfolding judgedAs layoutOf
-    own-kind = among (λ n k. laid k ≡ true) t b layouts (each-laid layouts refl) sound .0
+module _ (t : ℕ) (past : List Body) (b : Body) (addenda : ℕ) (sound : judgedAs Ascii t b ≡ Sound) (told : Told t past b addenda) where
+  own-kind : laid (layoutOf t) ≡ true
+  unfolding judgedAs layoutOf
+  own-kind = among (λ n k. laid k ≡ true) t b layouts (each-laid layouts refl) sound .0
 
-    own-right : Right (layoutOf t) b
-    unfolding judgedAs layoutOf
-    own-right = right (layoutAmong layouts t) b (among (λ n k. laid k ≡ true) t b layouts (each-laid layouts refl) sound .1)
+  own-right : Right (layoutOf t) b
+  unfolding judgedAs layoutOf
+  own-right = right (layoutAmong layouts t) b (among (λ n k. laid k ≡ true) t b layouts (each-laid layouts refl) sound .1)
 
-    own-lines : All (Said (valuesAs t b) addenda (cappedFigures (over Ascii past)) b) (worked (layoutOf t .lines))
-    unfolding judgedAs layoutOf
-    own-lines =
-        among (λ n k. Told n past b addenda → All (Said (valuesAs n b) addenda (cappedFigures (over Ascii past)) b) (worked (k .lines))) t b layouts
-        (all-lines digits-again number-fits past b addenda) sound .0 told
+  own-lines : All (Said (valuesAs t b) addenda (cappedFigures (over Ascii past)) b) (worked (layoutOf t .lines))
+  unfolding judgedAs layoutOf
+  own-lines =
+      among (λ n k. Told n past b addenda → All (Said (valuesAs n b) addenda (cappedFigures (over Ascii past)) b) (worked (k .lines))) t b layouts
+      (all-lines past b addenda) sound .0 told
 
-    itself-as : ItselfAs t past b addenda
-    unfolding completed
-    itself-as =
-        let k = layoutOf t in
-        let r = own-right in
-        let tests = both-true (endToEnd 1 1 (k .fixedLength) (k .lines)) (numbered (sizedParts k)) own-kind in
-        let lines =
-        lines-again (valuesAs t b) addenda (cappedFigures (over Ascii past)) b (k .lines) 1 1 (k .fixedLength) (omega arith) (omega arith) (r .long)
-        (tests .0) (r .fields) own-lines in
-        let parts = parts-again b (sizedParts k) (0 + k .fixedLength) (omega (arith, r .fills)) (tests .1) (rw (zero-add (k .fixedLength)) (r .parts)) in
-        let width : k .fixedLength + 1 - 1 ≡ k .fixedLength = omega arith in
-        record {
-          same = ap₂ _++_ (lines .same) (parts .same) ∙ rw (width, zero-add (k .fixedLength)) (take-append-drop (k .fixedLength) b);
-          fit = lines .fit;
-          fields = r .fields;
-          parts = parts .fit;
-        }
+  itself-as : ItselfAs t past b addenda
+  unfolding completed
+  itself-as =
+      let k = layoutOf t in
+      let r = own-right in
+      let tests = both-true (endToEnd 1 1 (k .fixedLength) (k .lines)) (numbered (sizedParts k)) own-kind in
+      let lines =
+      lines-again (valuesAs t b) addenda (cappedFigures (over Ascii past)) b (k .lines) 1 1 (k .fixedLength) (omega arith) (omega arith) (r .long)
+      (tests .0) (r .fields) own-lines in
+      let parts = parts-again b (sizedParts k) (0 + k .fixedLength) (omega (arith, r .fills)) (tests .1) (rw (zero-add (k .fixedLength)) (r .parts)) in
+      let width : k .fixedLength + 1 - 1 ≡ k .fixedLength = omega arith in
+      record {
+        same = ap₂ _++_ (lines .same) (parts .same) ∙ rw (width, zero-add (k .fixedLength)) (take-append-drop (k .fixedLength) b);
+        fit = lines .fit;
+        fields = r .fields;
+        parts = parts .fit;
+      }

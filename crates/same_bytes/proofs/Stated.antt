@@ -15,6 +15,7 @@ use Rattle.text.specs.DataTypes.{every, some, isMark, ofType}
 use Rattle.text.specs.Number.{number}
 use Rattle.text.proofs.Laws.{number-below}
 use Rattle.decimal.specs.Digits.{digits, tenTo, fits}
+use Rattle.decimal.proofs.Laws.{digits-again, number-fits}
 use Rattle.copying.specs.Times.{times}
 use Rattle.field.specs.declared.Usage.the-variants.{Mandatory, Conditional}
 use Rattle.field.specs.declared.Rule.{Rule}
@@ -102,176 +103,174 @@ not-stopped b start size n h e =
     capped-below n
     (omega (arith, e, leb-true size 16 h, number-below Ascii (part start size b) 16 (omega (arith, leb-true size 16 h, length-take size (drop start b)))))
 
-module _ (digits-again : (xs : List ℕ) → length xs ≤ 19 → every (isNumeric Ascii) xs ≡ true → digits (length xs) (number Ascii xs) ≡ xs)
-    (number-fits : (xs : List ℕ) → length xs ≤ 19 → fits (length xs) (number Ascii xs) ≡ true) where
-  digits-stated : (xs : List ℕ) (size n : ℕ) → leb size 19 ≡ true → length xs ≡ size → every (isNumeric Ascii) xs ≡ true → number Ascii xs ≡ n
-      → digits size n ≡ xs
-  digits-stated xs size n h long numeric e = rw (← long, ← e) (digits-again xs (omega (arith, long, leb-true size 19 h)) numeric)
+digits-stated : (xs : List ℕ) (size n : ℕ) → leb size 19 ≡ true → length xs ≡ size → every (isNumeric Ascii) xs ≡ true → number Ascii xs ≡ n
+    → digits size n ≡ xs
+digits-stated xs size n h long numeric e = rw (← long, ← e) (digits-again xs (omega (arith, long, leb-true size 19 h)) numeric)
 
-  fits-stated : (xs : List ℕ) (size n : ℕ) → leb size 19 ≡ true → length xs ≡ size → number Ascii xs ≡ n → fits size n ≡ true
-  fits-stated xs size n h long e = rw (← long, ← e) (number-fits xs (omega (arith, long, leb-true size 19 h)))
+fits-stated : (xs : List ℕ) (size n : ℕ) → leb size 19 ≡ true → length xs ≡ size → number Ascii xs ≡ n → fits size n ≡ true
+fits-stated xs size n h long e = rw (← long, ← e) (number-fits xs (omega (arith, long, leb-true size 19 h)))
 
-  module _ (t : ℕ) (past : List Body) (b : Body) (addenda : ℕ) where
-    abbrev Here : Line → Type 0
-    Here l = Said (valuesAs t b) addenda (cappedFigures (over Ascii past)) b l
+module _ (t : ℕ) (past : List Body) (b : Body) (addenda : ℕ) where
+  abbrev Here : Line → Type 0
+  Here l = Said (valuesAs t b) addenda (cappedFigures (over Ascii past)) b l
 
-    -- a numeric field that states what is worked out
-    module _ (n : ℕ) (o : Origin) (first last size : ℕ) (r : Rule) (h : leb size 19 ≡ true) (plain : leavesBlank (valuesAs t b) o ≡ false)
-        (e : number Ascii (part (first - 1) size b) ≡ statement (valuesAs t b) addenda (cappedFigures (over Ascii past)) first o) where
-      digits-line : lineHolds Ascii (line n M o first last size N r) b ≡ true → length (part (first - 1) size b) ≡ size
-          → cond (leavesBlank (valuesAs t b) o) (times size 0x20)
-          (digits size (statement (valuesAs t b) addenda (cappedFigures (over Ascii past)) first o))
-          ≡ part (first - 1) size b
-      unfolding lineHolds
-      digits-line holds long = rw plain (digits-stated (part (first - 1) size b) size _ h long (holds-digits r (part (first - 1) size b) b holds) e)
+  -- a numeric field that states what is worked out
+  module _ (n : ℕ) (o : Origin) (first last size : ℕ) (r : Rule) (h : leb size 19 ≡ true) (plain : leavesBlank (valuesAs t b) o ≡ false)
+      (e : number Ascii (part (first - 1) size b) ≡ statement (valuesAs t b) addenda (cappedFigures (over Ascii past)) first o) where
+    digits-line : lineHolds Ascii (line n M o first last size N r) b ≡ true → length (part (first - 1) size b) ≡ size
+        → cond (leavesBlank (valuesAs t b) o) (times size 0x20)
+        (digits size (statement (valuesAs t b) addenda (cappedFigures (over Ascii past)) first o))
+        ≡ part (first - 1) size b
+    unfolding lineHolds
+    digits-line holds long = rw plain (digits-stated (part (first - 1) size b) size _ h long (holds-digits r (part (first - 1) size b) b holds) e)
 
-      -- from its own record, or from those before it
-      own-line : statement (valuesAs t b) addenda (cappedFigures (over Ascii past)) first o ≡ ownStatement (valuesAs t b) addenda first o
-          → Here (line n M o first last size N r)
-      own-line same =
-          record {
-            again = digits-line;
-            fit = λ long. fits-stated (part (first - 1) size b) size _ h long (e ∙ same);
-          }
+    -- from its own record, or from those before it
+    own-line : statement (valuesAs t b) addenda (cappedFigures (over Ascii past)) first o ≡ ownStatement (valuesAs t b) addenda first o
+        → Here (line n M o first last size N r)
+    own-line same =
+        record {
+          again = digits-line;
+          fit = λ long. fits-stated (part (first - 1) size b) size _ h long (e ∙ same);
+        }
 
-      sum-line : ownStatement (valuesAs t b) addenda first o ≡ 0 → Here (line n M o first last size N r)
-      sum-line none = record { again = digits-line; fit = λ long. rw none (fits-none size) }
+    sum-line : ownStatement (valuesAs t b) addenda first o ≡ 0 → Here (line n M o first last size N r)
+    sum-line none = record { again = digits-line; fit = λ long. rw none (fits-none size) }
 
-    type-line : (r : Rule) → Told t past b addenda → Here (line 1 M TypeNumber 1 2 2 N r)
-    type-line r told = own-line 1 TypeNumber 1 2 2 r refl refl (told .type) refl
+  type-line : (r : Rule) → Told t past b addenda → Here (line 1 M TypeNumber 1 2 2 N r)
+  type-line r told = own-line 1 TypeNumber 1 2 2 r refl refl (told .type) refl
 
-    part-line : (n first last size : ℕ) (r : Rule) → leb size 19 ≡ true
-        → number Ascii (part (first - 1) size b) ≡ sizeStatedAt b first (sizedParts (layoutOf t)) → Here (line n M PartSize first last size N r)
-    part-line n first last size r h e =
-        own-line n PartSize first last size r h refl
-        (e ∙ sym (sized-at b first (0 + layoutOf t .fixedLength) (sizedParts (layoutOf t)))) refl
+  part-line : (n first last size : ℕ) (r : Rule) → leb size 19 ≡ true
+      → number Ascii (part (first - 1) size b) ≡ sizeStatedAt b first (sizedParts (layoutOf t)) → Here (line n M PartSize first last size N r)
+  part-line n first last size r h e =
+      own-line n PartSize first last size r h refl
+      (e ∙ sym (sized-at b first (0 + layoutOf t .fixedLength) (sizedParts (layoutOf t)))) refl
 
-  -- the total that may be blank
-  micr-line : (past : List Body) (b : Body) (addenda : ℕ)
-      → (every (isBlank Ascii) (fieldOf bundleControl 4 b) ≡ true) ⊎ (number Ascii (fieldOf bundleControl 4 b) ≡ micrIn Ascii past)
-      → Here 70 past b addenda (line 4 C MicrCents 19 30 12 NB AllDigits)
-  unfolding lineHolds
-  micr-line past b addenda valid =
-      record {
-        again = λ holds long. by (every (isBlank Ascii) (part 18 12 b)) refl valid holds long;
-        fit = λ long. fits-none 12;
-      }
-    where
-      by : (blank : Bool) → every (isBlank Ascii) (part 18 12 b) ≡ blank → (blank ≡ true) ⊎ (number Ascii (part 18 12 b) ≡ micrIn Ascii past)
-          → holds Ascii Conditional NB AllDigits (part 18 12 b) b ≡ true → length (part 18 12 b) ≡ 12
-          → cond blank (times 12 0x20) (digits 12 (cappedFigures (over Ascii past) .micr .0)) ≡ part 18 12 b
-      by true e valid holds long = ap (λ (n : ℕ). times n 0x20) (sym long) ∙ blanks-again (part 18 12 b) e
-      by false e (inl z) holds long = cc
-      by false e (inr states) holds long =
-          let whole = not-stopped b 18 12 (micrIn Ascii past) refl states in
-          digits-stated (part 18 12 b) 12 _ refl long (holds-total (part 18 12 b) b e holds) (cc)
+-- the total that may be blank
+micr-line : (past : List Body) (b : Body) (addenda : ℕ)
+    → (every (isBlank Ascii) (fieldOf bundleControl 4 b) ≡ true) ⊎ (number Ascii (fieldOf bundleControl 4 b) ≡ micrIn Ascii past)
+    → Here 70 past b addenda (line 4 C MicrCents 19 30 12 NB AllDigits)
+unfolding lineHolds
+micr-line past b addenda valid =
+    record {
+      again = λ holds long. by (every (isBlank Ascii) (part 18 12 b)) refl valid holds long;
+      fit = λ long. fits-none 12;
+    }
+  where
+    by : (blank : Bool) → every (isBlank Ascii) (part 18 12 b) ≡ blank → (blank ≡ true) ⊎ (number Ascii (part 18 12 b) ≡ micrIn Ascii past)
+        → holds Ascii Conditional NB AllDigits (part 18 12 b) b ≡ true → length (part 18 12 b) ≡ 12
+        → cond blank (times 12 0x20) (digits 12 (cappedFigures (over Ascii past) .micr .0)) ≡ part 18 12 b
+    by true e valid holds long = ap (λ (n : ℕ). times n 0x20) (sym long) ∙ blanks-again (part 18 12 b) e
+    by false e (inl z) holds long = cc
+    by false e (inr states) holds long =
+        let whole = not-stopped b 18 12 (micrIn Ascii past) refl states in
+        digits-stated (part 18 12 b) 12 _ refl long (holds-total (part 18 12 b) b e holds) (cc)
 
-  -- kind by kind
-  module _ (past : List Body) (b : Body) (addenda : ℕ) where
-    abbrev AllHere : ℕ → List Line → Type 0
-    AllHere t ls = All (Here t past b addenda) (worked ls)
+-- kind by kind
+module _ (past : List Body) (b : Body) (addenda : ℕ) where
+  abbrev AllHere : ℕ → List Line → Type 0
+  AllHere t ls = All (Here t past b addenda) (worked ls)
 
-    type-only : (t : ℕ) → Told t past b addenda → All (Here t past b addenda) (line 1 M TypeNumber 1 2 2 N (only t) ∷ [])
-    type-only t told = type-line t past b addenda (only t) told and tt
+  type-only : (t : ℕ) → Told t past b addenda → All (Here t past b addenda) (line 1 M TypeNumber 1 2 2 N (only t) ∷ [])
+  type-only t told = type-line t past b addenda (only t) told and tt
 
-    stays : (start size n : ℕ) → leb size 16 ≡ true → number Ascii (part start size b) ≡ n → number Ascii (part start size b) ≡ capped n
-    stays start size n h e = e ∙ sym (not-stopped b start size n h e)
+  stays : (start size n : ℕ) → leb size 16 ≡ true → number Ascii (part start size b) ≡ n → number Ascii (part start size b) ≡ capped n
+  stays start size n h e = e ∙ sym (not-stopped b start size n h e)
 
-    check-lines : Told 25 past b addenda → AllHere 25 (checkDetail .lines)
-    check-lines told =
-        type-only 25 told .0 and own-line 25 past b addenda 12 AddendumCount 77 78 2 (numbers 0 99) refl refl (told .of-check refl) refl and tt
+  check-lines : Told 25 past b addenda → AllHere 25 (checkDetail .lines)
+  check-lines told =
+      type-only 25 told .0 and own-line 25 past b addenda 12 AddendumCount 77 78 2 (numbers 0 99) refl refl (told .of-check refl) refl and tt
 
-    return-lines : Told 31 past b addenda → AllHere 31 (returnRecord .lines)
-    return-lines told =
-        type-only 31 told .0 and own-line 31 past b addenda 8 AddendumCount 73 74 2 (numbers 0 99) refl refl (told .of-return refl) refl and tt
+  return-lines : Told 31 past b addenda → AllHere 31 (returnRecord .lines)
+  return-lines told =
+      type-only 31 told .0 and own-line 31 past b addenda 8 AddendumCount 73 74 2 (numbers 0 99) refl refl (told .of-return refl) refl and tt
 
-    -- a record number of one digit, or of two
-    numbered-lines : (t size last : ℕ) → leb size 19 ≡ true → Told t past b addenda
-        → number Ascii (part 2 size b) ≡ statement (valuesAs t b) addenda (cappedFigures (over Ascii past)) 3 RecordNumber
-        → All (Here t past b addenda) (line 1 M TypeNumber 1 2 2 N (only t) ∷ line 2 M RecordNumber 3 last size N none ∷ [])
-    numbered-lines t size last h told e =
-        type-only t told .0 and sum-line t past b addenda 2 RecordNumber 3 last size none h refl e refl and tt
+  -- a record number of one digit, or of two
+  numbered-lines : (t size last : ℕ) → leb size 19 ≡ true → Told t past b addenda
+      → number Ascii (part 2 size b) ≡ statement (valuesAs t b) addenda (cappedFigures (over Ascii past)) 3 RecordNumber
+      → All (Here t past b addenda) (line 1 M TypeNumber 1 2 2 N (only t) ∷ line 2 M RecordNumber 3 last size N none ∷ [])
+  numbered-lines t size last h told e =
+      type-only t told .0 and sum-line t past b addenda 2 RecordNumber 3 last size none h refl e refl and tt
 
-    -- the lengths of the parts of a 27 and a 34, and of a 52
-    locator-lines : (t : ℕ) → sizedParts (layoutOf t) ≡ sizedParts checkDetailAddendumB
-        → All (Here t past b addenda) (drop 1 (worked (checkDetailAddendumB .lines)))
-    locator-lines t e =
-        part-line t past b addenda 6 52 55 4 anyNumber refl (ap (sizeStatedAt b 52) (sym e))
-        and part-line t past b addenda 7 56 57 2 (numbers 0 99) refl (ap (sizeStatedAt b 56) (sym e))
-        and part-line t past b addenda 8 58 59 2 (numbers 0 99) refl (ap (sizeStatedAt b 58) (sym e))
-        and part-line t past b addenda 9 60 61 2 (numbers 0 99) refl (ap (sizeStatedAt b 60) (sym e))
-        and part-line t past b addenda 10 62 63 2 (numbers 0 99) refl (ap (sizeStatedAt b 62) (sym e))
-        and part-line t past b addenda 11 64 68 5 anyNumber refl (ap (sizeStatedAt b 64) (sym e))
-        and tt
+  -- the lengths of the parts of a 27 and a 34, and of a 52
+  locator-lines : (t : ℕ) → sizedParts (layoutOf t) ≡ sizedParts checkDetailAddendumB
+      → All (Here t past b addenda) (drop 1 (worked (checkDetailAddendumB .lines)))
+  locator-lines t e =
+      part-line t past b addenda 6 52 55 4 anyNumber refl (ap (sizeStatedAt b 52) (sym e))
+      and part-line t past b addenda 7 56 57 2 (numbers 0 99) refl (ap (sizeStatedAt b 56) (sym e))
+      and part-line t past b addenda 8 58 59 2 (numbers 0 99) refl (ap (sizeStatedAt b 58) (sym e))
+      and part-line t past b addenda 9 60 61 2 (numbers 0 99) refl (ap (sizeStatedAt b 60) (sym e))
+      and part-line t past b addenda 10 62 63 2 (numbers 0 99) refl (ap (sizeStatedAt b 62) (sym e))
+      and part-line t past b addenda 11 64 68 5 anyNumber refl (ap (sizeStatedAt b 64) (sym e))
+      and tt
 
-    image-lines : Told 52 past b addenda → AllHere 52 (imageViewData .lines)
-    unfolding layoutOf
-    image-lines told =
-        type-only 52 told .0
-        and part-line 52 past b addenda 15 104 107 4 anyNumber refl refl
-        and part-line 52 past b addenda 16 108 112 5 anyNumber refl refl
-        and part-line 52 past b addenda 17 113 117 5 anyNumber refl refl
-        and part-line 52 past b addenda 18 118 122 5 anyNumber refl refl
-        and part-line 52 past b addenda 19 123 127 5 anyNumber refl refl
-        and part-line 52 past b addenda 20 128 134 7 anyNumber refl refl
-        and part-line 52 past b addenda 21 135 139 5 anyNumber refl refl
-        and tt
+  image-lines : Told 52 past b addenda → AllHere 52 (imageViewData .lines)
+  unfolding layoutOf
+  image-lines told =
+      type-only 52 told .0
+      and part-line 52 past b addenda 15 104 107 4 anyNumber refl refl
+      and part-line 52 past b addenda 16 108 112 5 anyNumber refl refl
+      and part-line 52 past b addenda 17 113 117 5 anyNumber refl refl
+      and part-line 52 past b addenda 18 118 122 5 anyNumber refl refl
+      and part-line 52 past b addenda 19 123 127 5 anyNumber refl refl
+      and part-line 52 past b addenda 20 128 134 7 anyNumber refl refl
+      and part-line 52 past b addenda 21 135 139 5 anyNumber refl refl
+      and tt
 
-    bundle-lines : Told 70 past b addenda → AllHere 70 (bundleControl .lines)
-    bundle-lines told =
-        let stated = told .totalled .bundle refl in
-        type-only 70 told .0
-        and sum-line 70 past b addenda 2 DebitCount 3 6 4 none refl refl (stated .debit-count) refl
-        and sum-line 70 past b addenda 3 DebitCents 7 18 12 none refl refl (stays 6 12 _ refl (stated .debit-cents)) refl
-        and micr-line past b addenda (stated .valid)
-        and sum-line 70 past b addenda 5 ViewCount 31 35 5 none refl refl (stated .view-count) refl
-        and sum-line 70 past b addenda 6 CreditCount 36 39 4 none refl refl (stated .credit-count) refl
-        and sum-line 70 past b addenda 7 CreditCents 40 51 12 none refl refl (stays 39 12 _ refl (stated .credit-cents)) refl
-        and tt
+  bundle-lines : Told 70 past b addenda → AllHere 70 (bundleControl .lines)
+  bundle-lines told =
+      let stated = told .totalled .bundle refl in
+      type-only 70 told .0
+      and sum-line 70 past b addenda 2 DebitCount 3 6 4 none refl refl (stated .debit-count) refl
+      and sum-line 70 past b addenda 3 DebitCents 7 18 12 none refl refl (stays 6 12 _ refl (stated .debit-cents)) refl
+      and micr-line past b addenda (stated .valid)
+      and sum-line 70 past b addenda 5 ViewCount 31 35 5 none refl refl (stated .view-count) refl
+      and sum-line 70 past b addenda 6 CreditCount 36 39 4 none refl refl (stated .credit-count) refl
+      and sum-line 70 past b addenda 7 CreditCents 40 51 12 none refl refl (stays 39 12 _ refl (stated .credit-cents)) refl
+      and tt
 
-    letter-lines : Told 90 past b addenda → AllHere 90 (cashLetterControl .lines)
-    letter-lines told =
-        let stated = told .totalled .letter refl in
-        type-only 90 told .0
-        and sum-line 90 past b addenda 2 BundleCount 3 8 6 none refl refl (stated .bundle-count) refl
-        and sum-line 90 past b addenda 3 DebitCount 9 16 8 none refl refl (stated .debit-count) refl
-        and sum-line 90 past b addenda 4 DebitCents 17 30 14 none refl refl (stays 16 14 _ refl (stated .debit-cents)) refl
-        and sum-line 90 past b addenda 5 ViewCount 31 39 9 none refl refl (stated .view-count) refl
-        and sum-line 90 past b addenda 8 CreditCount 64 71 8 none refl refl (stated .credit-count) refl
-        and sum-line 90 past b addenda 9 CreditCents 72 85 14 none refl refl (stays 71 14 _ refl (stated .credit-cents)) refl
-        and tt
+  letter-lines : Told 90 past b addenda → AllHere 90 (cashLetterControl .lines)
+  letter-lines told =
+      let stated = told .totalled .letter refl in
+      type-only 90 told .0
+      and sum-line 90 past b addenda 2 BundleCount 3 8 6 none refl refl (stated .bundle-count) refl
+      and sum-line 90 past b addenda 3 DebitCount 9 16 8 none refl refl (stated .debit-count) refl
+      and sum-line 90 past b addenda 4 DebitCents 17 30 14 none refl refl (stays 16 14 _ refl (stated .debit-cents)) refl
+      and sum-line 90 past b addenda 5 ViewCount 31 39 9 none refl refl (stated .view-count) refl
+      and sum-line 90 past b addenda 8 CreditCount 64 71 8 none refl refl (stated .credit-count) refl
+      and sum-line 90 past b addenda 9 CreditCents 72 85 14 none refl refl (stays 71 14 _ refl (stated .credit-cents)) refl
+      and tt
 
-    file-lines : Told 99 past b addenda → AllHere 99 (fileControl .lines)
-    file-lines told =
-        let stated = told .totalled .file refl in
-        type-only 99 told .0
-        and sum-line 99 past b addenda 2 LetterCount 3 8 6 none refl refl (stated .letter-count) refl
-        and sum-line 99 past b addenda 3 RecordCount 9 16 8 none refl refl (stated .record-count) refl
-        and sum-line 99 past b addenda 4 ItemCount 17 24 8 none refl refl (stated .item-count) refl
-        and sum-line 99 past b addenda 5 DebitCents 25 40 16 none refl refl (stays 24 16 _ refl (stated .debit-cents)) refl
-        and sum-line 99 past b addenda 8 CreditCents 65 80 16 none refl refl (stays 64 16 _ refl (stated .credit-cents)) refl
-        and tt
+  file-lines : Told 99 past b addenda → AllHere 99 (fileControl .lines)
+  file-lines told =
+      let stated = told .totalled .file refl in
+      type-only 99 told .0
+      and sum-line 99 past b addenda 2 LetterCount 3 8 6 none refl refl (stated .letter-count) refl
+      and sum-line 99 past b addenda 3 RecordCount 9 16 8 none refl refl (stated .record-count) refl
+      and sum-line 99 past b addenda 4 ItemCount 17 24 8 none refl refl (stated .item-count) refl
+      and sum-line 99 past b addenda 5 DebitCents 25 40 16 none refl refl (stays 24 16 _ refl (stated .debit-cents)) refl
+      and sum-line 99 past b addenda 8 CreditCents 65 80 16 none refl refl (stays 64 16 _ refl (stated .credit-cents)) refl
+      and tt
 
-    pub all-lines : All (λ (k : Layout). Told (k .typeNumber) past b addenda → AllHere (k .typeNumber) (k .lines)) layouts
-    unfolding layoutOf
-    all-lines =
-        type-only 1
-        and type-only 10
-        and type-only 20
-        and check-lines
-        and (λ told. numbered-lines 26 1 3 refl told (eqb-true _ _ (told .linked .numbered)))
-        and (λ told. type-only 27 told .0 and locator-lines 27 refl)
-        and (λ told. numbered-lines 28 2 4 refl told (eqb-true _ _ (told .linked .numbered)))
-        and return-lines
-        and (λ told. numbered-lines 32 1 3 refl told (eqb-true _ _ (told .linked .numbered)))
-        and type-only 33
-        and (λ told. type-only 34 told .0 and locator-lines 34 refl)
-        and (λ told. numbered-lines 35 2 4 refl told (eqb-true _ _ (told .linked .numbered)))
-        and type-only 50
-        and image-lines
-        and type-only 54
-        and type-only 61
-        and bundle-lines
-        and letter-lines
-        and file-lines
-        and tt
+  pub all-lines : All (λ (k : Layout). Told (k .typeNumber) past b addenda → AllHere (k .typeNumber) (k .lines)) layouts
+  unfolding layoutOf
+  all-lines =
+      type-only 1
+      and type-only 10
+      and type-only 20
+      and check-lines
+      and (λ told. numbered-lines 26 1 3 refl told (eqb-true _ _ (told .linked .numbered)))
+      and (λ told. type-only 27 told .0 and locator-lines 27 refl)
+      and (λ told. numbered-lines 28 2 4 refl told (eqb-true _ _ (told .linked .numbered)))
+      and return-lines
+      and (λ told. numbered-lines 32 1 3 refl told (eqb-true _ _ (told .linked .numbered)))
+      and type-only 33
+      and (λ told. type-only 34 told .0 and locator-lines 34 refl)
+      and (λ told. numbered-lines 35 2 4 refl told (eqb-true _ _ (told .linked .numbered)))
+      and type-only 50
+      and image-lines
+      and type-only 54
+      and type-only 61
+      and bundle-lines
+      and letter-lines
+      and file-lines
+      and tt
