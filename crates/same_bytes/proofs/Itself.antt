@@ -128,3 +128,30 @@ module _ (t : ℕ) (past : List Body) (b : Body) (addenda : ℕ) (sound : judged
         fields = r .fields;
         parts = parts .fit;
       }
+
+-- a good record with those behind it, given as its values
+pub record Itself (past : List Body) (b : Body) (bs : List Body) : Type 0 where
+  pub same : completed (valuesOfBody Ascii b) (addendaBehind (typeOf Ascii b) (map (valuesOfBody Ascii) bs)) (over Ascii past) ≡ b
+  pub fit :
+      firstUnfit (valuesOfBody Ascii b) (addendaBehind (typeOf Ascii b) (map (valuesOfBody Ascii) bs)) (layoutOf (typeOf Ascii b) .lines)
+      (valuesOfBody Ascii b .fields)
+      ≡ 0
+  pub fields : firstWrong Ascii (layoutOf (typeOf Ascii b) .lines) b ≡ 0
+  pub parts : firstUnfitPart (sizedParts (layoutOf (typeOf Ascii b))) (valuesOfBody Ascii b .parts) ≡ 0
+
+pub completed-itself : (past : List Body) (b : Body) (bs : List Body) → GoodAll Ascii past (b ∷ bs) → Itself past b bs
+unfolding valuesOfBody valuesAt
+completed-itself past b bs g =
+    let addenda = addendaBehind (typeOf Ascii b) (map (valuesOfBody Ascii) bs) in
+    let counted : (item : ℕ) → typeOf Ascii b ≡ item → addendaBehind item (map (valuesOfBody Ascii) bs) ≡ addenda =
+    λ item e. ap (λ (t : ℕ). addendaBehind t (map (valuesOfBody Ascii) bs)) (sym e) in
+    let told : Told (typeOf Ascii b) past b addenda =
+    record {
+      type = type-told b (g .first .carried);
+      of-check = λ e. check-states past b bs g e ∙ counted 25 e;
+      of-return = λ e. return-states past b bs g e ∙ counted 31 e;
+      linked = g .first .linked;
+      totalled = g .first .totalled;
+    } in
+    let own = itself-as (typeOf Ascii b) past b addenda (g .first .alone) told in
+    record { same = own .same; fit = own .fit; fields = own .fields; parts = own .parts }
