@@ -2,3 +2,4 @@ pub mod Addenda
 pub mod Lines
 pub mod Stated
 pub mod Itself
+pub mod Again
