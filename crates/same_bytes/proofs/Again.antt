@@ -4,8 +4,7 @@ use native.Mathlib.Omega.{arith}
 use mathlib.Core.Bool.{true}
 use mathlib.Core.Path.{_≡_, refl, sym, ap, ap₂, _∙_, subst}
 use mathlib.Core.List.{List, [], _∷_, _++_, map, append-assoc, append-nil}
-use lib.Dec.{eqb}
-use lib.ListN.{length, drop, length-append, length-drop}
+use lib.ListN.{length, length-append}
 use lib.Seq.{drop-append-le, drop-at}
 use borrow.Author.Tests.{eq-eqb}
 use Rattle.text.specs.CharacterSet.{setOf}
@@ -35,7 +34,6 @@ use Rattle.arrangement.specs.RowsAndTotals.{totals}
 use Rattle.arrangement.proofs.TotalsAgree.{totals-of}
 use Rattle.arrangement.proofs.SoundTyped.{sound-typed}
 use Rattle.arrangement.proofs.Goodness.{sound-good}
-use Rattle.draft.specs.declared.Outcome.{Outcome}
 use Rattle.draft.specs.declared.Outcome.the-variants.{Written}
 use Rattle.draft.specs.Values.{Values, layoutOf, valuesAt, valuesOfBody, valuesOf}
 use Rattle.draft.specs.Completed.{addendaBehind, firstUnfit, firstUnfitPart}

@@ -13,7 +13,7 @@ use Rattle.text.specs.Characters.{isNumeric}
 use Rattle.text.specs.DataTypes.{every}
 use Rattle.text.specs.Number.{number}
 use Rattle.frame.specs.Frames.{part}
-use Rattle.layout.specs.Layout.{Line, Layout, sizedParts}
+use Rattle.layout.specs.Layout.{Layout, sizedParts}
 use Rattle.layout.specs.Layouts.{layouts}
 use Rattle.layout.specs.Laid.{endToEnd}
 use Rattle.judge.specs.declared.Judged.the-variants.{Sound, UnknownType}

@@ -44,7 +44,7 @@ or-second : (a b : Bool) → b ≡ true → a || b ≡ true
 or-second true b e = refl
 or-second false b e = e
 
--- a piece that lies in the record, and its size in any case
+-- a piece that lies in the record
 piece-here : (b : Body) (t : DataType) (start size : ℕ) → start + size ≤ length b → piece Ascii b t start size ≡ here (part start size b)
 piece-here b t start size h = rw (or-second (eqb size 0) (leb (start + size) (length b)) (le-leb (start + size) (length b) h))
 

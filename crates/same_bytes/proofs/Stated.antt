@@ -1,12 +1,12 @@
 -- Each field of a good record that is worked out states what is worked out for it. Assumes nothing.
-use Prim.Native.Nat.{ℕ, zero, suc, _+_, _-_, _*_, _≤_, _<_}
+use Prim.Native.Nat.{ℕ, zero, suc, _+_, _-_, _≤_}
 use native.Mathlib.Omega.{arith}
-use mathlib.Core.Bool.{Bool, true, false, _&&_, _||_, not, cond}
+use mathlib.Core.Bool.{Bool, true, false, _&&_, _||_, cond}
 use mathlib.Core.Logic.{_⊎_, inl, inr}
-use mathlib.Core.Path.{_≡_, refl, sym, ap, ap₂, _∙_, subst}
-use mathlib.Core.List.{List, [], _∷_, _++_}
-use lib.Dec.{leb, ltb, eqb}
-use lib.ListN.{length, take, drop, length-take}
+use mathlib.Core.Path.{_≡_, refl, sym, ap, ap₂, _∙_}
+use mathlib.Core.List.{List, [], _∷_}
+use lib.Dec.{leb, eqb}
+use lib.ListN.{length, drop, length-take}
 use borrow.Author.Tests.{leb-true, le-leb, eqb-true}
 use Rattle.text.specs.declared.character_set.CharacterSet.the-variants.{Ascii}
 use Rattle.text.specs.declared.data_types.DataType.the-variants.{N, NB}
@@ -28,7 +28,7 @@ use Rattle.layout.specs.Layout.{Line, Layout, line, sizedParts, M, C, none, any
 use Rattle.layout.specs.Layouts.{layouts, checkDetail, checkDetailAddendumB, returnRecord, imageViewData, bundleControl, cashLetterControl, fileControl}
 use Rattle.judge.specs.Alone.{lineHolds}
 use Rattle.judge.proofs.Laws.{both-true}
-use Rattle.measure.specs.Measures.{unstatable, capped}
+use Rattle.measure.specs.Measures.{capped}
 use Rattle.measure.proofs.Capped.{capped-below}
 use Rattle.standing.specs.Standing.{cappedFigures}
 use Rattle.file_as_records.specs.Framed.{Body, fieldOf}
