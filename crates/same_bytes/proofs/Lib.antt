@@ -1,0 +1,5 @@
+pub mod Addenda
+pub mod Lines
+pub mod Stated
+pub mod Itself
+pub mod Again
