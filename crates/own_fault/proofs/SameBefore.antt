@@ -23,7 +23,7 @@ Same xs ys = ys ≡ xs
 
 -- a record's first bytes: `same` says that they are those of the file
 abbrev pub SameAt : List ℕ → List ℕ → ℕ → ℕ → Type 0
-SameAt file other offset width = AlikeAt Same file other offset width
+SameAt file other offset width = AlikeAt Same file other offset offset width
 
 -- every record read so far
 abbrev pub SamePast : List ℕ → List ℕ → List Entry → Type 0
