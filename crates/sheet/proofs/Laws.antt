@@ -78,23 +78,66 @@ wide : (t : ℕ) → widthOf t ≤ layoutOf t .fixedLength
 unfolding layoutOf
 wide t = wide-among layouts t
 
--- slots that do not touch, and of a sort of records, whose newest has a slot, what is computed of each type
+low-slot : (t : ℕ) → isCarried t ≡ true → slotOf t ≤ 640
+unfolding isCarried
+low-slot t c = leb-true (slotOf t) 640 (among (λ t. leb (slotOf t) 640) t carried refl c)
+
+-- slots that do not touch
 abbrev apart : ℕ → ℕ → Bool
 apart p q = leb (p + 160) q || leb (q + 160) p
 
+-- A sort of records whose newest has a slot k, computed of each type: one of the sort has the slot, and is wide enough to be compared; so is a 01;
+-- and the slot of any other is neither k nor that of the 01.
+abbrev newestFits : ℕ → ℕ → Bool
+newestFits k t = eqb (slotOf t) k && leb 80 (widthOf t)
+
+abbrev otherFits : ℕ → ℕ → Bool
+otherFits k t = leb k 640 && (apart 0 (slotOf t) && apart k (slotOf t))
+
 abbrev slotFits : (ℕ → Bool) → ℕ → ℕ → Bool
-slotFits sort k t =
-    leb k 640
-    && (leb (slotOf t) 640
-    && cond (sort t) (eqb (slotOf t) k && leb 80 (widthOf t)) (cond (eqb t 1) (leb 80 (widthOf t)) (apart 0 (slotOf t) && apart k (slotOf t))))
+slotFits sort k t = cond (sort t) (newestFits k t) (cond (eqb t 1) (leb 80 (widthOf t)) (otherFits k t))
 
-apart-either : (b : Bool) (k q : ℕ) → apart 0 q && apart k q ≡ true → apart (cond b k 0) q ≡ true
-apart-either true k q e = and-eq-true-iff (apart 0 q) (apart k q) .0 e .1
-apart-either false k q e = and-eq-true-iff (apart 0 q) (apart k q) .0 e .0
+holds-then : (a x w : Bool) → a ≡ true → cond a x w ≡ true → x ≡ true
+holds-then a x w q h = rw q at h
 
-either-low : (b : Bool) (k : ℕ) → k ≤ 640 → cond b k 0 ≤ 640
-either-low true k h = h
-either-low false k h = omega arith
+holds-else : (a x w : Bool) → a ≡ false → cond a x w ≡ true → w ≡ true
+holds-else a x w q h = rw q at h
+
+module _ (sort : ℕ → Bool) (k : ℕ) (fits : every (slotFits sort k) carried ≡ true) (t : ℕ) (c : isCarried t ≡ true) where
+  fits-of : slotFits sort k t ≡ true
+  unfolding isCarried
+  fits-of = among (slotFits sort k) t carried fits c
+
+  else-fits : sort t ≡ false → cond (eqb t 1) (leb 80 (widthOf t)) (otherFits k t) ≡ true
+  else-fits q = holds-else (sort t) (newestFits k t) (cond (eqb t 1) (leb 80 (widthOf t)) (otherFits k t)) q fits-of
+
+  newest-fits : sort t ≡ true → (slotOf t ≡ k) × (80 ≤ widthOf t)
+  newest-fits q =
+      let both = and-eq-true-iff (eqb (slotOf t) k) (leb 80 (widthOf t)) .0 (holds-then (sort t) (newestFits k t) (cond (eqb t 1) (leb 80 (widthOf t)) (otherFits k t)) q fits-of) in
+      (eqb-true (slotOf t) k (both .0), leb-true 80 (widthOf t) (both .1))
+
+  first-fits : sort t ≡ false → eqb t 1 ≡ true → 80 ≤ widthOf t
+  first-fits q z = leb-true 80 (widthOf t) (holds-then (eqb t 1) (leb 80 (widthOf t)) (otherFits k t) z (else-fits q))
+
+  other-fits : sort t ≡ false → eqb t 1 ≡ false → (b : Bool) → (cond b k 0 ≤ 640) × (apart (cond b k 0) (slotOf t) ≡ true)
+  other-fits q z b =
+      let other = holds-else (eqb t 1) (leb 80 (widthOf t)) (otherFits k t) z (else-fits q) in
+      let low = and-eq-true-iff (leb k 640) (apart 0 (slotOf t) && apart k (slotOf t)) .0 other in
+      let both = and-eq-true-iff (apart 0 (slotOf t)) (apart k (slotOf t)) .0 (low .1) in
+      by b (leb-true k 640 (low .0)) both
+    where
+      by : (b : Bool) → k ≤ 640 → (apart 0 (slotOf t) ≡ true) × (apart k (slotOf t) ≡ true)
+          → (cond b k 0 ≤ 640) × (apart (cond b k 0) (slotOf t) ≡ true)
+      by true h both = (h, both .1)
+      by false h both = (omega arith, both .0)
+
+-- what is completed in one slot leaves another as it is
+slot-kept : (sheet fixed : List ℕ) (p q : ℕ) → length fixed ≤ 139 → apart p q ≡ true → part (p + 4) 80 (sets sheet (q + 4) fixed) ≡ part (p + 4) 80 sheet
+slot-kept sheet fixed p q h a = by (leb (p + 160) q) refl a
+  where
+    by : (b : Bool) → leb (p + 160) q ≡ b → b || leb (q + 160) p ≡ true → part (p + 4) 80 (sets sheet (q + 4) fixed) ≡ part (p + 4) 80 sheet
+    by true z a = part-before sheet (q + 4) fixed (p + 4) 80 (omega (arith, leb-true (p + 160) q z))
+    by false z a = part-behind sheet (q + 4) fixed (p + 4) 80 (omega (arith, leb-true (q + 160) p a))
 
 -- the places do not count for what is worked out
 statement-unplaced : (v : Values) (addenda : ℕ) (s : Standing) (first : ℕ) (origin : Origin)
@@ -114,3 +157,109 @@ statement-unplaced v addenda s first BundleCount = refl
 statement-unplaced v addenda s first LetterCount = refl
 statement-unplaced v addenda s first RecordCount = refl
 statement-unplaced v addenda s first ItemCount = refl
+
+fixed-unplaced : (v : Values) (addenda : ℕ) (s : Standing) (ls : List Line) (ps : List Piece)
+    → fixedPart v addenda (unplaced s) ls ps ≡ fixedPart v addenda s ls ps
+unfolding fixedPart
+fixed-unplaced v addenda s [] ps = refl
+fixed-unplaced v addenda s (l ∷ ls) ps =
+    rw (
+      statement-unplaced v addenda s (l .first) (l .origin),
+      fixed-unplaced v addenda s ls (drop 1 ps),
+      fixed-unplaced v addenda s ls ps,
+    )
+
+-- more behind the file
+within-more : {m n : ℕ} (past : List Entry) → m ≤ n → Within m past → Within n past
+within-more [] h w = tt
+within-more (r ∷ rs) h w = (omega (arith, w .0), within-more rs h (w .1))
+
+past-same : (file more : List ℕ) (past : List Entry) → Within (length file) past → SamePast file (file ++ more) past
+past-same file more [] w = tt
+past-same file more (r ∷ rs) w = (
+  record { same = part-first (r .offset + 4) (widthOf (r .type)) file more (omega (arith, w .0, wide (r .type))) },
+  past-same file more rs (w .1),
+)
+
+module _ {file : List ℕ} {past : List Entry} {sheet : List ℕ} {s : Standing} (o : OnSheet file past sheet s) where
+  pub sheet-follows : (s .inside ≡ standing Ascii file past .inside) × (s .last ≡ standing Ascii file past .last) × (s .present ≡ standing Ascii file past .present)
+  sheet-follows = (
+    ap (λ (u : Standing). u .inside) (o .figures),
+    ap (λ (u : Standing). u .last) (o .figures),
+    ap (λ (u : Standing). u .present) (o .figures),
+  )
+
+  pub sheet-fixed : (v : Values) (addenda : ℕ) (ls : List Line) (ps : List Piece)
+      → fixedPart v addenda s ls ps ≡ fixedPart v addenda (cappedFigures (standing Ascii file past)) ls ps
+  sheet-fixed v addenda ls ps =
+      sym (fixed-unplaced v addenda s ls ps) ∙ ap (λ (u : Standing). fixedPart v addenda u ls ps) (o .figures)
+      ∙ fixed-unplaced v addenda (cappedFigures (standing Ascii file past)) ls ps
+
+  as-placed : s ≡ placed (cappedFigures (standing Ascii file past)) (s .item) (s .header) (s .heading)
+  as-placed = ap (λ (u : Standing). placed u (s .item) (s .header) (s .heading)) (o .figures)
+
+-- the first record is a 01, and no other is
+behind : {file : List ℕ} (past : List Entry) {sheet : List ℕ} {s : Standing} → OnSheet file past sheet s → (t : ℕ)
+    → mayFollow (s .inside) (s .last) (s .present) t ≡ true → eqb t 1 ≡ false → 1 ≤ length past
+unfolding standing
+behind [] o t may other =
+    let f = sheet-follows o in
+    let one = first-type t (rw (f .0, f .1, f .2) at may) in
+    let z : _≡_ {A = ℕ} 0 1 = cc in
+    absurd (omega arith)
+behind (r ∷ rs) o t may other = omega arith
+
+module _ {file : List ℕ} {past : List Entry} {sheet : List ℕ} {s : Standing} (o : OnSheet file past sheet s) (t : ℕ) (body fixed rest : List ℕ)
+    (e : body ≡ fixed ++ rest) (long : length fixed ≡ layoutOf t .fixedLength) (c : isCarried t ≡ true)
+    (may : mayFollow (s .inside) (s .last) (s .present) t ≡ true) where
+  short : length fixed ≤ 139
+  short = omega (arith, carried-wide t c)
+
+  -- the record itself
+  own : AlikeAt Same (file ++ framed (body ∷ [])) (sets sheet (slotOf t + 4) fixed) (length file) (slotOf t) (widthOf t)
+  own =
+      let all : AlikeAt Same (file ++ framed (body ∷ [])) (sets sheet (slotOf t + 4) fixed) (length file) (slotOf t) (length fixed) =
+      record { same = part-stored sheet (slotOf t + 4) fixed (omega (arith, short, low-slot t c, o .long)) ∙ sym (record-begins file body fixed rest e) } in
+      narrower (law Ascii) all (widthOf t) (omega (arith, wide t))
+
+  own-front : 80 ≤ widthOf t → SameFront (sets sheet (slotOf t + 4) fixed) (slotOf t) (file ++ framed (body ∷ [])) (length file)
+  own-front h = narrower (law Ascii) own 80 h .same
+
+  -- a place at which the newest record of a sort stands, or at which there is none yet
+  module _ (sort : ℕ → Bool) (k : ℕ) (fits : every (slotFits sort k) carried ≡ true) (p at : ℕ) (came : Bool) (there : p ≡ cond came k 0)
+      (none : past ≡ [] → (p ≡ 0) × (at ≡ 0)) (front : 1 ≤ length past → SameFront sheet p file at) where
+    stays-behind : sort t ≡ false → eqb t 1 ≡ false → SameFront (sets sheet (slotOf t + 4) fixed) p (file ++ framed (body ∷ [])) at
+    stays-behind q z =
+        let f = front (behind past o t may z) in
+        let slot = rw (sym there) at (other-fits sort k fits t c q z came) in
+        slot-kept sheet fixed p (slotOf t) short (slot .1) ∙ f
+        ∙ sym (part-first (at + 4) 80 file (framed (body ∷ []))
+        (omega (arith, ap length f, length-take 80 (drop (p + 4) sheet), length-drop (p + 4) sheet, length-take 80 (drop (at + 4) file), length-drop (at + 4) file, o .long, slot .0)))
+
+    stays : sort t ≡ false → SameFront (sets sheet (slotOf t + 4) fixed) p (file ++ framed (body ∷ [])) at
+    stays q = by (eqb t 1) refl
+      where
+        by : (b : Bool) → eqb t 1 ≡ b → SameFront (sets sheet (slotOf t + 4) fixed) p (file ++ framed (body ∷ [])) at
+        by true z =
+            let start = o .begun (only-first (s .inside) (s .last) (s .present) t may z) in
+            let zero-slot : slotOf t ≡ 0 = ap slotOf (eqb-true t 1 z) in
+            let zero = none (start .0) in
+            let here : p ≡ slotOf t = zero .0 ∙ sym zero-slot in
+            let there : at ≡ length file = zero .1 ∙ sym (start .1) in
+            rw (here, there) (own-front (first-fits sort k fits t c q z))
+        by false z = stays-behind q z
+
+    moves : SameFront (sets sheet (slotOf t + 4) fixed) (cond (sort t) (slotOf t) p) (file ++ framed (body ∷ [])) (cond (sort t) (length file) at)
+    moves = by (sort t) refl
+      where
+        by : (b : Bool) → sort t ≡ b
+            → SameFront (sets sheet (slotOf t + 4) fixed) (cond b (slotOf t) p) (file ++ framed (body ∷ [])) (cond b (length file) at)
+        by true q = own-front (newest-fits sort k fits t c q .1)
+        by false q = stays q
+
+    slot-moves : cond (sort t) (slotOf t) p ≡ cond (sort t || came) k 0
+    slot-moves = by (sort t) refl
+      where
+        by : (b : Bool) → sort t ≡ b → cond b (slotOf t) p ≡ cond (b || came) k 0
+        by true q = newest-fits sort k fits t c q .0
+        by false q = there
