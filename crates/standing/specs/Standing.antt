@@ -5,7 +5,7 @@ use mathlib.Core.List.{List, map}
 use lib.Dec.{eqb}
 use lib.ListN.{length}
 use Rattle.text.specs.declared.character_set.CharacterSet.{CharacterSet}
-use Rattle.measure.specs.Measures.{cents, items, records, noSums, together, cappedSums, Small}
+use Rattle.measure.specs.Measures.{cents, items, records, noSums, together, capped, cappedSums, Small}
 use Rattle.order.specs.MayFollow.{isCheckOrReturn, isItem, isAddendum, lastOf, isOpen, itemTypeInBundle, newestItemType}
 use Rattle.standing.specs.History.{Entry, one, adds, micrOf, statedBy, indicatorIn, signatureIn, sumSince, sumsSince, atNewest, never, is, isItemEntry, countSince, isBofdAddendum, isEndorserAddendum}
 use Rattle.standing.specs.declared.Standing.{Standing}
@@ -86,7 +86,7 @@ cappedFigures s =
       whole = cappedSums (s .whole);
       letter = cappedSums (s .letter);
       bundle = cappedSums (s .bundle);
-      micr = s .micr;
+      micr = cents (capped (s .micr .0));
       addenda = s .addenda;
       bofd = s .bofd;
       endorser = s .endorser;
