@@ -22,6 +22,7 @@ use Rattle.order.proofs.Pairs.{throughout, listed}
 use Rattle.standing.specs.History.{Entry, entry, atNewest, is, isItemEntry}
 use Rattle.standing.specs.Standing.{standing, onward, cappedFigures}
 use Rattle.standing.specs.declared.Standing.{Standing}
+use Rattle.standing.proofs.Laws.{standing-onward, onward-capped}
 use Rattle.passes.specs.CheckOrder.{agreement}
 use Rattle.passes.proofs.Capped.{agreement-capped}
 use Rattle.file_as_records.specs.Framed.{framed}
@@ -263,3 +264,59 @@ module _ {file : List ℕ} {past : List Entry} {sheet : List ℕ} {s : Standing}
         by : (b : Bool) → sort t ≡ b → cond b (slotOf t) p ≡ cond (b || came) k 0
         by true q = newest-fits sort k fits t c q .0
         by false q = there
+
+  -- the three with which a 52 is compared
+  none-item : past ≡ [] → (s .item ≡ 0) × (standing Ascii file past .item ≡ 0)
+  unfolding standing
+  none-item q = (o .itemSlot ∙ rw q, rw q)
+
+  none-header : past ≡ [] → (s .header ≡ 0) × (standing Ascii file past .header ≡ 0)
+  unfolding standing
+  none-header q = (o .headerSlot ∙ rw q, rw q)
+
+  none-heading : past ≡ [] → (s .heading ≡ 0) × (standing Ascii file past .heading ≡ 0)
+  unfolding standing
+  none-heading q = (o .headingSlot ∙ rw q, rw q)
+
+  over : t ≡ 52
+      → Compared Same (file ++ framed (body ∷ [])) (sets sheet (slotOf t + 4) fixed) (cappedFigures (standing Ascii file past)) (s .item) (s .header) (s .heading)
+  over q = record {
+    item = record { same = stays isItem 480 refl (s .item) (standing Ascii file past .item) (hasCome isItem past) (o .itemSlot) none-item (o .item) (ap isItem q) };
+    header = record { same = stays (λ t. eqb t 20) 320 refl (s .header) (standing Ascii file past .header) (hasCome (λ t. eqb t 20) past) (o .headerSlot) none-header (o .header) (ap (λ (n : ℕ). eqb n 20) q) };
+    heading = record { same = stays (λ t. eqb t 10) 160 refl (s .heading) (standing Ascii file past .heading) (hasCome (λ t. eqb t 10) past) (o .headingSlot) none-heading (o .heading) (ap (λ (n : ℕ). eqb n 10) q) };
+  }
+
+  pub sheet-agrees : agreement Ascii (sets sheet (slotOf t + 4) fixed) s (slotOf t) t
+      ≡ agreement Ascii (file ++ framed (body ∷ [])) (standing Ascii file past) (length file) t
+  sheet-agrees =
+      ap (λ (u : Standing). agreement Ascii (sets sheet (slotOf t + 4) fixed) u (slotOf t) t) (as-placed o)
+      ∙ agreement-placed (law Ascii) (cappedFigures (standing Ascii file past)) (s .item) (s .header) (s .heading) t own over
+      ∙ agreement-capped Ascii (standing Ascii file past) (file ++ framed (body ∷ [])) (length file) t
+
+  figures-move : unplaced (cappedFigures (onward Ascii (sets sheet (slotOf t + 4) fixed) s t (slotOf t)))
+      ≡ unplaced (cappedFigures (standing Ascii (file ++ framed (body ∷ [])) (entry t (length file) (length body) ∷ past)))
+  figures-move =
+      let f : List ℕ = file ++ framed (body ∷ []) in
+      let before = standing Ascii file past in
+      ap (λ (u : Standing). unplaced (cappedFigures (onward Ascii (sets sheet (slotOf t + 4) fixed) u t (slotOf t)))) (as-placed o)
+      ∙ ap (λ (u : Standing). unplaced (cappedFigures u)) (onward-alike (law Ascii) (cappedFigures before) (s .item) (s .header) (s .heading) t own)
+      ∙ ap unplaced (onward-capped Ascii f before t (length file))
+      ∙ ap (λ (u : Standing). unplaced (cappedFigures (onward Ascii f u t (length file)))) (sym (standing-same Ascii file f past (past-same file (framed (body ∷ [])) past (o .within))))
+      ∙ ap (λ (u : Standing). unplaced (cappedFigures u)) (sym (standing-onward Ascii f past t (length file) (length body)))
+
+  pub sheet-moves : OnSheet (file ++ framed (body ∷ [])) (entry t (length file) (length body) ∷ past) (sets sheet (slotOf t + 4) fixed)
+      (cappedFigures (onward Ascii (sets sheet (slotOf t + 4) fixed) s t (slotOf t)))
+  unfolding standing onward
+  sheet-moves = record {
+    long = length-sets sheet (slotOf t + 4) fixed ∙ o .long;
+    figures = figures-move;
+    item = λ _. moves isItem 480 refl (s .item) (standing Ascii file past .item) (hasCome isItem past) (o .itemSlot) none-item (o .item);
+    header = λ _. moves (λ t. eqb t 20) 320 refl (s .header) (standing Ascii file past .header) (hasCome (λ t. eqb t 20) past) (o .headerSlot) none-header (o .header);
+    heading = λ _. moves (λ t. eqb t 10) 160 refl (s .heading) (standing Ascii file past .heading) (hasCome (λ t. eqb t 10) past) (o .headingSlot) none-heading (o .heading);
+    start = λ _. stays (λ _. false) 0 refl 0 0 false refl (λ _. (refl, refl)) (o .start) refl;
+    itemSlot = slot-moves isItem 480 refl (s .item) (standing Ascii file past .item) (hasCome isItem past) (o .itemSlot) none-item (o .item);
+    headerSlot = slot-moves (λ t. eqb t 20) 320 refl (s .header) (standing Ascii file past .header) (hasCome (λ t. eqb t 20) past) (o .headerSlot) none-header (o .header);
+    headingSlot = slot-moves (λ t. eqb t 10) 160 refl (s .heading) (standing Ascii file past .heading) (hasCome (λ t. eqb t 10) past) (o .headingSlot) none-heading (o .heading);
+    within = ?;
+    begun = ?;
+  }
