@@ -3,7 +3,7 @@ use Prim.Native.Nat.{ℕ, suc, _+_, _≤_}
 use native.Mathlib.Omega.{arith}
 use mathlib.Core.List.{List, [], _∷_, _++_, append-assoc}
 use mathlib.Core.Path.{_≡_, refl, sym, ap, _∙_}
-use lib.ListN.{length, take, drop, set, length-drop}
+use lib.ListN.{length, take, drop, set, length-append, length-drop}
 use lib.Seq.{sets, sets-eq, take-at, drop-at, take-set-le, drop-set-lt, length-take-le, take-append-le, drop-append-le, drop-append-add}
 use Rattle.frame.specs.Frames.{part}
 use Rattle.file_as_records.specs.Framed.{framed}
@@ -44,3 +44,6 @@ pub record-begins : (file body fixed rest : List ℕ) → body ≡ fixed ++ rest
 record-begins file body fixed rest e =
     ap (take (length fixed)) (drop-append-add file (framed (body ∷ [])) 4 ∙ ap (λ (b : List ℕ). b ++ []) e ∙ append-assoc fixed rest [])
     ∙ take-at fixed (rest ++ []) (length fixed) refl
+
+pub record-long : (file body : List ℕ) → length (file ++ framed (body ∷ [])) ≡ length file + 4 + length body
+record-long file body = omega (arith, length-append file (framed (body ∷ [])), length-append body [])
