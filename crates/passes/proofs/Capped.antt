@@ -26,7 +26,7 @@ module _ (set : CharacterSet) (s : Standing) where
     row-capped t offset size =
         rw (capped-twice (s .bundle .debit .0), capped-twice (s .letter .debit .0), capped-twice (s .whole .debit .0))
 
-    agreement-capped : (at t : ℕ) → agreement set file (cappedFigures s) at t ≡ agreement set file s at t
+    pub agreement-capped : (at t : ℕ) → agreement set file (cappedFigures s) at t ≡ agreement set file s at t
     unfolding agreement
     agreement-capped at t = rw (link-capped set file s t at, total-capped set file s t at)
 

@@ -2,8 +2,8 @@
 -- header, the newest cash letter header, the newest bundle header and the newest item, with which a 52 is compared, and one for any other
 -- record. Nothing of this has to be believed.
 use Prim.Native.Nat.{ℕ, _+_, _≤_}
-use mathlib.Core.Bool.{cond}
-use mathlib.Core.List.{List}
+use mathlib.Core.Bool.{Bool, false, _||_, cond}
+use mathlib.Core.List.{List, [], _∷_}
 use mathlib.Core.Path.{_≡_}
 use lib.Dec.{eqb}
 use lib.ListN.{length}
@@ -13,6 +13,7 @@ use Rattle.order.specs.MayFollow.{isItem}
 use Rattle.standing.specs.History.{Entry}
 use Rattle.standing.specs.Standing.{standing, cappedFigures}
 use Rattle.standing.specs.declared.Standing.{Standing}
+use Rattle.draft.specs.Values.{layoutOf}
 
 abbrev pub slotOf : ℕ → ℕ
 slotOf t = cond (eqb t 1) 0 (cond (eqb t 10) 160 (cond (eqb t 20) 320 (cond (isItem t) 480 640)))
@@ -51,6 +52,16 @@ unplaced s =
 abbrev pub SameFront : List ℕ → ℕ → List ℕ → ℕ → Type 0
 SameFront sheet o file at = part (o + 4) 80 sheet ≡ part (at + 4) 80 file
 
+-- whether a record of a sort has come
+abbrev pub hasCome : (ℕ → Bool) → List Entry → Bool
+hasCome sort [] = false
+hasCome sort (r ∷ rs) = sort (r .type) || hasCome sort rs
+
+-- records whose fixed parts all lie within so many bytes
+abbrev pub Within : ℕ → List Entry → Type 0
+Within n [] = Unit {0}
+Within n (r ∷ rs) = (r .offset + 4 + layoutOf (r .type) .fixedLength ≤ n) × Within n rs
+
 -- a sheet and figures that stand for a file and its records, newest first
 pub record OnSheet (file : List ℕ) (past : List Entry) (sheet : List ℕ) (s : Standing) : Type 0 where
   pub long : length sheet ≡ 800
@@ -60,3 +71,10 @@ pub record OnSheet (file : List ℕ) (past : List Entry) (sheet : List ℕ) (s :
   pub heading : 1 ≤ length past → SameFront sheet (s .heading) file (standing Ascii file past .heading)
   -- where none of them is there yet, what stands at the start is compared
   pub start : 1 ≤ length past → SameFront sheet 0 file 0
+  -- each of them stands in its slot
+  pub itemSlot : s .item ≡ cond (hasCome isItem past) 480 0
+  pub headerSlot : s .header ≡ cond (hasCome (λ t. eqb t 20) past) 320 0
+  pub headingSlot : s .heading ≡ cond (hasCome (λ t. eqb t 10) past) 160 0
+  pub within : Within (length file) past
+  -- behind the start stands a record of some type
+  pub begun : s .last ≡ 0 → (past ≡ []) × (length file ≡ 0)
