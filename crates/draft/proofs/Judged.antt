@@ -239,7 +239,7 @@ allApart [] = true
 allApart (s ∷ ss) = differs (s .first) ss && allApart ss
 
 -- a record states of each part how long it is
-data Stating (body : List ℕ) : List Sized → List Piece → Type 0 where
+pub data Stating (body : List ℕ) : List Sized → List Piece → Type 0 where
   none : Stating body [] []
   one : {s : Sized} {ss : List Sized} {p : Piece} {ps : List Piece} → statedSize Ascii s body ≡ sizeOf p → Stating body ss ps → Stating body (s ∷ ss) (p ∷ ps)
 
@@ -341,12 +341,12 @@ module _ (v : Values) (addenda : ℕ) (s : Standing) (shaped : Shaped v) (fit : 
         all-stated xs (both .1),
       )
 
-  completed-states : Stating (completed v addenda s) (sizedParts (layoutOf (v .type))) (v .parts)
+  pub completed-states : Stating (completed v addenda s) (sizedParts (layoutOf (v .type))) (v .parts)
   completed-states =
       stating (completed v addenda s) (sizedParts (layoutOf (v .type))) (v .parts) (shaped .parts) (every-layout (λ k. allApart (sizedParts k)) (v .type) refl)
       (all-stated (sizedParts (layoutOf (v .type))) (every-layout (λ k. allStated (k .lines) (sizedParts k)) (v .type) refl))
 
-  parts-behind : drop (layoutOf (v .type) .fixedLength) (completed v addenda s) ≡ allParts (v .parts)
+  pub parts-behind : drop (layoutOf (v .type) .fixedLength) (completed v addenda s) ≡ allParts (v .parts)
   unfolding completed
   parts-behind =
       drop-at (fixedPart v addenda (cappedFigures s) (layoutOf (v .type) .lines) (v .fields)) (allParts (v .parts)) (layoutOf (v .type) .fixedLength)

@@ -95,7 +95,7 @@ unknown-among t (k ∷ ks) e = by (eqb t (k .typeNumber)) e (unknown-among t ks)
     by true e later = let z : _≡_ {A = ℕ} 0 1 = cc in absurd (omega arith)
     by false e later = later e
 
-fit-type : (v : Values) (addenda : ℕ) → firstUnfit v addenda (layoutOf (v .type) .lines) (v .fields) ≡ 0 → v .type < 100
+pub fit-type : (v : Values) (addenda : ℕ) → firstUnfit v addenda (layoutOf (v .type) .lines) (v .fields) ≡ 0 → v .type < 100
 unfolding isCarried layoutOf firstUnfit fits
 fit-type v addenda e = by (isCarried (v .type)) refl
   where
