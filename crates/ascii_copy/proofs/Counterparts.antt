@@ -1,7 +1,7 @@
 -- The runs of letters and digits of code page 037, the numbers between them, and the single characters. Assumes nothing.
 use Prim.Native.Nat.{ℕ, _+_, _-_, _≤_, _<_}
 use mathlib.Core.Path.{_≡_, refl, sym, ap, _∙_}
-use mathlib.Core.Bool.{Bool, true, false, _||_, cond}
+use mathlib.Core.Bool.{Bool, true, false, _||_, not}
 use mathlib.Core.List.{List, [], _∷_}
 use native.Mathlib.Omega.{arith}
 use borrow.Author.Tests.{eqb-true, eq-eqb, ne-eqb}
@@ -11,22 +11,26 @@ use Rattle.text.specs.Capitals.{capital}
 use Rattle.ascii_copy.specs.CodePage037.{counterpart}
 use Rattle.ascii_copy.proofs.Characters.{passesBelow, passes-below}
 
--- two that are computed alike at the n numbers from low on are alike at each
-module _ (f g : ℕ → ℕ) (low n : ℕ) (same : passesBelow n (λ k. eqb (f (low + k)) (g (low + k))) ≡ true) (x : ℕ) where
-  alike-from : low ≤ x → x < low + n → f x ≡ g x
-  alike-from h l =
-      let place : low + (x - low) ≡ x = omega arith in
-      rw place at (eqb-true (f (low + (x - low))) (g (low + (x - low)))
-      (passes-below n (λ k. eqb (f (low + k)) (g (low + k))) same (x - low) (omega arith)))
+-- a test that is computed at the n numbers from low on
+pub passes-from : (test : ℕ → Bool) (low n : ℕ) → passesBelow n (λ k. test (low + k)) ≡ true → (x : ℕ) → low ≤ x → x < low + n → test x ≡ true
+passes-from test low n e x h l =
+    let place : low + (x - low) ≡ x = omega arith in
+    rw place at (passes-below n (λ k. test (low + k)) e (x - low) (omega arith))
 
 -- a run of letters or digits
-pub in-run : (low n first : ℕ) → passesBelow n (λ k. eqb (low + k - low + first) (counterpart (low + k))) ≡ true → (x : ℕ)
-    → low ≤ x → x < low + n → x - low + first ≡ counterpart x
-in-run low n first = alike-from (λ y. y - low + first) counterpart low n
+abbrev standsFor : ℕ → ℕ → ℕ → Bool
+standsFor low first y = eqb (y - low + first) (counterpart y)
+
+pub in-run : (low n first : ℕ) → passesBelow n (λ k. standsFor low first (low + k)) ≡ true → (x : ℕ) → low ≤ x → x < low + n
+    → x - low + first ≡ counterpart x
+in-run low n first e x h l = eqb-true (x - low + first) (counterpart x) (passes-from (standsFor low first) low n e x h l)
 
 -- numbers that are neither
-pub in-gap : (low n : ℕ) → passesBelow n (λ k. eqb (capital Ebcdic (low + k)) 0) ≡ true → (x : ℕ) → low ≤ x → x < low + n → capital Ebcdic x ≡ 0
-in-gap = alike-from (capital Ebcdic) (λ y. 0)
+abbrev isNeither : ℕ → Bool
+isNeither y = eqb (capital Ebcdic y) 0
+
+pub in-gap : (low n : ℕ) → passesBelow n (λ k. isNeither (low + k)) ≡ true → (x : ℕ) → low ≤ x → x < low + n → capital Ebcdic x ≡ 0
+in-gap low n e x h l = eqb-true (capital Ebcdic x) 0 (passes-from isNeither low n e x h l)
 
 pub single : (k v x : ℕ) → v ≡ counterpart k → x ≡ k → v ≡ counterpart x
 single k v x e h = e ∙ ap counterpart (sym h)
@@ -44,23 +48,11 @@ none-of : (ks : List ℕ) (x : ℕ) → NoneOf ks x → isOneOf x ks ≡ false
 none-of [] x h = refl
 none-of (k ∷ ks) x h = rw (ne-eqb x k (h .1)) (none-of ks x (h .0))
 
--- the special characters and the blank, the last first
-abbrev specials : List ℕ
-specials =
-    0xE0 ∷ 0xD0 ∷ 0xC0 ∷ 0xBB ∷ 0xBA ∷ 0xB0 ∷ 0xA1
-    ∷ 0x7F ∷ 0x7E ∷ 0x7D ∷ 0x7C ∷ 0x7B ∷ 0x7A ∷ 0x79
-    ∷ 0x6F ∷ 0x6E ∷ 0x6D ∷ 0x6C ∷ 0x6B ∷ 0x61 ∷ 0x60
-    ∷ 0x5E ∷ 0x5D ∷ 0x5C ∷ 0x5B ∷ 0x5A
-    ∷ 0x50 ∷ 0x4F ∷ 0x4E ∷ 0x4D ∷ 0x4C ∷ 0x4B ∷ 0x40 ∷ []
+-- Numbers that are neither letter nor digit nor one of some keys stand for no character.
+abbrev told : List ℕ → ℕ → Bool
+told keys y = isOneOf y keys || not (isNeither y) || eqb 0 (counterpart y)
 
-abbrev told : ℕ → Bool
-told y = isOneOf y specials || cond (eqb (capital Ebcdic y) 0) (eqb 0 (counterpart y)) true
-
-bytes-told : passesBelow 256 told ≡ true
-unfolding counterpart capital
-bytes-told = refl
-
--- a byte that is neither letter nor digit nor one of these stands for no character
-pub stands-for-none : (x : ℕ) → x < 256 → capital Ebcdic x ≡ 0 → NoneOf specials x → 0 ≡ counterpart x
-stands-for-none x h c none =
-    eqb-true 0 (counterpart x) (rw (none-of specials x none, eq-eqb (capital Ebcdic x) 0 c) at (passes-below 256 told bytes-told x h))
+pub stands-for-none : (keys : List ℕ) (low n : ℕ) → passesBelow n (λ k. told keys (low + k)) ≡ true → (x : ℕ) → low ≤ x → x < low + n
+    → capital Ebcdic x ≡ 0 → NoneOf keys x → 0 ≡ counterpart x
+stands-for-none keys low n e x h l c none =
+    eqb-true 0 (counterpart x) (rw (none-of keys x none, eq-eqb (capital Ebcdic x) 0 c) at (passes-from (told keys) low n e x h l))

@@ -1,12 +1,14 @@
 // The ASCII copy of a file (request 5), and that a record gets of it what it gets itself.
 ghost use mathlib.Core.Path.{_≡_};
+ghost use Prim.Native.Nat.{_≤_, _<_};
 ghost use Rattle.text.specs.declared.character_set.CharacterSet.the-variants.{Ebcdic};
 ghost use Rattle.text.specs.Capitals.{capital};
 ghost use Rattle.ascii_copy.specs.CodePage037.{counterpart};
 
-// The special characters of code page 037 and the blank, in its order: of a byte that is neither a letter nor a digit.
-fn special_counterpart_of(byte: u8) -> u8
-    requires { ⌜ capital Ebcdic byte ≡ 0 ⌝ }
+// Below 80 code page 037 has the blank and special characters. Those among the letters stand apart: a match on numbers that lie close
+// together is compiled without a jump for each.
+fn counterpart_below_80(byte: u8) -> u8
+    requires { ⌜ byte < 0x80 ⌝ }
     ensures { λ r. ⌜ r ≡ counterpart byte ⌝ }
 {
     match byte {
@@ -36,6 +38,16 @@ fn special_counterpart_of(byte: u8) -> u8
         0x7D => b'\'',
         0x7E => b'=',
         0x7F => b'"',
+        _ => 0,
+    }
+}
+
+// From 80 on, what is neither a letter nor a digit.
+fn counterpart_among_letters(byte: u8) -> u8
+    requires { ⌜ (0x80 ≤ byte) × (capital Ebcdic byte ≡ 0) ⌝ }
+    ensures { λ r. ⌜ r ≡ counterpart byte ⌝ }
+{
+    match byte {
         0xA1 => b'~',
         0xB0 => b'^',
         0xBA => b'[',
@@ -47,18 +59,34 @@ fn special_counterpart_of(byte: u8) -> u8
     }
 }
 
-// The ASCII code of the character that a byte of code page 037 stands for, 0 where it stands for none of clause 5.
-pub fn counterpart_of(byte: u8) -> u8
+fn counterpart_of_letter(byte: u8) -> u8
+    requires { ⌜ (0x80 ≤ byte) × (byte < 0xF0) ⌝ }
     ensures { λ r. ⌜ r ≡ counterpart byte ⌝ }
 {
     match byte {
-        0xF0..=0xF9 => byte - 0xF0 + b'0',
-        0xC1..=0xC9 => byte - 0xC1 + b'A',
-        0xD1..=0xD9 => byte - 0xD1 + b'J',
-        0xE2..=0xE9 => byte - 0xE2 + b'S',
         0x81..=0x89 => byte - 0x81 + b'a',
         0x91..=0x99 => byte - 0x91 + b'j',
         0xA2..=0xA9 => byte - 0xA2 + b's',
-        _ => special_counterpart_of(byte),
+        0xC1..=0xC9 => byte - 0xC1 + b'A',
+        0xD1..=0xD9 => byte - 0xD1 + b'J',
+        0xE2..=0xE9 => byte - 0xE2 + b'S',
+        _ => counterpart_among_letters(byte),
     }
+}
+
+// The ASCII code of the character that a byte of code page 037 stands for, 0 where it stands for none of clause 5. Digits and blanks, of
+// which most fields are, are told by two tests.
+pub fn counterpart_of(byte: u8) -> u8
+    ensures { λ r. ⌜ r ≡ counterpart byte ⌝ }
+{
+    if byte < 0x80 {
+        return counterpart_below_80(byte);
+    }
+    if byte < 0xF0 {
+        return counterpart_of_letter(byte);
+    }
+    if byte <= 0xF9 {
+        return byte - 0xF0 + b'0';
+    }
+    0
 }

@@ -1,13 +1,23 @@
 use mathlib.Core.Path.{refl}
+use mathlib.Core.List.{[], _∷_}
 use native.Mathlib.Omega.{arith}
+use Rattle.text.specs.Capitals.{capital}
 use Rattle.ascii_copy.specs.CodePage037.{counterpart}
-use Rattle.ascii_copy.proofs.Counterparts.{single, stands-for-none}
-use Rattle.ascii_copy.proofs.special_counterpart_of.Statement.{statement}
-use Rattle.ascii_copy.proofs.special_counterpart_of.Tie as tie
+use Rattle.ascii_copy.proofs.Counterparts.{in-gap, single, stands-for-none}
+use Rattle.ascii_copy.proofs.counterpart_below_80.Statement.{statement}
+use Rattle.ascii_copy.proofs.counterpart_below_80.Tie as tie
 
-pub special-counterpart-of-spec : {M : Type 1} → statement M
+none : tie.Need-returns-27
+unfolding counterpart capital
+none c =
+    stands-for-none
+    (0x7F ∷ 0x7E ∷ 0x7D ∷ 0x7C ∷ 0x7B ∷ 0x7A ∷ 0x79 ∷ 0x6F ∷ 0x6E ∷ 0x6D ∷ 0x6C ∷ 0x6B ∷ 0x61 ∷ 0x60 ∷ 0x5E ∷ 0x5D ∷ 0x5C ∷ 0x5B ∷ 0x5A ∷ 0x50 ∷ 0x4F ∷ 0x4E ∷ 0x4D ∷ 0x4C ∷ 0x4B ∷ 0x40 ∷ [])
+    0 0x80 refl (c .before .args .byte) (omega arith) (omega arith)
+    (in-gap 0 0x80 refl (c .before .args .byte) (omega arith) (omega arith)) (c .match .rest)
+
+pub counterpart-below-80-spec : {M : Type 1} → statement M
 unfolding counterpart
-special-counterpart-of-spec =
+counterpart-below-80-spec =
     tie.close
     (tie.spec
     (λ c. single 0x40 0x20 _ refl (c .match .keys1))
@@ -36,11 +46,4 @@ special-counterpart-of-spec =
     (λ c. single 0x7D 0x27 _ refl (c .match .keys24))
     (λ c. single 0x7E 0x3D _ refl (c .match .keys25))
     (λ c. single 0x7F 0x22 _ refl (c .match .keys26))
-    (λ c. single 0xA1 0x7E _ refl (c .match .keys27))
-    (λ c. single 0xB0 0x5E _ refl (c .match .keys28))
-    (λ c. single 0xBA 0x5B _ refl (c .match .keys29))
-    (λ c. single 0xBB 0x5D _ refl (c .match .keys30))
-    (λ c. single 0xC0 0x7B _ refl (c .match .keys31))
-    (λ c. single 0xD0 0x7D _ refl (c .match .keys32))
-    (λ c. single 0xE0 0x5C _ refl (c .match .keys33))
-    (λ c. stands-for-none (c .before .args .byte) (omega arith) (c .before .pre) (c .match .rest)))
+    none)
