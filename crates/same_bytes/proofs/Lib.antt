@@ -3,3 +3,4 @@ pub mod Lines
 pub mod Stated
 pub mod Itself
 pub mod Again
+pub mod Copied
