@@ -5,7 +5,7 @@ use mathlib.Core.Bool.{Bool, true, false, _&&_, _||_, cond}
 use mathlib.Core.Path.{_≡_, refl, sym, ap, ap₂, _∙_}
 use mathlib.Core.List.{List, [], _∷_, _++_, map}
 use lib.Dec.{leb, eqb}
-use lib.ListN.{length, getD, take, drop, take-append-drop}
+use lib.ListN.{take, drop, take-append-drop}
 use lib.Seq.{drop-drop}
 use borrow.Author.Tests.{leb-true, eqb-true}
 use Rattle.text.specs.declared.character_set.CharacterSet.the-variants.{Ascii, Ebcdic}
@@ -15,7 +15,7 @@ use Rattle.text.specs.Characters.{isBlank}
 use Rattle.text.specs.DataTypes.{every}
 use Rattle.frame.specs.Frames.{part}
 use Rattle.layout.specs.Layout.{Line, Layout, Sized, sizedParts}
-use Rattle.layout.specs.Layouts.{layouts, bundleControl, imageViewData}
+use Rattle.layout.specs.Layouts.{layouts, bundleControl}
 use Rattle.judge.specs.Alone.{typeOf, statedSize}
 use Rattle.judge.proofs.Laws.{both-true}
 use Rattle.ascii_copy.specs.AsciiCopy.{translated, copiedAs, copiedParts, copiedBody}
@@ -23,8 +23,9 @@ use Rattle.ascii_copy.proofs.Characters.{isCharacters, blank-alike}
 use Rattle.ascii_copy.proofs.Fields.{every-alike, number-alike, take-translated, drop-translated}
 use Rattle.ascii_copy.proofs.Records.{length-copied, field-copied, type-copied, apart, halves, other-copied}
 use Rattle.file_as_records.specs.Framed.{Body, fieldOf}
-use Rattle.draft.specs.Values.{Piece, Values, isGiven, layoutAmong, layoutOf, unknownRecord, piece, fieldsGiven, partsGiven, valuesAt, valuesOfBody}
+use Rattle.draft.specs.Values.{Piece, isGiven, layoutAmong, layoutOf, unknownRecord, piece, fieldsGiven, partsGiven, valuesAt, valuesOfBody}
 
+-- a data type of characters
 copied-as : (t : DataType) (xs : List ℕ) → isCharacters t ≡ true → copiedAs t xs ≡ translated xs
 copied-as AB xs e = refl
 copied-as A xs e = refl

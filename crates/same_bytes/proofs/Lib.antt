@@ -4,3 +4,5 @@ pub mod Stated
 pub mod Itself
 pub mod Again
 pub mod Copied
+pub mod Found
+pub mod Either
