@@ -75,7 +75,7 @@ fn line_holds(set: CharacterSet, packed: u64, body: &[u8]) -> bool
 }
 
 // The number of the first field of the fixed part that does not hold, or 0.
-fn first_wrong<'a>(set: CharacterSet, lines: &'a [u64], body: &'a [u8]) -> usize
+pub fn first_wrong<'a>(set: CharacterSet, lines: &'a [u64], body: &'a [u8]) -> usize
     requires { ⌜ every (liesWithin (length (now body))) (now lines) ≡ true ⌝ }
     ensures { λ r. ⌜ r ≡ firstWrong set (linesFrom 1 (now (lines .entry))) (now (body .entry)) ⌝ }
 {
