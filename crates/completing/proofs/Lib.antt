@@ -1,2 +1,2 @@
 pub mod Origins
-pub mod Lines
+pub mod Laws

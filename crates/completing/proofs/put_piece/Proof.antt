@@ -6,7 +6,7 @@ use borrow.Author.Tests.{not-true, not-false}
 use lib.ListN.{length}
 use lib.Seq.{sets}
 use Rattle.frame.specs.Frames.{part}
-use Rattle.completing.proofs.Lines.{piece-as, piece-missing, piece-none, lies-in}
+use Rattle.completing.proofs.Laws.{piece-as, piece-missing, piece-none, lies-in}
 use Rattle.completing.proofs.put_piece.Statement.{statement}
 use Rattle.completing.proofs.put_piece.Tie as tie
 

@@ -15,6 +15,8 @@ use Rattle.text.specs.declared.data_types.DataType.{DataType}
 use Rattle.text.proofs.Laws.{rest}
 use Rattle.frame.specs.Frames.{part}
 use Rattle.copying.specs.Times.{times}
+use Rattle.decimal.specs.Digits.{digits}
+use Rattle.layout.specs.declared.packing.Origin.{Origin}
 use Rattle.layout.specs.Layout.{Line}
 use Rattle.layout.specs.Packing.{Block, lineOf, linesFrom, longIn, fieldsIn, partsIn, linesIn}
 use Rattle.standing.specs.declared.Standing.{Standing}
@@ -22,7 +24,7 @@ use Rattle.ascii_copy.specs.AsciiCopy.{translated}
 use Rattle.ascii_copy.proofs.Records.{length-as}
 use Rattle.draft.specs.Owned.{Owned}
 use Rattle.draft.specs.Values.{Piece, isGiven, inAscii, piece, fieldsGiven, layoutOf, valuesAt, valuesOfRow}
-use Rattle.draft.specs.Completed.{sizeOf, charactersOf, workedOut, fixedPart}
+use Rattle.draft.specs.Completed.{sizeOf, charactersOf, statement, leavesBlank, workedOut, fixedPart}
 use Rattle.draft.proofs.Shapes.{givenSizes, Shaped, shaped-row, piece-long, worked-out-long, fixed-long}
 use Rattle.draft_rows.proofs.Parts.{parts-in-fields, left-first}
 
@@ -64,6 +66,26 @@ module _ (set : CharacterSet) (text rows : List ℕ) (addenda : ℕ) (s : Standi
   ownOf l =
       cond (isGiven (l .origin)) (charactersOf (piece set text (l .dataType) (getD rows 1 0 + (l .first - 1)) (l .size)))
       (workedOut (valuesOfRow set text rows) addenda s l)
+
+  -- they are set down as its origin says
+  module _ (l : Line) {o : Origin} (is : o ≡ l .origin) where
+    pub line-given : {given : Bool} → given ≡ isGiven o → given ≡ true → {t : DataType} → t ≡ l .dataType → {place : ℕ} → place ≡ l .first - 1
+        → charactersOf (piece set text t (getD rows 1 0 + place) (l .size)) ≡ ownOf l
+    line-given g e same at = let q : isGiven (l .origin) ≡ true = ap isGiven (sym is) ∙ sym g ∙ e in rw (same, at, q)
+
+    module _ {given : Bool} (g : given ≡ isGiven o) (not : given ≡ false) where
+      told : isGiven (l .origin) ≡ false
+      told = ap isGiven (sym is) ∙ sym g ∙ not
+
+      module _ {blank : Bool} (b : blank ≡ leavesBlank (valuesOfRow set text rows) o) where
+        blank-told : leavesBlank (valuesOfRow set text rows) (l .origin) ≡ blank
+        blank-told = ap (leavesBlank (valuesOfRow set text rows)) (sym is) ∙ sym b
+
+        pub line-blank : blank ≡ true → times (l .size) 0x20 ≡ ownOf l
+        line-blank e = rw (told, blank-told, e)
+
+        pub line-worked-out : blank ≡ false → {n : ℕ} → n ≡ statement (valuesOfRow set text rows) addenda s (l .first) o → digits (l .size) n ≡ ownOf l
+        line-worked-out e states = rw (told, blank-told, e, states, is)
 
   -- those of lines, with the pieces that are given of them
   abbrev pub given : List Line → List Piece
@@ -172,8 +194,8 @@ module _ (set : CharacterSet) (text rows : List ℕ) (addenda : ℕ) (s : Standi
               room = omega (arith, roomy);
               shape = one .shape;
               onward =
-              ap (λ (l : List ℕ). sets l (place + this .size) (together (linesAt (i + 1)))) e
-              ∙ ap (λ (n : ℕ). sets (sets out place (ownOf this)) (place + n) (together (linesAt (i + 1)))) (sym (one .long))
-              ∙ sym (ap (sets out place) both ∙ sets-behind out place (ownOf this) (together (linesAt (i + 1))))
-              ∙ left .onward;
+                  ap (λ (l : List ℕ). sets l (place + this .size) (together (linesAt (i + 1)))) e
+                  ∙ ap (λ (n : ℕ). sets (sets out place (ownOf this)) (place + n) (together (linesAt (i + 1)))) (sym (one .long))
+                  ∙ sym (ap (sets out place) both ∙ sets-behind out place (ownOf this) (together (linesAt (i + 1))))
+                  ∙ left .onward;
             }
