@@ -159,14 +159,21 @@ again (b ∷ bs) past older opened g =
     (again bs (b ∷ past) (held-here past older b (g .first), held-older past older b (g .first))
     (all-opened Ascii b past opened (g .first .follows)) (g .rest))
 
+-- all the records of a file
+pub all-again : (bs : List Body) → GoodAll Ascii [] bs
+    → (made (map (valuesOfBody Ascii) bs) ≡ framed bs)
+    × (answerFrom (map (valuesOfBody Ascii) bs) [] [] ≡ Written (length (framed bs)) (totalsAfter Ascii (onto bs [])))
+unfolding made
+all-again bs g =
+    let whole = again bs [] tt (none-opened Ascii) g in
+    let bytes = before-onto bs [] in
+    (whole .same ∙ bytes, whole .answer ∙ ap (λ (x : List ℕ). Written (length x) (totalsAfter Ascii (onto bs []))) bytes)
+
 -- an accepted ASCII file, given as its values, is made again byte for byte
 pub same-in-ascii : (file : List ℕ) (x : File) → Arranges file x → setOf file ≡ Ascii
     → (made (valuesOf Ascii x) ≡ file) × (answerFrom (valuesOf Ascii x) [] [] ≡ Written (length file) (totals Ascii x))
-unfolding made valuesOf
+unfolding valuesOf
 same-in-ascii file x a e =
     let sound : Sound Ascii x = subst (λ (set : CharacterSet). Sound set x) e (a .sound) in
-    let whole = again (records x) [] tt (none-opened Ascii) (sound-good Ascii x sound) in
-    let bytes : before (onto (records x) []) ≡ file = before-onto (records x) [] ∙ a .bytes in (
-      whole .same ∙ bytes,
-      whole .answer ∙ ap₂ Written (ap length bytes) (totals-of Ascii x (sound-typed Ascii x sound) sound),
-    )
+    let whole = all-again (records x) (sound-good Ascii x sound) in
+    (whole .0 ∙ a .bytes, whole .1 ∙ ap₂ Written (ap length (a .bytes)) (totals-of Ascii x (sound-typed Ascii x sound) sound))
