@@ -1,5 +1,5 @@
 -- What is promised of the outcome and the buffer, and how the writer's steps come to them. Assumes nothing.
-use Prim.Native.Nat.{ℕ, _≤_, _<_}
+use Prim.Native.Nat.{ℕ, _≤_, _<_, min}
 use mathlib.Core.Bool.{Bool, true, false}
 use mathlib.Core.List.{List, [], _++_}
 use mathlib.Core.Path.{_≡_, refl, sym, ap, _∙_, subst}
@@ -12,15 +12,17 @@ use Rattle.text.specs.CharacterSet.{setOf}
 use Rattle.frame.specs.Unless.{unless}
 use Rattle.arrangement.specs.Tree.{File}
 use Rattle.arrangement.specs.Arranged.{Arranges}
+use Rattle.passes.specs.declared.Fault.{Fault}
 use Rattle.passes.specs.declared.Fault.the-variants.{Size, Room}
 use Rattle.passes.specs.declared.Totals.{Totals}
 use Rattle.draft.specs.declared.Outcome.{Outcome}
 use Rattle.draft.specs.declared.Outcome.the-variants.{Written, Refused}
 use Rattle.draft.specs.Values.{Values, valuesOfDraft, valuesOf}
-use Rattle.draft.specs.Drafted.{made, answerFrom, inRoom, outcomeOf, bufferAfter, bufferOf}
+use Rattle.draft.specs.Drafted.{made, offsetOf, answerFrom, inRoom, outcomeOf, bufferAfter, bufferOf}
 use Rattle.draft.specs.Promises.{ReadBack, MadeAgain, Promised}
 use Rattle.draft.proofs.Shapes.{shaped-draft}
 use Rattle.made_is_read.proofs.Whole.{accepted, as-the-reader}
+use Rattle.same_bytes.proofs.Either.{made-again}
 use Rattle.values_back.proofs.Whole.{read-back-whole}
 
 -- an outcome that is written within the room, and the answer whatever the room
@@ -28,32 +30,33 @@ record Kept (n : ℕ) (t : Totals) (answer : Outcome) : Type 0 where
   is : answer ≡ Written n t
   small : n ≤ 268_435_456
 
+never : {fault : Fault} {place offset n : ℕ} {t : Totals} {A : Type 0} → Refused fault place offset ≡ Written n t → A
+never e = let z : _≡_ {A = ℕ} 0 1 = cc in absurd (omega arith)
+
 kept : (room n : ℕ) (t : Totals) (answer : Outcome) → inRoom room answer ≡ Written n t → Kept n t answer
 kept room n t (Written m u) e = by (leb m 268_435_456) refl (leb m room) e
   where
     by : (b : Bool) → leb m 268_435_456 ≡ b → (c : Bool) → unless b (Refused Size 0 0) (unless c (Refused Room m 0) (Written m u)) ≡ Written n t
         → Kept n t (Written m u)
     by true p true q = record { is = q; small = let z : m ≡ n = cc in omega (arith, leb-true m 268_435_456 p) }
-    by true p false q = record { is = cc; small = cc }
-    by false p c q = record { is = cc; small = cc }
-kept room n t (Refused fault place offset) e = record { is = e; small = cc }
+    by true p false q = never q
+    by false p c q = never q
+kept room n t (Refused fault place offset) e = never e
 
-module _ (made-again : (file : List ℕ) (x : File) → Arranges file x → (vs : List Values) → vs ≡ valuesOf (setOf file) x → (out : List ℕ)
-      → MadeAgain file x (length out) (outcomeOf vs (length out)) (bufferOf vs out))
-    (text draft out : List ℕ) where
-  vs : List Values
+module _ (text draft out : List ℕ) where
+  abbrev vs : List Values
   vs = valuesOfDraft text draft
 
   -- the buffer begins with the file
   file-first : (n : ℕ) (t : Totals) → outcomeOf vs (length out) ≡ Written n t → take n (bufferOf vs out) ≡ made vs
-  unfolding bufferOf outcomeOf vs
+  unfolding bufferOf outcomeOf
   file-first n t e =
       let k = kept (length out) n t (answerFrom vs [] []) e in
       let long = accepted vs (shaped-draft text draft) (k .is) (k .small) in
       ap (λ (o : Outcome). take n (bufferAfter o (made vs) out)) e ∙ take-at (made vs) (drop n out) n (sym (long .0))
 
   pub promised : Promised text draft out (outcomeOf vs (length out)) (bufferOf vs out)
-  unfolding outcomeOf vs
+  unfolding outcomeOf
   promised =
       record {
         accepted = λ n t e.
@@ -63,3 +66,51 @@ module _ (made-again : (file : List ℕ) (x : File) → Arranges file x → (vs 
         values-alone = λ text′ draft′ e. (ap (λ (ws : List Values). outcomeOf ws (length out)) e, ap (λ (ws : List Values). bufferOf ws out) e);
         as-the-reader = λ fit some small. ap (inRoom (length out)) (as-the-reader vs (shaped-draft text draft) fit some small);
       }
+
+counted : (n m : ℕ) {b : ℕ} → b ≡ min n m → b < m → n ≡ b
+counted n m e h = omega arith
+
+-- the answer whatever the room, and what becomes of it in a buffer
+module _ (text draft out : List ℕ) where
+  abbrev ws : List Values
+  ws = valuesOfDraft text draft
+
+  pub refused-settles : {fault : Fault} {place offset : ℕ} → answerFrom ws [] [] ≡ Refused fault place offset
+      → (Refused fault place offset ≡ outcomeOf ws (length out)) × (out ≡ bufferOf ws out)
+  unfolding outcomeOf bufferOf
+  refused-settles e = (sym (ap (inRoom (length out)) e), sym (ap (λ (a : Outcome). bufferAfter (inRoom (length out) a) (made ws) out) e))
+
+  -- bytes as 64 bits count them
+  module _ (n bytes : ℕ) (t : Totals) (e : answerFrom ws [] [] ≡ Written n t) (b : bytes ≡ offsetOf n) where
+    in-room : outcomeOf ws (length out) ≡ inRoom (length out) (Written n t)
+    unfolding outcomeOf
+    in-room = ap (inRoom (length out)) e
+
+    in-buffer : (a : Outcome) → inRoom (length out) (Written n t) ≡ a → bufferAfter a (made ws) out ≡ bufferOf ws out
+    unfolding bufferOf
+    in-buffer a q = sym (ap (λ (o : Outcome). bufferAfter o (made ws) out) (in-room ∙ q))
+
+    pub large-settles : 268_435_456 < bytes → (Refused Size 0 0 ≡ outcomeOf ws (length out)) × (out ≡ bufferOf ws out)
+    large-settles h =
+        let q : inRoom (length out) (Written n t) ≡ Refused Size 0 0 = rw (lt-leb n 268_435_456 (omega arith)) in
+        (sym (in-room ∙ q), in-buffer (Refused Size 0 0) q)
+
+    module _ (small : bytes ≤ 268_435_456) where
+      all-bytes : n ≡ bytes
+      all-bytes = counted n 0xFFFF_FFFF_FFFF_FFFF b (omega arith)
+
+      pub short-settles : length out < bytes → (Refused Room bytes 0 ≡ outcomeOf ws (length out)) × (out ≡ bufferOf ws out)
+      short-settles h =
+          let q : inRoom (length out) (Written n t) ≡ Refused Room bytes 0 =
+          rw (all-bytes, le-leb bytes 268_435_456 small, lt-leb bytes (length out) h) in
+          (sym (in-room ∙ q), in-buffer (Refused Room bytes 0) q)
+
+      pub written-settles : bytes ≤ length out
+          → (Written bytes t ≡ outcomeOf ws (length out)) × ((after : List ℕ) → after ≡ made ws ++ drop (length (made ws)) out → after ≡ bufferOf ws out)
+      written-settles h =
+          let q : inRoom (length out) (Written n t) ≡ Written bytes t = rw (all-bytes, le-leb bytes 268_435_456 small, le-leb bytes (length out) h) in
+          let long : n ≡ length (made ws) = accepted ws (shaped-draft text draft) e (omega (arith, all-bytes)) .0 in (
+            sym (in-room ∙ q),
+            λ after r.
+            r ∙ ap (λ (k : ℕ). made ws ++ drop k out) (sym long ∙ all-bytes) ∙ in-buffer (Written bytes t) q,
+          )
