@@ -37,13 +37,7 @@ fn size_of_part<'a>(set: CharacterSet, own: &'a [u64], i: usize, body: &'a [u8])
 }
 
 // The sizes that a record states for its parts, in seven numbers from a place of the draft on, 0 behind the last.
-fn put_sizes<'a>(
-    set: CharacterSet,
-    own: &'a [u64],
-    body: &'a [u8],
-    draft: &mut [u64],
-    base: usize,
-)
+fn put_sizes<'a>(set: CharacterSet, own: &'a [u64], body: &'a [u8], draft: &mut [u64], base: usize)
     requires { ⌜ (isWhole (now own) ≡ true) × (base + 7 ≤ length (now draft)) ⌝ }
     ensures { λ _. ⌜ now (draft .exit) ≡ sets (now (draft .entry)) base (sevenSizes set (partsOwn (now (own .entry))) (now (body .entry))) ⌝ }
 {
