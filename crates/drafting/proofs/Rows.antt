@@ -45,7 +45,7 @@ row-put set numbers body start base draft t flag own after p type blank numbered
     ∙ rw (blank, numbered, parts-own numbers t p, type) (simp (add-one, add-two, add-three))
 
 module _ (set : CharacterSet) (file : List ℕ) (at : ℕ) where
-  rows-end : (n : ℕ) → length file ≤ at → rowsFrom set n file at ≡ []
+  pub rows-end : (n : ℕ) → length file ≤ at → rowsFrom set n file at ≡ []
   unfolding rowsFrom
   rows-end zero h = refl
   rows-end (suc n) h = rw (le-leb (length file) at h)
