@@ -1,5 +1,5 @@
 -- The rows of an arranged file give its own values, the file itself being the text. Assumes nothing.
-use Prim.Native.Nat.{ℕ, zero, suc, _+_, _-_, _*_, _/_, _≤_, _<_}
+use Prim.Native.Nat.{ℕ, zero, suc, _+_, _-_, _*_, _/_, _≤_}
 use native.Mathlib.Nat.{zero-add, add-assoc, not-suc-le-zero, le-of-suc-le-suc}
 use native.Mathlib.Omega.{arith}
 use mathlib.Core.Bool.{Bool, true, false, _&&_, _||_, cond}
@@ -21,7 +21,7 @@ use Rattle.judge.specs.declared.Judged.the-variants.{Sound}
 use Rattle.judge.specs.Alone.{typeOf, statedSize, statedSizes, alone}
 use Rattle.judge.proofs.Laws.{both-true, sound-fills}
 use Rattle.standing.specs.History.{one}
-use Rattle.file_as_records.specs.Framed.{Body, lengthField, framed, fieldOf}
+use Rattle.file_as_records.specs.Framed.{Body, framed, fieldOf}
 use Rattle.file_as_records.proofs.Good.{GoodAll}
 use Rattle.file_as_records.proofs.Held.{HeldAt, within, part-held}
 use Rattle.file_as_records.proofs.ReadThrough.{long, body-is, part-is, rest-is, frame-is}

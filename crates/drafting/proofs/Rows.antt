@@ -17,7 +17,7 @@ use Rattle.frame.specs.Frames.{part, frameAt}
 use Rattle.frame.specs.declared.Frame.{Frame}
 use Rattle.frame.specs.declared.Frame.the-variants.{Cut, Whole}
 use Rattle.frame.proofs.Laws.{whole-within, whole-start}
-use Rattle.layout.specs.Layout.{Sized, sizedParts}
+use Rattle.layout.specs.Layout.{sizedParts}
 use Rattle.layout.specs.Layouts.{bundleControl}
 use Rattle.layout.specs.Packing.{ownIn, Packed}
 use Rattle.judge.specs.Alone.{typeOf}

@@ -11,11 +11,10 @@ use lib.Seq.{getD-take, getD-drop}
 use Rattle.text.specs.declared.character_set.CharacterSet.{CharacterSet}
 use Rattle.layout.specs.Layout.{Layout, Sized, sizedParts}
 use Rattle.layout.specs.Layouts.{layouts}
-use Rattle.layout.specs.Packing.{Block, blockOf, blockIn, blocksIn, typeIn, fieldsIn, partsIn, linesIn, sizedOf, sizedFrom, isWhole, ownIn, Packed}
+use Rattle.layout.specs.Packing.{Block, blockOf, blockIn, blocksIn, fieldsIn, partsIn, linesIn, sizedOf, sizedFrom, isWhole, ownIn, Packed}
 use Rattle.judge.specs.Alone.{statedSize}
 use Rattle.judge.proofs.Dispatch.{whole}
 use Rattle.copying.specs.Times.{times}
-use Rattle.copying.proofs.Laws.{length-times}
 use Rattle.draft.specs.Values.{layoutAmong, layoutOf}
 use Rattle.drafting.specs.ByNumbers.{sevenSizes, partsOwn}
 

@@ -1,10 +1,7 @@
-use mathlib.Core.Path.{_≡_, sym, ap, _∙_}
-use Prim.Native.Nat.{ℕ, _+_, _-_, _≤_}
+use mathlib.Core.Path.{_∙_}
 use native.Mathlib.Omega.{arith}
-use lib.ListN.{length, getD}
+use lib.ListN.{length}
 use denote.Ref.{now}
-use Rattle.layout.specs.Packing.{sizedOf}
-use Rattle.judge.specs.Alone.{statedSize}
 use Rattle.judge.proofs.Dispatch.{Whole, whole, not-none}
 use Rattle.drafting.proofs.Sizes.{size-none, size-past, size-there}
 use borrow.Author.Needs.{needs}
