@@ -4,7 +4,7 @@ use mathlib.Core.Bool.{_&&_, cond}
 use mathlib.Core.List.{List, [], _∷_, _++_, map}
 use mathlib.Core.Path.{_≡_}
 use lib.Dec.{leb, eqb}
-use lib.ListN.{length, take, drop}
+use lib.ListN.{length, take}
 use Rattle.text.specs.CharacterSet.{setOf}
 use Rattle.text.specs.declared.character_set.CharacterSet.{CharacterSet}
 use Rattle.text.specs.Characters.{isBlank}
@@ -18,7 +18,7 @@ use Rattle.judge.specs.Alone.{typeOf, statedSize}
 use Rattle.standing.specs.History.{one}
 use Rattle.passes.specs.declared.Totals.{Totals}
 use Rattle.passes.specs.declared.Answer.{Answer}
-use Rattle.passes.specs.declared.Answer.the-variants.{Accepted, Refused}
+use Rattle.passes.specs.declared.Answer.the-variants.{Accepted}
 use Rattle.passes.specs.Reading.{surveyed, inRoom, tableAfter}
 use Rattle.file_as_records.specs.Framed.{fieldOf}
 use Rattle.arrangement.specs.Tree.{File}

@@ -1,1 +1,2 @@
+pub mod ByNumbers
 pub mod DraftOf

@@ -90,7 +90,7 @@ pub fn first_wrong<'a>(set: CharacterSet, lines: &'a [u64], body: &'a [u8]) -> u
 }
 
 // The size that the record states for a part.
-fn stated_size(set: CharacterSet, packed: u64, body: &[u8]) -> u64
+pub fn stated_size(set: CharacterSet, packed: u64, body: &[u8]) -> u64
     ensures { λ r. ⌜ ((n : ℕ) → r ≡ statedSize set (sizedOf n packed) (now (body .entry))) ⌝ }
 {
     let start = layout::place_of(packed / 0x1_0000_0000_0000);
