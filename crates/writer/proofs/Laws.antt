@@ -112,5 +112,5 @@ module _ (text draft out : List ℕ) where
           let long : n ≡ length (made ws) = accepted ws (shaped-draft text draft) e (omega (arith, all-bytes)) .0 in (
             sym (in-room ∙ q),
             λ after r.
-            r ∙ ap (λ (k : ℕ). made ws ++ drop k out) (sym long ∙ all-bytes) ∙ in-buffer (Written bytes t) q,
+                r ∙ ap (λ (k : ℕ). made ws ++ drop k out) (sym long ∙ all-bytes) ∙ in-buffer (Written bytes t) q,
           )
