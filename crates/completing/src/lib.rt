@@ -15,21 +15,28 @@ ghost use Rattle.text.specs.declared.character_set.CharacterSet.{CharacterSet};
 ghost use Rattle.layout.specs.Packing.{lineOf};
 ghost use Rattle.standing.specs.History.{isBofdAddendum};
 ghost use Rattle.standing.specs.Standing.{Roomy};
+ghost use Rattle.ascii_copy.specs.AsciiCopy.{copiedAs, translated};
 ghost use Rattle.draft.specs.Owned.{Owned};
-ghost use Rattle.draft.specs.Values.{isGiven, layoutOf, piece, valuesOfRow};
+ghost use Rattle.draft.specs.Values.{isGiven, inAscii, layoutOf, piece, valuesOfRow};
 ghost use Rattle.draft.specs.Completed.{charactersOf, sumsFor, statement, workedOut, fixedPart};
 
-fn is_binary(data_type: DataType) -> bool {
+// Binary characters are never translated.
+fn is_binary(data_type: DataType) -> bool
+    ensures { λ r. ⌜ ((xs : List ℕ) → copiedAs data_type xs ≡ cond r xs (translated xs)) ⌝ }
+{
     match data_type {
         DataType::Binary => true,
         _ => false,
     }
 }
 
-fn is_ascii(set: CharacterSet) -> bool {
+// Whether characters that are given are set down as they are.
+fn is_kept(set: CharacterSet, data_type: DataType) -> bool
+    ensures { λ r. ⌜ ((xs : List ℕ) → inAscii set data_type xs ≡ cond r xs (translated xs)) ⌝ }
+{
     match set {
         CharacterSet::Ascii => true,
-        CharacterSet::Ebcdic => false,
+        CharacterSet::Ebcdic => is_binary(data_type),
     }
 }
 
@@ -55,7 +62,7 @@ pub fn put_piece(
         return;
     }
     let from = start + place;
-    if is_ascii(set) | is_binary(data_type) {
+    if is_kept(set, data_type) {
         copying::copy_bytes(text, from, size, out, at);
         return;
     }
@@ -113,12 +120,12 @@ fn statement<'a>(
 }
 
 // One field of the fixed part.
-fn put_line(
+fn put_line<'a>(
     set: CharacterSet,
-    own: &[u64],
+    own: &'a [u64],
     packed: u64,
     text: &[u8],
-    rows: &[u64],
+    rows: &'a [u64],
     addenda: u64,
     s: Standing,
     out: &mut [u8],
@@ -158,11 +165,11 @@ fn put_line(
 }
 
 // The fixed part, from a place on, and how long it is.
-pub fn complete(
+pub fn complete<'a>(
     set: CharacterSet,
-    own: &[u64],
+    own: &'a [u64],
     text: &[u8],
-    rows: &[u64],
+    rows: &'a [u64],
     addenda: u64,
     s: Standing,
     out: &mut [u8],
