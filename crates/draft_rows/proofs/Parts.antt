@@ -61,7 +61,7 @@ module _ (xs : List ℕ) where
   length-in-ascii Ebcdic NBMcdo = length-map xs _
   length-in-ascii Ebcdic NBMU = length-map xs _
 
-piece-size : (set : CharacterSet) (text : List ℕ) (t : DataType) (start size : ℕ) → sizeOf (piece set text t start size) ≡ size
+pub piece-size : (set : CharacterSet) (text : List ℕ) (t : DataType) (start size : ℕ) → sizeOf (piece set text t start size) ≡ size
 piece-size set text t start size = by-test (eqb size 0) (leb (start + size) (length text)) refl refl
   where
     there : size ≤ length text - start → length (inAscii set t (take size (drop start text))) ≡ size

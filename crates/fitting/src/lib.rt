@@ -1,6 +1,5 @@
 // What of a draft's record cannot be had or breaks its rule. `rows` are the draft's numbers from the record's row on, `own` the numbers of its
 // layout.
-use layout::Origin;
 use text::CharacterSet;
 use text::DataType;
 ghost use mathlib.Core.Bool.{_&&_, cond};
@@ -36,15 +35,11 @@ fn line_fits<'a>(own: &'a [u64], packed: u64, text: &'a [u8], rows: &'a [u64], a
     let origin = layout::origin_of(packed / 0x2_0000_0000 % 0x80);
     let first = packed / 0x1_0000_0000_0000;
     let size = (packed / 0x100_0000_0000 % 0x100) as usize;
-    match origin {
-        Origin::Given => {
-            draft_rows::lies_within(text, rows[1] as usize, layout::place_of(first), size)
-        }
-        _ => decimal::fits_in(
-            size,
-            draft_rows::own_statement(own, rows, addenda, first, origin),
-        ),
+    if draft_rows::is_given(origin) {
+        return draft_rows::lies_within(text, rows[1] as usize, layout::place_of(first), size);
     }
+    let stated = draft_rows::own_statement(own, rows, addenda, first, origin);
+    decimal::fits_in(size, stated)
 }
 
 // The lowest field that does not lie in the text or is outgrown, or 0.
@@ -144,11 +139,12 @@ pub fn size_of<'a>(own: &'a [u64], rows: &'a [u64]) -> usize
     ensures { λ r. ⌜ ((set : CharacterSet) (text : List ℕ) → r ≡ min (layoutOf (getD (now (rows .entry)) 0 0) .fixedLength + allSizes (valuesOfRow set text (now (rows .entry)) .parts)) 0xFFFF_FFFF_FFFF_FFFF) ⌝ }
 {
     let header = own[0];
-    let parts = layout::parts_in(header);
+    let end = layout::fields_in(header) + 1;
+    let parts = end - layout::parts_in(header);
     let mut size = layout::length_in(header);
-    let mut i = 0;
-    while i < parts {
-        size = plus(size, rows[3 + i] as usize);
+    let mut i = parts;
+    while i < end {
+        size = plus(size, rows[3 + (i - parts)] as usize);
         i += 1;
     }
     size
