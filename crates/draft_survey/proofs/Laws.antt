@@ -158,8 +158,8 @@ module _ {set : CharacterSet} {text rows sheet : List ℕ} {s : Standing} {adden
   unfolding valuesOfRow valuesAt
   long-as = fixed-long (valuesOfRow set text rows) addenda s (shaped-row set text rows) ∙ sym (f .long)
 
-  within-as : at + 4 + size ≤ 800
-  within-as = omega (arith, row-room s (getD rows 0 0) at (f .may) (f .slot), f .long)
+  pub row-fits : at + 4 + size ≤ 800
+  row-fits = omega (arith, row-room s (getD rows 0 0) at (f .may) (f .slot), f .long)
 
   stored-as : after ≡ sets sheet (at + 4) (fixedOn (valuesOfRow set text rows) addenda s)
   unfolding valuesOfRow valuesAt
@@ -168,7 +168,7 @@ module _ {set : CharacterSet} {text rows sheet : List ℕ} {s : Standing} {adden
   pub row-within : at + 4 + size ≤ length after
   row-within =
       let long : length after ≡ length sheet = ap length stored-as ∙ length-sets sheet (at + 4) (fixedOn (valuesOfRow set text rows) addenda s) in
-      omega (arith, within-as, f .room)
+      omega (arith, row-fits, f .room)
 
   pub row-front : take (at + 4 + size - (at + 4)) (drop (at + 4) after) ≡ fixedOn (valuesOfRow set text rows) addenda s
   row-front =
@@ -176,7 +176,7 @@ module _ {set : CharacterSet} {text rows sheet : List ℕ} {s : Standing} {adden
       let width : at + 4 + size - (at + 4) ≡ length fixed = omega (arith, long-as) in
       ap (λ (n : ℕ). take n (drop (at + 4) after)) width
       ∙ ap (λ (xs : List ℕ). take (length fixed) (drop (at + 4) xs)) stored-as
-      ∙ part-stored sheet (at + 4) fixed (omega (arith, within-as, f .room, long-as))
+      ∙ part-stored sheet (at + 4) fixed (omega (arith, row-fits, f .room, long-as))
 
   pub row-long : length (take (at + 4 + size - (at + 4)) (drop (at + 4) after)) ≡ layoutOf (getD rows 0 0) .fixedLength
   row-long = ap length row-front ∙ long-as ∙ f .long
@@ -250,3 +250,159 @@ module _ (text draft : List ℕ) where
   pub set-told : (b : Bool) → (eqb (getD text (getD draft 1 0) 0) 0xF0 && eqb (getD text (getD draft 1 0 + 1) 0) 0xF1) ≡ b → cond b Ebcdic Ascii ≡ setOfText text draft
   unfolding setOfText
   set-told b e = rw e
+
+-- figures that differ in the places of a 52's records alone are as roomy
+roomy-placed : (u : Standing) (item header heading : ℕ) → Roomy u → Roomy (placed u item header heading)
+roomy-placed u item header heading r =
+    record {
+      records = r .records;
+      letters = r .letters;
+      bundles = r .bundles;
+      opened = r .opened;
+      items = r .items;
+      ordinal = r .ordinal;
+      whole = r .whole;
+      letter = r .letter;
+      bundle = r .bundle;
+      micr = r .micr;
+      addenda = r .addenda;
+      bofd = r .bofd;
+      endorser = r .endorser;
+      shown = r .shown;
+    }
+
+sheet-roomy : {file : List ℕ} {past : List Entry} {sheet : List ℕ} {s : Standing} → OnSheet file past sheet s → length past ≤ 0x2000_0000_0000_0000
+    → Roomy s × (cappedFigures s ≡ s)
+sheet-roomy {file} {past} {s = s} o h = (
+  subst Roomy (sym (ap (λ (u : Standing). placed u (s .item) (s .header) (s .heading)) (o .figures)))
+      (roomy-placed (cappedFigures (standing Ascii file past)) (s .item) (s .header) (s .heading) (roomy Ascii file past h)),
+  figures-stopped s (standing Ascii file past) (ap (λ (u : Standing). u .whole) (o .figures)) (ap (λ (u : Standing). u .letter) (o .figures))
+      (ap (λ (u : Standing). u .bundle) (o .figures)) (ap (λ (u : Standing). u .micr) (o .figures)),
+)
+
+-- what is found of the first of several rows
+abbrev pub valuesFrom : CharacterSet → List ℕ → List ℕ → List Values
+valuesFrom set text rows = valuesOfRows set text (length rows / 10) rows
+
+abbrev pub rowsBehind : CharacterSet → List ℕ → List ℕ → List Values
+rowsBehind set text rows = valuesOfRows set text (length rows / 10 - 1) (drop 10 rows)
+
+module _ (set : CharacterSet) (text rows : List ℕ) (some : 10 ≤ length rows) where
+  pub row-count : length rows / 10 ≡ length rows / 10 - 1 + 1
+  row-count = omega arith
+
+  rows-first : valuesFrom set text rows ≡ valuesOfRow set text rows ∷ rowsBehind set text rows
+  unfolding valuesOfRows
+  rows-first =
+      let fuel : length rows / 10 ≡ suc (length rows / 10 - 1) = omega arith in
+      ap (λ (n : ℕ). valuesOfRows set text n rows) fuel
+
+  rows-rest : rowsBehind set text rows ≡ valuesFrom set text (drop 10 rows)
+  rows-rest =
+      let fuel : length rows / 10 - 1 ≡ length (drop 10 rows) / 10 = omega (arith, length-drop 10 rows) in
+      ap (λ (n : ℕ). valuesOfRows set text n (drop 10 rows)) fuel
+
+-- what a turn that goes on has found
+good-turn : (v : Values) (vs : List Values) (file : List ℕ) (past : List Entry) (s : Standing) {k : ℕ} → turnOfRow v vs file past s ≡ Good k
+    → (k ≡ v .type) × (isCarried k ≡ true)
+unfolding turnOfRow
+good-turn v vs file past s e =
+    let t = v .type in
+    let field = fieldFault v (addendaBehind t vs) s in
+    let other = firstUnfitPart (sizedParts (layoutOf t)) (v .parts) in
+    let placed = through (mayFollow (s .inside) (s .last) (s .present) t) Place _ e in
+    let lines = through (eqb field 0) (Field field) _ (placed .1) in
+    let parts = through (eqb other 0) (Field other) _ (lines .1) in
+    let same = agreed-type (fileWith v vs file past) s (length file) t (parts .1) in
+    (same, ap isCarried same ∙ follows-carried (s .inside) (s .last) (s .present) t (placed .0))
+
+-- with some of the rows done: the rest gives the answer from here, and the sheet stands for the file so far
+pub record Surveyed (set : CharacterSet) (text draft sheet : List ℕ) (s : Standing) (bytes at : ℕ) : Type 0 where
+  pub file : List ℕ
+  pub past : List Entry
+  pub stands : OnSheet file past sheet s
+  pub size : bytes ≡ offsetOf (length file)
+  pub place : at ≡ length past * 10
+  pub within : at ≤ length draft
+  pub limit : length draft < 0x1_0000_0000_0000_0000
+  pub same : cappedOutcome (answerFrom (valuesOfDraft text draft) [] []) ≡ cappedOutcome (answerFrom (valuesFrom set text (drop at draft)) file past)
+
+pub survey-first : (set : CharacterSet) (text draft sheet : List ℕ) (s : Standing) → (10 ≤ length draft → set ≡ setOfText text draft)
+    → length draft < 0x1_0000_0000_0000_0000 → length sheet ≡ 800 → s ≡ cappedFigures (standing Ascii [] []) → Surveyed set text draft sheet s 0 0
+unfolding valuesOfDraft valuesOfRows
+survey-first set text draft sheet s told limit long e = record {
+  file = [];
+  past = [];
+  stands = sheet-starts sheet long s e;
+  size = refl;
+  place = refl;
+  within = omega arith;
+  limit = limit;
+  same = ap (λ (vs : List Values). cappedOutcome (answerFrom vs [] [])) (by (leb 10 (length draft)) refl);
+}
+  where
+    by : (b : Bool) → leb 10 (length draft) ≡ b → valuesOfRows (setOfText text draft) text (length draft / 10) draft ≡ valuesOfRows set text (length draft / 10) draft
+    by true q = rw (told (leb-true 10 (length draft) q))
+    by false q = let none : length draft / 10 ≡ 0 = omega (arith, leb-false 10 (length draft) q) in rw none
+
+module _ {set : CharacterSet} {text draft sheet : List ℕ} {s : Standing} {bytes at : ℕ} (v : Surveyed set text draft sheet s bytes at) where
+  pub survey-roomy : Roomy s × (cappedFigures s ≡ s)
+  survey-roomy = sheet-roomy (v .stands) (omega (arith, v .place, v .within, v .limit))
+
+  pub survey-end : length draft - at < 10
+      → cappedOutcome (answerFrom (valuesOfDraft text draft) [] []) ≡ cappedOutcome (rowsEnded (v .file) (v .past) (standing Ascii (v .file) (v .past)))
+  unfolding valuesOfRows answerFrom
+  survey-end h =
+      let none : length (drop at draft) / 10 ≡ 0 = omega (arith, length-drop at draft) in
+      v .same ∙ rw none
+
+  module _ (rows : List ℕ) (here : rows ≡ drop at draft) (some : 10 ≤ length rows) (turn : Turn) (after : List ℕ)
+      (judged : JudgedRow (valuesOfRow set text rows) (rowsBehind set text rows) (v .file) (v .past) s turn after) where
+    same-here : cappedOutcome (answerFrom (valuesOfDraft text draft) [] [])
+        ≡ cappedOutcome (answerFrom (valuesOfRow set text rows ∷ rowsBehind set text rows) (v .file) (v .past))
+    same-here =
+        v .same
+        ∙ ap (λ (xs : List ℕ). cappedOutcome (answerFrom (valuesFrom set text xs) (v .file) (v .past))) (sym here)
+        ∙ ap (λ (vs : List Values). cappedOutcome (answerFrom vs (v .file) (v .past))) (rows-first set text rows some)
+
+    pub survey-stop : (fault : Fault) → turn ≡ Faulty fault
+        → Refused fault (s .records .0 + 1) bytes ≡ cappedOutcome (answerFrom (valuesOfDraft text draft) [] [])
+    unfolding answerFrom
+    survey-stop fault e =
+        rw (v .size, records-are (v .stands) bytes (v .size)) (sym (same-here ∙ rw (sym (judged .found) ∙ e)))
+
+    pub survey-type : (k : ℕ) → turn ≡ Good k → (k ≡ getD rows 0 0) × (isCarried (getD rows 0 0) ≡ true)
+    unfolding valuesOfRow valuesAt
+    survey-type k e =
+        let good = good-turn (valuesOfRow set text rows) (rowsBehind set text rows) (v .file) (v .past) (standing Ascii (v .file) (v .past)) (sym (judged .found) ∙ e) in
+        (good .0, ap isCarried (sym (good .0)) ∙ good .1)
+
+    pub survey-on : (k at′ : ℕ) (r : Standing) (bytes′ : ℕ) → turn ≡ Good k → at′ ≡ slotOf k → r ≡ cappedFigures (onward Ascii after s k at′)
+        → bytes′ ≡ min (bytes + min (4 + min (layoutOf (getD rows 0 0) .fixedLength + allSizes (valuesOfRow set text rows .parts)) 0xFFFF_FFFF_FFFF_FFFF) 0xFFFF_FFFF_FFFF_FFFF) 0xFFFF_FFFF_FFFF_FFFF
+        → Surveyed set text draft after r bytes′ (at + 10)
+    unfolding valuesOfRow valuesAt answerFrom
+    survey-on k at′ r bytes′ e slot m size =
+        let u = valuesOfRow set text rows in
+        let vs = rowsBehind set text rows in
+        let body = bodyOf u vs (v .file) (v .past) in
+        let rest : drop 10 rows ≡ drop (at + 10) draft = ap (drop 10) here ∙ drop-drop 10 at draft in
+        record {
+          file = fileWith u vs (v .file) (v .past);
+          past = pastWith u vs (v .file) (v .past);
+          stands = rw (m, slot) (judged .moves k e);
+          size = omega (
+            arith,
+            size,
+            v .size,
+            record-long (v .file) body,
+            completed-long u (addendaBehind (u .type) vs) (standing Ascii (v .file) (v .past)) (shaped-row set text rows),
+          );
+          place = omega (arith, v .place);
+          within = omega (arith, ap length here, length-drop at draft, v .within);
+          limit = v .limit;
+          same =
+              same-here
+              ∙ rw (sym (judged .found) ∙ e)
+              (ap (λ (ws : List Values). cappedOutcome (answerFrom ws (fileWith u vs (v .file) (v .past)) (pastWith u vs (v .file) (v .past))))
+              (rows-rest set text rows some ∙ ap (valuesFrom set text) rest));
+        }

@@ -1,4 +1,8 @@
+use native.Mathlib.Omega.{arith}
+use lib.ListN.{length}
+use denote.Ref.{now}
 use borrow.Author.Needs.{needs}
+use Rattle.draft_survey.proofs.Laws.{set-beyond, set-told}
 use Rattle.draft_survey.proofs.set_of_text.Statement.{statement}
 use Rattle.draft_survey.proofs.set_of_text.Tie as tie
 use Rattle.draft_survey.proofs.set_of_text.Reads as reads
@@ -6,7 +10,7 @@ use Rattle.draft_survey.proofs.set_of_text.Lts as lts
 
 -- src/lib.rt:30:9
 returns : tie.Need-returns
-returns c = ?
+returns c h = absurd (omega arith)
 
 -- src/lib.rt:32:17
 shared-slice-read-start : tie.Need-shared-slice-read-start
@@ -14,7 +18,7 @@ shared-slice-read-start c = search needs
 
 -- src/lib.rt:34:9
 returns-2 : tie.Need-returns-2
-returns-2 c = ?
+returns-2 c h = set-beyond (now (c .before .before .before .args .text)) (now (c .before .before .before .args .draft)) (omega arith)
 
 -- src/lib.rt:36:8
 sub-if3 : tie.Need-sub-if3
@@ -22,7 +26,7 @@ sub-if3 c = search needs
 
 -- src/lib.rt:37:9
 returns-3 : tie.Need-returns-3
-returns-3 c = ?
+returns-3 c h = set-beyond (now (c .before .before .before .before .args .text)) (now (c .before .before .before .before .args .draft)) (omega arith)
 
 -- src/lib.rt:39:9
 shared-slice-read-if4 : tie.Need-shared-slice-read-if4
@@ -38,11 +42,11 @@ shared-slice-read-if4-2 c = search needs
 
 -- src/lib.rt:40:9
 returns-4 : tie.Need-returns-4
-returns-4 c = ?
+returns-4 c h = set-told (now (c .before .before .before .before .before .before .before .args .text)) (now (c .before .before .before .before .before .before .before .args .draft)) _ (c .if4 .taken)
 
 -- src/lib.rt:26:1
 returns-5 : tie.Need-returns-5
-returns-5 c = ?
+returns-5 c h = set-told (now (c .before .before .before .before .before .before .before .args .text)) (now (c .before .before .before .before .before .before .before .args .draft)) _ (c .if4 .left)
 
 pub set-of-text-spec : {M : Type 1} → statement M
 set-of-text-spec =
