@@ -6,13 +6,13 @@ use mathlib.Core.List.{List, [], _∷_, _++_}
 use mathlib.Core.Path.{_≡_, refl, sym, ap, _∙_, subst}
 use borrow.Author.Tests.{eq-eqb, ne-eqb, leb-true, leb-false}
 use lib.Dec.{eqb, leb}
-use lib.ListN.{length, getD, take, drop, length-append, length-drop, List·getD-eq-default}
-use lib.Seq.{sets, length-sets, drop-drop}
+use lib.ListN.{length, getD, take, drop, length-drop, List·getD-eq-default}
+use lib.Seq.{sets, length-sets, take-all, drop-drop}
 use Rattle.text.specs.declared.character_set.CharacterSet.{CharacterSet}
 use Rattle.text.specs.declared.character_set.CharacterSet.the-variants.{Ascii, Ebcdic}
 use Rattle.frame.specs.Unless.{unless}
-use Rattle.frame.specs.Frames.{part}
 use Rattle.layout.specs.Layout.{sizedParts}
+use Rattle.layout.specs.Packing.{ownIn, Packed}
 use Rattle.judge.specs.Alone.{firstWrong}
 use Rattle.order.specs.MayFollow.{isCarried, mayFollow}
 use Rattle.standing.specs.History.{Entry}
@@ -28,16 +28,16 @@ use Rattle.passes.specs.declared.Turn.{Turn}
 use Rattle.passes.specs.declared.Turn.the-variants.{Faulty, Good}
 use Rattle.passes.specs.CheckOrder.{agreement}
 use Rattle.alike.proofs.Figures.{placed}
-use Rattle.draft.specs.declared.Outcome.{Outcome}
 use Rattle.draft.specs.declared.Outcome.the-variants.{Written, Refused}
+use Rattle.draft.specs.Owned.{Owned}
 use Rattle.draft.specs.Values.{Values, layoutOf, valuesAt, valuesOfRow, valuesOfRows, setOfText, valuesOfDraft}
 use Rattle.draft.specs.Completed.{addendaBehind, fixedPart, allParts, allSizes, completed, firstUnfit, firstUnfitPart, lower}
 use Rattle.draft.specs.Drafted.{bodyOf, fileWith, pastWith, fieldFault, turnOfRow, offsetOf, rowsEnded, answerFrom}
-use Rattle.draft.proofs.Own.{carried-wide}
+use Rattle.draft.proofs.Own.{carried-owned, carried-wide}
 use Rattle.draft.proofs.Shapes.{Shaped, shaped-row, fixed-long, completed-long}
 use Rattle.draft.proofs.Judged.{first-wrong-front}
 use Rattle.made_is_read.proofs.Record.{follows-carried}
-use Rattle.sheet.specs.Sheet.{slotOf, unplaced, OnSheet}
+use Rattle.sheet.specs.Sheet.{slotOf, OnSheet}
 use Rattle.sheet.proofs.Parts.{part-stored, record-long}
 use Rattle.sheet.proofs.Slots.{low-slot}
 use Rattle.sheet.proofs.Laws.{sheet-starts, sheet-follows, sheet-fixed, sheet-agrees, sheet-moves}
@@ -288,9 +288,6 @@ abbrev pub rowsBehind : CharacterSet → List ℕ → List ℕ → List Values
 rowsBehind set text rows = valuesOfRows set text (length rows / 10 - 1) (drop 10 rows)
 
 module _ (set : CharacterSet) (text rows : List ℕ) (some : 10 ≤ length rows) where
-  pub row-count : length rows / 10 ≡ length rows / 10 - 1 + 1
-  row-count = omega arith
-
   rows-first : valuesFrom set text rows ≡ valuesOfRow set text rows ∷ rowsBehind set text rows
   unfolding valuesOfRows
   rows-first =
@@ -356,53 +353,83 @@ module _ {set : CharacterSet} {text draft sheet : List ℕ} {s : Standing} {byte
       let none : length (drop at draft) / 10 ≡ 0 = omega (arith, length-drop at draft) in
       v .same ∙ rw none
 
-  module _ (rows : List ℕ) (here : rows ≡ drop at draft) (some : 10 ≤ length rows) (turn : Turn) (after : List ℕ)
-      (judged : JudgedRow (valuesOfRow set text rows) (rowsBehind set text rows) (v .file) (v .past) s turn after) where
+-- the numbers from a row on, as the code takes them
+abbrev pub rowsAt : List ℕ → ℕ → List ℕ
+rowsAt draft at = take (length draft - at) (drop at draft)
+
+rows-here : (draft : List ℕ) (at : ℕ) → rowsAt draft at ≡ drop at draft
+rows-here draft at = take-all (length draft - at) (drop at draft) (omega (arith, length-drop at draft))
+
+pub rows-some : (draft : List ℕ) (at : ℕ) → 10 ≤ length draft - at → 10 ≤ length (rowsAt draft at)
+rows-some draft at h = omega (arith, ap length (rows-here draft at), length-drop at draft)
+
+pub rows-owned : (layouts own rows : List ℕ) → Packed layouts → own ≡ ownIn (getD rows 0 0) (length layouts) layouts → isCarried (getD rows 0 0) ≡ true
+    → Owned (layoutOf (getD rows 0 0)) own
+rows-owned layouts own rows p e carried = rw e (carried-owned layouts (getD rows 0 0) p carried)
+
+-- what is found of the row that comes next
+module _ {set : CharacterSet} {text draft sheet : List ℕ} {s : Standing} {bytes at : ℕ} where
+  pub record Next (v : Surveyed set text draft sheet s bytes at) (turn : Turn) (after : List ℕ) : Type 0 where
+    pub some : 10 ≤ length draft - at
+    pub judged : JudgedRow (valuesOfRow set text (rowsAt draft at)) (rowsBehind set text (rowsAt draft at)) (v .file) (v .past) s turn after
+
+  pub next-found : (v : Surveyed set text draft sheet s bytes at) (turn : Turn) (after : List ℕ) → 10 ≤ length draft - at
+      → Found set text (rowsAt draft at) sheet s turn after → Next v turn after
+  next-found v turn after some found =
+      let rows : 10 ≤ length (rowsAt draft at) = rows-some draft at some in
+      record { some = some; judged = found (v .file) (v .past) (length (rowsAt draft at) / 10 - 1) (omega arith) (v .stands) }
+
+  module _ {v : Surveyed set text draft sheet s bytes at} {turn : Turn} {after : List ℕ} (x : Next v turn after) where
     same-here : cappedOutcome (answerFrom (valuesOfDraft text draft) [] [])
-        ≡ cappedOutcome (answerFrom (valuesOfRow set text rows ∷ rowsBehind set text rows) (v .file) (v .past))
+        ≡ cappedOutcome (answerFrom (valuesOfRow set text (rowsAt draft at) ∷ rowsBehind set text (rowsAt draft at)) (v .file) (v .past))
     same-here =
         v .same
-        ∙ ap (λ (xs : List ℕ). cappedOutcome (answerFrom (valuesFrom set text xs) (v .file) (v .past))) (sym here)
-        ∙ ap (λ (vs : List Values). cappedOutcome (answerFrom vs (v .file) (v .past))) (rows-first set text rows some)
+        ∙ ap (λ (xs : List ℕ). cappedOutcome (answerFrom (valuesFrom set text xs) (v .file) (v .past))) (sym (rows-here draft at))
+        ∙ ap (λ (vs : List Values). cappedOutcome (answerFrom vs (v .file) (v .past))) (rows-first set text (rowsAt draft at) (rows-some draft at (x .some)))
 
     pub survey-stop : (fault : Fault) → turn ≡ Faulty fault
         → Refused fault (s .records .0 + 1) bytes ≡ cappedOutcome (answerFrom (valuesOfDraft text draft) [] [])
     unfolding answerFrom
     survey-stop fault e =
-        rw (v .size, records-are (v .stands) bytes (v .size)) (sym (same-here ∙ rw (sym (judged .found) ∙ e)))
+        rw (v .size, records-are (v .stands) bytes (v .size)) (sym (same-here ∙ rw (sym (x .judged .found) ∙ e)))
 
-    pub survey-type : (k : ℕ) → turn ≡ Good k → (k ≡ getD rows 0 0) × (isCarried (getD rows 0 0) ≡ true)
-    unfolding valuesOfRow valuesAt
-    survey-type k e =
-        let good = good-turn (valuesOfRow set text rows) (rowsBehind set text rows) (v .file) (v .past) (standing Ascii (v .file) (v .past)) (sym (judged .found) ∙ e) in
-        (good .0, ap isCarried (sym (good .0)) ∙ good .1)
+    module _ (k : ℕ) (good : turn ≡ Good k) where
+      pub survey-carried : isCarried (getD (rowsAt draft at) 0 0) ≡ true
+      unfolding valuesOfRow valuesAt
+      survey-carried =
+          let g = good-turn (valuesOfRow set text (rowsAt draft at)) (rowsBehind set text (rowsAt draft at)) (v .file) (v .past) (standing Ascii (v .file) (v .past)) (sym (x .judged .found) ∙ good) in
+          ap isCarried (sym (g .0)) ∙ g .1
 
-    pub survey-on : (k at′ : ℕ) (r : Standing) (bytes′ : ℕ) → turn ≡ Good k → at′ ≡ slotOf k → r ≡ cappedFigures (onward Ascii after s k at′)
-        → bytes′ ≡ min (bytes + min (4 + min (layoutOf (getD rows 0 0) .fixedLength + allSizes (valuesOfRow set text rows .parts)) 0xFFFF_FFFF_FFFF_FFFF) 0xFFFF_FFFF_FFFF_FFFF) 0xFFFF_FFFF_FFFF_FFFF
-        → Surveyed set text draft after r bytes′ (at + 10)
-    unfolding valuesOfRow valuesAt answerFrom
-    survey-on k at′ r bytes′ e slot m size =
-        let u = valuesOfRow set text rows in
-        let vs = rowsBehind set text rows in
-        let body = bodyOf u vs (v .file) (v .past) in
-        let rest : drop 10 rows ≡ drop (at + 10) draft = ap (drop 10) here ∙ drop-drop 10 at draft in
-        record {
-          file = fileWith u vs (v .file) (v .past);
-          past = pastWith u vs (v .file) (v .past);
-          stands = rw (m, slot) (judged .moves k e);
-          size = omega (
-            arith,
-            size,
-            v .size,
-            record-long (v .file) body,
-            completed-long u (addendaBehind (u .type) vs) (standing Ascii (v .file) (v .past)) (shaped-row set text rows),
-          );
-          place = omega (arith, v .place);
-          within = omega (arith, ap length here, length-drop at draft, v .within);
-          limit = v .limit;
-          same =
-              same-here
-              ∙ rw (sym (judged .found) ∙ e)
-              (ap (λ (ws : List Values). cappedOutcome (answerFrom ws (fileWith u vs (v .file) (v .past)) (pastWith u vs (v .file) (v .past))))
-              (rows-rest set text rows some ∙ ap (valuesFrom set text) rest));
-        }
+      pub survey-long : length after ≡ 800
+      survey-long = x .judged .moves k good .long
+
+      pub survey-on : (slot : ℕ) (r : Standing) (more : ℕ) → slot ≡ slotOf k → r ≡ cappedFigures (onward Ascii after s k slot)
+          → more ≡ min (layoutOf (getD (rowsAt draft at) 0 0) .fixedLength + allSizes (valuesOfRow set text (rowsAt draft at) .parts)) 0xFFFF_FFFF_FFFF_FFFF
+          → (framed total : ℕ) → framed ≡ min (4 + more) 0xFFFF_FFFF_FFFF_FFFF → total ≡ min (bytes + framed) 0xFFFF_FFFF_FFFF_FFFF
+          → Surveyed set text draft after r total (at + 10)
+      unfolding valuesOfRow valuesAt answerFrom
+      survey-on slot r more place m long framed total four whole =
+          let rows = rowsAt draft at in
+          let u = valuesOfRow set text rows in
+          let vs = rowsBehind set text rows in
+          let some = rows-some draft at (x .some) in
+          let rest : drop 10 rows ≡ drop (at + 10) draft = ap (drop 10) (rows-here draft at) ∙ drop-drop 10 at draft in
+          record {
+            file = fileWith u vs (v .file) (v .past);
+            past = pastWith u vs (v .file) (v .past);
+            stands = rw (m, place) (x .judged .moves k good);
+            size = omega (
+              arith,
+              v .size,
+              record-long (v .file) (bodyOf u vs (v .file) (v .past)),
+              completed-long u (addendaBehind (u .type) vs) (standing Ascii (v .file) (v .past)) (shaped-row set text rows),
+            );
+            place = omega (arith, v .place);
+            within = omega (arith, x .some, v .within);
+            limit = v .limit;
+            same =
+                same-here
+                ∙ rw (sym (x .judged .found) ∙ good)
+                (ap (λ (ws : List Values). cappedOutcome (answerFrom ws (fileWith u vs (v .file) (v .past)) (pastWith u vs (v .file) (v .past))))
+                (rows-rest set text rows some ∙ ap (valuesFrom set text) rest));
+          }

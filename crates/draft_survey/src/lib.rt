@@ -5,7 +5,7 @@ use passes::Totals;
 use passes::Turn;
 use standing::Standing;
 use text::CharacterSet;
-ghost use mathlib.Core.List.{List, [], _∷_};
+ghost use mathlib.Core.List.{List, []};
 ghost use mathlib.Core.Bool.{true};
 ghost use mathlib.Core.Path.{_≡_};
 ghost use Prim.Native.Nat.{ℕ, _+_, _/_, _≤_};

@@ -1,5 +1,4 @@
 use native.Mathlib.Omega.{arith}
-use lib.ListN.{length}
 use denote.Ref.{now}
 use borrow.Author.Needs.{needs}
 use Rattle.draft_survey.proofs.Laws.{set-beyond, set-told}
