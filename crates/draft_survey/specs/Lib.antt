@@ -1,1 +1,2 @@
 pub mod CappedOutcome
+pub mod JudgedRow

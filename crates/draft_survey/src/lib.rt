@@ -5,23 +5,26 @@ use passes::Totals;
 use passes::Turn;
 use standing::Standing;
 use text::CharacterSet;
-ghost use mathlib.Core.List.{List, [], _∷_};
+ghost use mathlib.Core.List.{List, []};
+ghost use mathlib.Core.Bool.{true};
 ghost use mathlib.Core.Path.{_≡_};
-ghost use Prim.Native.Nat.{ℕ, _+_, _-_, _/_, _≤_, min};
+ghost use Prim.Native.Nat.{ℕ, _+_, _/_, _≤_};
 ghost use lib.ListN.{length, getD, drop};
-ghost use lib.Seq.{sets};
 ghost use Rattle.text.specs.declared.character_set.CharacterSet.the-variants.{Ascii};
 ghost use Rattle.layout.specs.Packing.{Packed};
 ghost use Rattle.standing.specs.History.{Entry};
 ghost use Rattle.standing.specs.Standing.{standing, Roomy};
-ghost use Rattle.draft.specs.Values.{Values, valuesOfRow, valuesOfRows, setOfText, valuesOfDraft};
-ghost use Rattle.draft.specs.Drafted.{turnOfRow, offsetOf, rowsEnded, answerFrom};
+ghost use Rattle.order.specs.MayFollow.{isCarried};
+ghost use Rattle.draft.specs.Owned.{Owned};
+ghost use Rattle.draft.specs.Values.{layoutOf, valuesOfRow, valuesOfRows, setOfText, valuesOfDraft};
+ghost use Rattle.draft.specs.Drafted.{offsetOf, rowsEnded, answerFrom};
+ghost use Rattle.draft_survey.specs.JudgedRow.{JudgedRow};
 ghost use Rattle.draft_survey.specs.CappedOutcome.{cappedOutcome};
-ghost use Rattle.sheet.specs.Sheet.{slotOf, OnSheet};
+ghost use Rattle.sheet.specs.Sheet.{OnSheet};
 
 // The set of a draft's text, told by the two bytes where the first row's fixed part begins.
 pub fn set_of_text<'a>(text: &'a [u8], draft: &'a [u64]) -> CharacterSet
-    ensures { λ r. ⌜ 10 ≤ length (now (draft .entry)) → r ≡ setOfText (now (text .entry)) (now (draft .entry)) ⌝ }
+    ensures { λ r. ⌜ (10 ≤ length (now (draft .entry)) → r ≡ setOfText (now (text .entry)) (now (draft .entry))) ⌝ }
 {
     if draft.len() < 10 {
         return CharacterSet::Ascii;
@@ -39,23 +42,22 @@ pub fn set_of_text<'a>(text: &'a [u8], draft: &'a [u64]) -> CharacterSet
     CharacterSet::Ascii
 }
 
-// The checks of one row in its place: PLACE, FIELD, LINK, TOTAL. The record's fixed part then stands on the sheet.
-fn judge_row(
+// The checks of one row in its place: PLACE, FIELD, LINK, TOTAL. The record's fixed part then stands on the sheet. `own` are the numbers of its layout.
+fn judge_row<'a>(
     set: CharacterSet,
-    layouts: &[u64],
-    text: &[u8],
-    rows: &[u64],
+    own: &'a [u64],
+    text: &'a [u8],
+    rows: &'a [u64],
     s: Standing,
     sheet: &mut [u8],
 ) -> Turn
-    requires { ⌜ Packed (now layouts) × Roomy s × (10 ≤ length (now rows)) × (length (now sheet) ≡ 800) ⌝ }
-    ensures { λ r. ⌜ ((file : List ℕ) (past : List Entry) (n : ℕ) → length (now (rows .entry)) / 10 ≡ n + 1 → OnSheet file past (now (sheet .entry)) s → r ≡ turnOfRow (valuesOfRow set (now (text .entry)) (now (rows .entry))) (valuesOfRows set (now (text .entry)) n (drop 10 (now (rows .entry)))) file past (standing Ascii file past)) ⌝ }
+    requires { ⌜ (isCarried (getD (now rows) 0 0) ≡ true → Owned (layoutOf (getD (now rows) 0 0)) (now own)) × Roomy s × (10 ≤ length (now rows)) × (length (now sheet) ≡ 800) ⌝ }
+    ensures { λ r. ⌜ ((file : List ℕ) (past : List Entry) (n : ℕ) → length (now (rows .entry)) / 10 ≡ n + 1 → OnSheet file past (now (sheet .entry)) s → JudgedRow (valuesOfRow set (now (text .entry)) (now (rows .entry))) (valuesOfRows set (now (text .entry)) n (drop 10 (now (rows .entry)))) file past s r (now (sheet .exit))) ⌝ }
 {
     let kind = rows[0];
     if !order::may_follow(s.inside, s.last, s.present, kind) {
         return Turn::Faulty(Fault::Place);
     }
-    let own = layout::own_numbers(layouts, kind);
     let addenda = draft_rows::addenda_behind(rows);
     let at = sheet::slot_of(kind);
     let body = at + 4;
@@ -96,7 +98,7 @@ fn rows_ended(s: Standing, bytes: usize) -> Outcome
 }
 
 // The answer to a draft, whatever the buffer; 2^64 - 1 bytes stand for as many or more.
-pub fn survey_draft(layouts: &[u64], text: &[u8], draft: &[u64]) -> Outcome
+pub fn survey_draft<'a>(layouts: &'a [u64], text: &'a [u8], draft: &'a [u64]) -> Outcome
     requires { ⌜ Packed (now layouts) ⌝ }
     ensures { λ r. ⌜ r ≡ cappedOutcome (answerFrom (valuesOfDraft (now (text .entry)) (now (draft .entry))) [] []) ⌝ }
 {
@@ -107,12 +109,12 @@ pub fn survey_draft(layouts: &[u64], text: &[u8], draft: &[u64]) -> Outcome
     let mut at: usize = 0;
     while 10 <= draft.len() - at {
         let rows = &draft[at..];
-        match judge_row(set, layouts, text, rows, s, &mut sheet) {
+        let own = layout::own_numbers(layouts, rows[0]);
+        match judge_row(set, own, text, rows, s, &mut sheet) {
             Turn::Faulty(fault) => {
                 return Outcome::Refused(fault, s.records.0 + 1, bytes);
             }
             Turn::Good(kind) => {
-                let own = layout::own_numbers(layouts, kind);
                 bytes = fitting::plus(bytes, fitting::plus(4, fitting::size_of(own, rows)));
                 s = standing::moved(CharacterSet::Ascii, &sheet, s, kind, sheet::slot_of(kind));
                 at += 10;
