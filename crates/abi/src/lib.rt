@@ -1,4 +1,5 @@
 // The calls for C and Rust (include/x9180.h).
+use draft::Outcome;
 use passes::Answer;
 use passes::Fault;
 use passes::Totals;
@@ -9,7 +10,7 @@ ghost use Prim.Native.Nat.{ℕ};
 ghost use Rattle.passes.specs.Answers.{numberOf, numbersOf};
 ghost use Rattle.passes.specs.declared.Answer.the-variants.{Accepted, Refused};
 ghost use Rattle.abi.specs.Filled.{setNumbered};
-ghost use Rattle.abi.specs.Outcomes.{Reading, Drafting, Picturing, Judging};
+ghost use Rattle.abi.specs.Outcomes.{Reading, Writing, Drafting, Picturing, Judging};
 
 // The numbers of an acceptance, where the file has so many bytes, and of a refusal.
 fn fill_accepted(bytes: u64, totals: Totals, answer: &mut [u64; 12])
@@ -62,6 +63,26 @@ pub extern "C" fn x9_read(file: &[u8], table: &mut [u64], answer: &mut [u64; 12]
             0
         }
         Answer::Refused(fault, place, offset) => fill_refused(fault, place, offset, answer),
+    }
+}
+
+// The making out of a whole file: the number, in `out` the bytes of a file that could be made out, and in `answer` the numbers as x9_read has them, with
+// the bytes written as the offset.
+#[no_mangle]
+pub extern "C" fn x9_write(
+    text: &[u8],
+    draft: &[u64],
+    out: &mut [u8],
+    answer: &mut [u64; 12],
+) -> u64
+    ensures { λ r. ⌜ Writing (now (text .entry)) (now (draft .entry)) (now (out .entry)) r (now (out .exit)) (now (answer .exit)) ⌝ }
+{
+    match writer::write(text, draft, out) {
+        Outcome::Written(bytes, totals) => {
+            fill_accepted(bytes as u64, totals, answer);
+            0
+        }
+        Outcome::Refused(fault, place, offset) => fill_refused(fault, place, offset, answer),
     }
 }
 
