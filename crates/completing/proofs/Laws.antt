@@ -1,5 +1,5 @@
 -- A record's lines set down one after the other: what is still to be set down gives the whole fixed part. Assumes nothing.
-use Prim.Native.Nat.{ℕ, zero, suc, _+_, _-_, _≤_, _<_}
+use Prim.Native.Nat.{ℕ, suc, _+_, _-_, _≤_, _<_}
 use native.Mathlib.Nat.{add-zero}
 use native.Mathlib.Omega.{arith}
 use mathlib.Core.Bool.{Bool, true, false, _||_, cond}
@@ -18,14 +18,14 @@ use Rattle.copying.specs.Times.{times}
 use Rattle.decimal.specs.Digits.{digits}
 use Rattle.layout.specs.declared.packing.Origin.{Origin}
 use Rattle.layout.specs.Layout.{Line}
-use Rattle.layout.specs.Packing.{Block, lineOf, linesFrom, longIn, fieldsIn, partsIn, linesIn}
+use Rattle.layout.specs.Packing.{Block, lineOf, linesFrom, fieldsIn, partsIn, linesIn}
 use Rattle.standing.specs.declared.Standing.{Standing}
 use Rattle.ascii_copy.specs.AsciiCopy.{translated}
 use Rattle.ascii_copy.proofs.Records.{length-as}
 use Rattle.draft.specs.Owned.{Owned}
 use Rattle.draft.specs.Values.{Piece, isGiven, inAscii, piece, fieldsGiven, layoutOf, valuesAt, valuesOfRow}
 use Rattle.draft.specs.Completed.{sizeOf, charactersOf, statement, leavesBlank, workedOut, fixedPart}
-use Rattle.draft.proofs.Shapes.{givenSizes, Shaped, shaped-row, piece-long, worked-out-long, fixed-long}
+use Rattle.draft.proofs.Shapes.{givenSizes, shaped-row, piece-long, worked-out-long, fixed-long}
 use Rattle.draft_rows.proofs.Parts.{parts-in-fields, left-first}
 
 -- nothing is given in no characters
@@ -33,7 +33,7 @@ nothing : (xs : List ℕ) → length xs ≡ 0 → xs ≡ []
 nothing [] e = refl
 nothing (x ∷ xs) e = absurd (omega arith)
 
-pub none-given : (set : CharacterSet) (t : DataType) → inAscii set t [] ≡ []
+none-given : (set : CharacterSet) (t : DataType) → inAscii set t [] ≡ []
 none-given Ascii t = refl
 none-given Ebcdic t = nothing (inAscii Ebcdic t []) (length-as t [])
 
