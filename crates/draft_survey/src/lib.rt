@@ -42,7 +42,8 @@ pub fn set_of_text<'a>(text: &'a [u8], draft: &'a [u64]) -> CharacterSet
     CharacterSet::Ascii
 }
 
-// The checks of one row in its place: PLACE, FIELD, LINK, TOTAL. The record's fixed part then stands on the sheet. `own` are the numbers of its layout.
+// The checks of one row in its place: PLACE, FIELD, LINK, TOTAL. The record's fixed part then stands on the sheet. `own` are the numbers of its
+// layout.
 fn judge_row<'a>(
     set: CharacterSet,
     own: &'a [u64],

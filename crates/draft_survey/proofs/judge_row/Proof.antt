@@ -3,7 +3,7 @@ use native.Mathlib.Omega.{arith}
 use lib.ListN.{getD}
 use denote.Ref.{now}
 use borrow.Author.Tests.{not-true, not-false}
-use Rattle.draft_survey.proofs.Laws.{Filled, row-place, row-carried, row-room, row-fits, row-within, row-long, row-field, row-part, row-agrees}
+use Rattle.draft_survey.proofs.Row.{Filled, row-place, row-carried, row-room, row-fits, row-within, row-long, row-field, row-part, row-agrees}
 use borrow.Author.Needs.{needs}
 use Rattle.draft_survey.proofs.judge_row.Statement.{statement}
 use Rattle.draft_survey.proofs.judge_row.Tie as tie
