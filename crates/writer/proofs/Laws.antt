@@ -1,5 +1,5 @@
 -- What is promised of the outcome and the buffer, and how the writer's steps come to them. Assumes nothing.
-use Prim.Native.Nat.{ℕ, _≤_, _<_, min}
+use Prim.Native.Nat.{ℕ, zero, suc, _/_, _≤_, _<_, min}
 use mathlib.Core.Bool.{Bool, true, false}
 use mathlib.Core.List.{List, [], _++_}
 use mathlib.Core.Path.{_≡_, refl, sym, ap, _∙_, subst}
@@ -8,7 +8,7 @@ use lib.Dec.{leb}
 use lib.ListN.{length, take, drop}
 use lib.Seq.{take-at}
 use borrow.Author.Tests.{leb-true, lt-leb, le-leb}
-use Rattle.text.specs.CharacterSet.{setOf}
+use Rattle.text.specs.declared.character_set.CharacterSet.{CharacterSet}
 use Rattle.frame.specs.Unless.{unless}
 use Rattle.arrangement.specs.Tree.{File}
 use Rattle.arrangement.specs.Arranged.{Arranges}
@@ -17,9 +17,10 @@ use Rattle.passes.specs.declared.Fault.the-variants.{Size, Room}
 use Rattle.passes.specs.declared.Totals.{Totals}
 use Rattle.draft.specs.declared.Outcome.{Outcome}
 use Rattle.draft.specs.declared.Outcome.the-variants.{Written, Refused}
-use Rattle.draft.specs.Values.{Values, valuesOfDraft, valuesOf}
+use Rattle.draft.specs.Values.{Values, setOfText, valuesOfRows, valuesOfDraft}
 use Rattle.draft.specs.Drafted.{made, offsetOf, answerFrom, inRoom, outcomeOf, bufferAfter, bufferOf}
 use Rattle.draft.specs.Promises.{ReadBack, MadeAgain, Promised}
+use Rattle.set_out.specs.SetOut.{valuesIn, Fits}
 use Rattle.draft.proofs.Shapes.{shaped-draft}
 use Rattle.made_is_read.proofs.Whole.{accepted, as-the-reader}
 use Rattle.same_bytes.proofs.Either.{made-again}
@@ -114,3 +115,27 @@ module _ (text draft out : List ℕ) where
             λ after r.
                 r ∙ ap (λ (k : ℕ). made ws ++ drop k out) (sym long ∙ all-bytes) ∙ in-buffer (Written bytes t) q,
           )
+
+-- the values that are set out are those that were surveyed, where the set is that of the text
+module _ (text draft : List ℕ) where
+  same-set : (set : CharacterSet) → (10 ≤ length draft → set ≡ setOfText text draft) → (n : ℕ) → length draft / 10 ≡ n
+      → valuesOfRows set text n draft ≡ valuesOfRows (setOfText text draft) text n draft
+  unfolding valuesOfRows
+  same-set set told zero e = refl
+  same-set set told (suc n) e = ap (λ (s : CharacterSet). valuesOfRows s text (suc n) draft) (told (omega arith))
+
+  pub same-values : (set : CharacterSet) → (10 ≤ length draft → set ≡ setOfText text draft) → valuesIn set text draft ≡ valuesOfDraft text draft
+  unfolding valuesOfDraft
+  same-values set told = same-set set told (length draft / 10) refl
+
+  -- what the second pass asks, and what it leaves, said of the draft
+  pub all-fits : (set : CharacterSet) → (10 ≤ length draft → set ≡ setOfText text draft) → (out : List ℕ) (n bytes : ℕ) (t : Totals)
+      → answerFrom (valuesOfDraft text draft) [] [] ≡ Written n t → bytes ≡ offsetOf n → bytes ≤ 268_435_456 → bytes ≤ length out
+      → Fits (valuesIn set text draft) [] [] (length out)
+  all-fits set told out n bytes t e b small h =
+      record {
+        size = n;
+        totals = t;
+        written = ap (λ (vs : List Values). answerFrom vs [] []) (same-values set told) ∙ e;
+        within = omega (arith, counted n 0xFFFF_FFFF_FFFF_FFFF b (omega arith));
+      }
