@@ -1,5 +1,5 @@
 -- A record set down in a buffer: its parts one after the other, and its length, its fixed part and its parts together. Assumes nothing.
-use Prim.Native.Nat.{ℕ, _+_, _-_, _≤_, _<_}
+use Prim.Native.Nat.{ℕ, _+_, _-_, _≤_, _<_, min}
 use native.Mathlib.Omega.{arith}
 use mathlib.Core.List.{List, [], _∷_, _++_, append-nil}
 use mathlib.Core.Path.{_≡_, refl, ap, sym, _∙_}
@@ -91,18 +91,26 @@ module _ (set : CharacterSet) (own text rows : List ℕ) (parts end : ℕ) where
                 ∙ left .tells .onward;
           }))
 
+-- how long it is
+pub record-size : (out fixed : List ℕ) (ps : List Piece) → length out ≤ 0xFFFF_FFFF_FFFF_FFFF → {k : ℕ} → length fixed ≡ k → 4 + (length fixed + allSizes ps) ≤ length out
+    → {size : ℕ} → size ≡ min (k + allSizes ps) 0xFFFF_FFFF_FFFF_FFFF → (size ≡ length fixed + allSizes ps) × (4 + size ≤ length out)
+record-size out fixed ps short sized room e = (omega arith, omega arith)
+
 -- a whole record at the start of a buffer
-pub record-set-down : (out fixed rest : List ℕ) (size : ℕ) → size ≡ length fixed + length rest → 4 + size ≤ length out → {out′ : List ℕ}
-    → out′ ≡ sets (sets (sets out 0 (lengthField size)) 4 (part 0 (length fixed) fixed)) (4 + length fixed) rest
-    → out′ ≡ framed ((fixed ++ rest) ∷ []) ++ drop (4 + size) out
-record-set-down out fixed rest size e room is =
+pub record-set-down : (out fixed : List ℕ) (ps : List Piece) (size k : ℕ) → size ≡ length fixed + allSizes ps → length fixed ≡ k → 4 + size ≤ length out
+    → {out₁ out₂ out₃ : List ℕ} → out₁ ≡ sets out 0 (lengthField size) → out₂ ≡ sets out₁ 4 (part 0 (length fixed) fixed) → out₃ ≡ sets out₂ (4 + k) (allParts ps)
+    → out₃ ≡ framed ((fixed ++ allParts ps) ∷ []) ++ drop (4 + size) out
+record-set-down out fixed ps size k e sized room {out₁} {out₂} first second third =
+    let rest = allParts ps in
     let both = length-append fixed rest in
     let all : List ℕ = lengthField size ++ (fixed ++ rest) in
-    let same : size ≡ length (fixed ++ rest) = omega arith in
+    let same : size ≡ length (fixed ++ rest) = omega (arith, parts-long ps) in
     let long : 0 + length all ≡ 4 + size = omega arith in
-    is
-    ∙ ap (λ (f : List ℕ). sets (sets (sets out 0 (lengthField size)) 4 f) (4 + length fixed) rest) (take-length fixed)
-    ∙ sym (sets-behind (sets out 0 (lengthField size)) 4 fixed rest)
+    third
+    ∙ ap (λ (n : ℕ). sets out₂ (4 + n) rest) (sym sized)
+    ∙ ap (λ (o : List ℕ). sets o (4 + length fixed) rest) (second ∙ ap (sets out₁ 4) (take-length fixed))
+    ∙ sym (sets-behind out₁ 4 fixed rest)
+    ∙ ap (λ (o : List ℕ). sets o 4 (fixed ++ rest)) first
     ∙ sym (sets-behind out 0 (lengthField size) (fixed ++ rest))
     ∙ sets-eq all out 0 (omega arith)
     ∙ ap (λ (n : ℕ). all ++ drop n out) long

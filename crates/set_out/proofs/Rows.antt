@@ -6,7 +6,7 @@ use mathlib.Core.Bool.{Bool, true, false}
 use mathlib.Core.List.{List, [], _∷_, _++_, append-assoc, append-nil}
 use mathlib.Core.Path.{_≡_, refl, ap, sym, _∙_, subst}
 use lib.ListN.{length, getD, take, drop, length-append, length-drop, drop-of-length-le}
-use lib.Seq.{sets, drop-drop, take-append-add, take-append-seam, drop-append-add, drop-append-seam}
+use lib.Seq.{sets, length-sets, drop-drop, take-append-add, take-append-seam, drop-append-add, drop-append-seam}
 use Rattle.text.specs.declared.character_set.CharacterSet.{CharacterSet}
 use Rattle.text.specs.declared.character_set.CharacterSet.the-variants.{Ascii}
 use Rattle.frame.specs.Unless.{unless}
@@ -29,7 +29,7 @@ use Rattle.draft.specs.Owned.{Owned}
 use Rattle.draft.specs.Values.{Values, layoutOf, valuesAt, valuesOfRow, valuesOfRows}
 use Rattle.draft.specs.Completed.{addendaBehind, fixedPart, allParts, allSizes, completed}
 use Rattle.draft.specs.Drafted.{bodyOf, fileWith, pastWith, completedFrom, made, turnOfRow, afterTurn, answerFrom}
-use Rattle.draft.proofs.Shapes.{Shaped, AllShaped, shaped-row, parts-long, fixed-long}
+use Rattle.draft.proofs.Shapes.{AllShaped, shaped-row, fixed-long, completed-long}
 use Rattle.draft.proofs.Own.{carried-owned, carried-wide}
 use Rattle.made_is_read.proofs.Record.{follows-carried}
 use Rattle.made_is_read.proofs.Whole.{appended, written-fits}
@@ -116,3 +116,179 @@ module _ (v : Values) (vs : List Values) (file : List ℕ) (past : List Entry) {
 
   pub good-others : answerFrom vs (fileWith v vs file past) (pastWith v vs file past) ≡ answerFrom (v ∷ vs) file past
   good-others = turned .others ∙ sym w
+
+-- the record of the first row
+module _ (set : CharacterSet) (text rows out : List ℕ) (ten : 10 ≤ length rows) {sheet : List ℕ} {s : Standing} (b : Ready (valuesIn set text rows) sheet s (length out)) where
+  abbrev v : Values
+  v = valuesOfRow set text rows
+
+  abbrev vs : List Values
+  vs = valuesIn set text (drop 10 rows)
+
+  abbrev t : ℕ
+  t = getD rows 0 0
+
+  good : answerFrom (v ∷ vs) (b .file) (b .past) ≡ Written (b .fits .size) (b .fits .totals)
+  good = ap (λ (us : List Values). answerFrom us (b .file) (b .past)) (sym (rows-one set text rows ten)) ∙ b .fits .written
+
+  follows : mayFollow (s .inside) (s .last) (s .present) t ≡ true
+  unfolding valuesOfRow valuesAt
+  follows = let f = sheet-follows (b .stands) in rw (f .0, f .1, f .2) (good-follows v vs (b .file) (b .past) good)
+
+  carried : isCarried t ≡ true
+  carried = follows-carried (s .inside) (s .last) (s .present) t follows
+
+  pub row-owned : {layouts own : List ℕ} → Packed layouts → own ≡ ownIn t (length layouts) layouts → Owned (layoutOf t) own
+  row-owned {layouts} packed e = rw e (carried-owned layouts t packed carried)
+
+  pub row-roomy : Roomy s × (cappedFigures s ≡ s)
+  row-roomy = (figures-roomy (b .stands) (omega (arith, b .few)), figures-stay (b .stands))
+
+  pub slot-room : (slotOf t ≤ 640) × (slotOf t + 4 + layoutOf t .fixedLength ≤ length sheet)
+  slot-room = let low = low-slot t carried in (low, omega (arith, carried-wide t carried, b .stands .long))
+
+  longer : List ℕ
+  longer = fileWith v vs (b .file) (b .past)
+
+  body : List ℕ
+  body = bodyOf v vs (b .file) (b .past)
+
+  body-long : length body ≡ layoutOf t .fixedLength + allSizes (v .parts)
+  unfolding valuesOfRow valuesAt body
+  body-long = completed-long v (addendaBehind (v .type) vs) (standing Ascii (b .file) (b .past)) (shaped-row set text rows)
+
+  -- there is room for it
+  pub row-room : 4 + (layoutOf t .fixedLength + allSizes (v .parts)) ≤ length out
+  unfolding completedFrom longer body
+  row-room =
+      let more = appended vs longer (pastWith v vs (b .file) (b .past)) in
+      let sized = written-fits (v ∷ vs) (b .file) (b .past) (shaped-row set text rows, all-shaped set text (length (drop 10 rows) / 10) (drop 10 rows)) good .1 in
+      omega (arith, sized, ap length (more .is), length-append longer (more .rest), record-long (b .file) body, body-long, b .fits .within)
+
+  -- it is completed on the sheet
+  module _ {addenda : ℕ} (counted : addenda ≡ addendaBehind t (valuesOfRows set text (length rows / 10 - 1) (drop 10 rows)))
+      {at : ℕ} (slot : at ≡ slotOf t) {n : ℕ} (sized : n ≡ layoutOf t .fixedLength) {sheet′ : List ℕ}
+      (stored : sheet′ ≡ sets sheet (at + 4) (fixedPart v addenda s (layoutOf t .lines) (v .fields))) where
+    abbrev fixed : List ℕ
+    fixed = fixedPart v addenda s (layoutOf t .lines) (v .fields)
+
+    fixed-sized : length fixed ≡ layoutOf t .fixedLength
+    unfolding valuesOfRow valuesAt
+    fixed-sized = fixed-long v addenda s (shaped-row set text rows)
+
+    pub row-end : at + 4 + n ≤ length sheet′
+    row-end = omega (arith, slot, slot-room .1, ap length stored, length-sets sheet (at + 4) fixed)
+
+    pub row-stored : part (at + 4) (at + 4 + n - (at + 4)) sheet′ ≡ fixed
+    row-stored =
+        let size : at + 4 + n - (at + 4) ≡ length fixed = omega (arith, fixed-sized) in
+        rw (size, stored) (part-stored sheet (at + 4) fixed (omega (arith, fixed-sized, slot, slot-room .1)))
+
+    pub stored-room : (length (part (at + 4) (at + 4 + n - (at + 4)) sheet′) ≡ layoutOf t .fixedLength)
+        × (4 + (length (part (at + 4) (at + 4 + n - (at + 4)) sheet′) + allSizes (v .parts)) ≤ length out)
+    stored-room = let long : _ ≡ _ = ap length row-stored ∙ fixed-sized in (long, omega (arith, long, row-room))
+
+    body-is : body ≡ fixed ++ allParts (v .parts)
+    unfolding valuesOfRow valuesAt completed body
+    body-is =
+        let count : length (drop 10 rows) / 10 ≡ length rows / 10 - 1 = omega (arith, length-drop 10 rows) in
+        rw (count, sym counted) (ap (λ (f : List ℕ). f ++ allParts (v .parts)) (sym (sheet-fixed (b .stands) v addenda (layoutOf t .lines) (v .fields))))
+
+    -- and written
+    pub row-onward : {bytes : ℕ} → bytes ≡ 4 + (length (part (at + 4) (at + 4 + n - (at + 4)) sheet′) + allSizes (v .parts)) → {out′ : List ℕ}
+        → out′ ≡ framed ((part (at + 4) (at + 4 + n - (at + 4)) sheet′ ++ allParts (v .parts)) ∷ []) ++ drop bytes out
+        → {s′ : Standing} → s′ ≡ cappedFigures (onward Ascii sheet′ s t at)
+        → Onward (valuesIn set text rows) (b .file) (b .past) out vs sheet′ s′ bytes out′
+    unfolding valuesOfRow valuesAt completedFrom longer body
+    row-onward {bytes} counts {out′} written {s′} moved =
+        let all = rows-one set text rows ten in
+        let same : part (at + 4) (at + 4 + n - (at + 4)) sheet′ ++ allParts (v .parts) ≡ body =
+        ap (λ (g : List ℕ). g ++ allParts (v .parts)) row-stored ∙ sym body-is in
+        record {
+          longer = longer;
+          newer = pastWith v vs (b .file) (b .past);
+          stands = rw (moved, stored, slot) (sheet-moves (b .stands) t body fixed (allParts (v .parts)) body-is fixed-sized carried follows);
+          many = omega (arith, ap length all);
+          answer = good-others v vs (b .file) (b .past) good ∙ ap (λ (us : List Values). answerFrom us (b .file) (b .past)) (sym all);
+          whole = ap (λ (us : List Values). completedFrom us (b .file) (b .past)) (sym all);
+          long = omega (arith, record-long (b .file) body, body-long, stored-room .0);
+          within = omega (arith, stored-room .1);
+          is =
+              ap (λ (o : List ℕ). b .file ++ o) (written ∙ ap (λ (g : List ℕ). framed (g ∷ []) ++ drop bytes out) same)
+              ∙ sym (append-assoc (b .file) (framed (body ∷ [])) (drop bytes out));
+        }
+
+-- nothing yet
+pub onward-none : {vs : List Values} {file : List ℕ} {past : List Entry} (out : List ℕ) {sheet : List ℕ} {s : Standing} → OnSheet file past sheet s
+    → Onward vs file past out vs sheet s 0 out
+onward-none {file = file} {past = past} out stands =
+    record { longer = file; newer = past; stands = stands; many = refl; answer = refl; whole = refl; long = omega arith; within = omega arith; is = refl }
+
+module _ {vs : List Values} {file : List ℕ} {past : List Entry} {out : List ℕ} {left : List Values} {sheet : List ℕ} {s : Standing} {bytes : ℕ} {after : List ℕ}
+    (o : Onward vs file past out left sheet s bytes after) where
+  pub same-long : length after ≡ length out
+  same-long =
+      omega (arith, ap length (o .is), length-append file after, length-append (o .longer) (drop bytes out), length-drop bytes out, o .long, o .within)
+
+  rest-kept : drop bytes after ≡ drop bytes out
+  rest-kept =
+      sym (drop-append-add file after bytes)
+      ∙ ap (λ (n : ℕ). drop n (file ++ after)) (sym (o .long))
+      ∙ ap (drop (length (o .longer))) (o .is)
+      ∙ drop-append-seam (o .longer) (drop bytes out)
+
+  in-front : file ++ take bytes after ≡ o .longer
+  in-front =
+      sym (take-append-add file after bytes)
+      ∙ ap (λ (n : ℕ). take n (file ++ after)) (sym (o .long))
+      ∙ ap (take (length (o .longer))) (o .is)
+      ∙ take-append-seam (o .longer) (drop bytes out)
+
+  -- the others are ready, for the rest of the buffer
+  pub ready-on : length past + length vs ≤ 0x2000_0000_0000_0000 → Fits vs file past (length out) → Ready left sheet s (length (drop bytes after))
+  ready-on few fits =
+      record {
+        file = o .longer;
+        past = o .newer;
+        stands = o .stands;
+        few = omega (arith, o .many);
+        fits =
+            record {
+              size = fits .size;
+              totals = fits .totals;
+              written = o .answer ∙ fits .written;
+              within = omega (arith, fits .within, length-drop bytes after, same-long, o .long, o .within);
+            };
+      }
+
+  -- some more of them, in the rest of the buffer
+  pub onward-more : {left′ : List Values} {sheet′ : List ℕ} {s′ : Standing} {bytes′ : ℕ} {rest : List ℕ}
+      → Onward left (o .longer) (o .newer) (drop bytes after) left′ sheet′ s′ bytes′ rest → {after′ : List ℕ} → after′ ≡ take bytes after ++ rest
+      → Onward vs file past out left′ sheet′ s′ (bytes + bytes′) after′
+  onward-more {bytes′ = bytes′} {rest = rest} p {after′} e =
+      record {
+        longer = p .longer;
+        newer = p .newer;
+        stands = p .stands;
+        many = p .many ∙ o .many;
+        answer = p .answer ∙ o .answer;
+        whole = p .whole ∙ o .whole;
+        long = omega (arith, p .long, o .long);
+        within = omega (arith, p .within, length-drop bytes after, same-long, o .within);
+        is =
+            ap (λ (a : List ℕ). file ++ a) e
+            ∙ sym (append-assoc file (take bytes after) rest)
+            ∙ ap (λ (f : List ℕ). f ++ rest) in-front
+            ∙ p .is
+            ∙ ap (λ (r : List ℕ). p .longer ++ drop bytes′ r) rest-kept
+            ∙ ap (λ (r : List ℕ). p .longer ++ r) (drop-drop bytes′ bytes out);
+      }
+
+-- where no row is left, the whole file stands in the buffer
+pub onward-all : (vs : List Values) (out : List ℕ) {left : List Values} {sheet : List ℕ} {s : Standing} {bytes : ℕ} {after : List ℕ}
+    → Onward vs [] [] out left sheet s bytes after → left ≡ [] → after ≡ made vs ++ drop (length (made vs)) out
+unfolding made completedFrom
+onward-all vs out {bytes = bytes} o none =
+    let whole : o .longer ≡ made vs = rw none at (o .whole) in
+    let long : bytes ≡ length (o .longer) = omega (arith, o .long) in
+    o .is ∙ ap (λ (n : ℕ). o .longer ++ drop n out) long ∙ ap (λ (f : List ℕ). f ++ drop (length f) out) whole
