@@ -2,10 +2,13 @@
 use Prim.Native.Nat.{ℕ, zero, suc, _+_, _-_, _/_, _≤_, _<_}
 use native.Mathlib.Nat.{add-zero}
 use native.Mathlib.Omega.{arith}
-use mathlib.Core.Bool.{Bool, true, false}
+use mathlib.Core.Bool.{Bool, true, false, _&&_, and-eq-true-iff}
+use lib.Dec.{leb}
+use borrow.Author.Tests.{leb-true, leb-false}
+use borrow.Rule.Slice.PartAt.{part-to-end}
 use mathlib.Core.List.{List, [], _∷_, _++_, append-assoc, append-nil}
 use mathlib.Core.Path.{_≡_, refl, ap, sym, _∙_, subst}
-use lib.ListN.{length, getD, take, drop, length-append, length-drop, drop-of-length-le}
+use lib.ListN.{length, getD, take, drop, length-append, length-take, length-drop, drop-of-length-le}
 use lib.Seq.{sets, length-sets, drop-drop, take-append-add, take-append-seam, drop-append-add, drop-append-seam}
 use Rattle.text.specs.declared.character_set.CharacterSet.{CharacterSet}
 use Rattle.text.specs.declared.character_set.CharacterSet.the-variants.{Ascii}
@@ -261,6 +264,9 @@ module _ {vs : List Values} {file : List ℕ} {past : List Entry} {out : List �
             };
       }
 
+  pub bytes-within : bytes ≤ length after
+  bytes-within = omega (arith, same-long, o .within)
+
   -- some more of them, in the rest of the buffer
   pub onward-more : {left′ : List Values} {sheet′ : List ℕ} {s′ : Standing} {bytes′ : ℕ} {rest : List ℕ}
       → Onward left (o .longer) (o .newer) (drop bytes after) left′ sheet′ s′ bytes′ rest → {after′ : List ℕ} → after′ ≡ take bytes after ++ rest
@@ -292,3 +298,55 @@ onward-all vs out {bytes = bytes} o none =
     let whole : o .longer ≡ made vs = rw none at (o .whole) in
     let long : bytes ≡ length (o .longer) = omega (arith, o .long) in
     o .is ∙ ap (λ (n : ℕ). o .longer ++ drop n out) long ∙ ap (λ (f : List ℕ). f ++ drop (length f) out) whole
+
+-- more rows of a draft, from a place of it on, in the rest of the buffer
+module _ (set : CharacterSet) (text rows out : List ℕ) (at : ℕ) {bytes : ℕ} {vs : List Values} {file : List ℕ} {past : List Entry} {out₀ sheet : List ℕ} {s : Standing}
+    (o : Onward vs file past out₀ (valuesIn set text (drop at rows)) sheet s bytes out)
+    (few : length past + length vs ≤ 0x2000_0000_0000_0000) (fits : Fits vs file past (length out₀)) where
+  pub rows-ready : Ready (valuesIn set text (take (length rows - at) (drop at rows))) sheet s (length (take (length out - bytes) (drop bytes out)))
+  rows-ready = rw (part-to-end rows at, part-to-end out bytes) (ready-on o few fits)
+
+  pub rows-on : {r : Progress} {sheet′ rest : List ℕ}
+      → RowsSetOut set text (take (length rows - at) (drop at rows)) sheet (take (length out - bytes) (drop bytes out)) s r sheet′ rest
+      → Onward vs file past out₀ (valuesIn set text (drop (at + r .numbers) rows)) sheet′ (r .standing) (bytes + r .bytes)
+      (take bytes out ++ (rest ++ drop (length out - bytes) (drop bytes out)))
+  unfolding ready-on
+  rows-on {r} {sheet′} {rest} done =
+      let more = (rw (part-to-end rows at, part-to-end out bytes) at done) .onward (ready-on o few fits) in
+      let none : drop (length out - bytes) (drop bytes out) ≡ [] = drop-of-length-le (drop bytes out) {i = length out - bytes} (omega (arith, length-drop bytes out)) in
+      rw (sym (drop-drop (r .numbers) at rows))
+      (onward-more o more (ap (λ (x : List ℕ). take bytes out ++ (rest ++ x)) none ∙ ap (λ (x : List ℕ). take bytes out ++ x) (append-nil rest)))
+
+-- the rows of a bundle so far, of which the first is always set out
+pub record Bundle (set : CharacterSet) (text rows sheet₀ out₀ : List ℕ) (s₀ : Standing) (sheet out : List ℕ) (s : Standing) (bytes at : ℕ) (goes : Bool) : Type 0 where
+  pub within : at ≤ length rows
+  pub begun : at < 10 → (at ≡ 0) × (goes ≡ true)
+  pub onward : (b : Ready (valuesIn set text rows) sheet₀ s₀ (length out₀))
+      → Onward (valuesIn set text rows) (b .file) (b .past) out₀ (valuesIn set text (drop at rows)) sheet s bytes out
+
+module _ {set : CharacterSet} {text rows sheet₀ out₀ : List ℕ} {s₀ : Standing} where
+  pub bundle-first : Bundle set text rows sheet₀ out₀ s₀ sheet₀ out₀ s₀ 0 0 true
+  bundle-first = record { within = omega arith; begun = λ _. (refl, refl); onward = λ b. onward-none out₀ (b .stands) }
+
+  module _ {sheet out : List ℕ} {s : Standing} {bytes at : ℕ} {goes : Bool} (u : Bundle set text rows sheet₀ out₀ s₀ sheet out s bytes at goes) where
+    pub bundle-turn : goes && leb 10 (length rows - at) ≡ true → 10 ≤ length rows - at
+    bundle-turn e = leb-true 10 (length rows - at) (and-eq-true-iff goes (leb 10 (length rows - at)) .0 e .1)
+
+    pub bundle-on : {r : Progress} {sheet′ rest : List ℕ} (goes′ : Bool)
+        → RowsSetOut set text (take (length rows - at) (drop at rows)) sheet (take (length out - bytes) (drop bytes out)) s r sheet′ rest
+        → Bundle set text rows sheet₀ out₀ s₀ sheet′ (take bytes out ++ (rest ++ drop (length out - bytes) (drop bytes out))) (r .standing) (bytes + r .bytes) (at + r .numbers) goes′
+    bundle-on goes′ done =
+        record {
+          within = omega (arith, u .within, done .within, length-take (length rows - at) (drop at rows), length-drop at rows);
+          begun = λ h. absurd (omega (arith, done .some));
+          onward = λ b. rows-on set text rows out at (u .onward b) (b .few) (b .fits) done;
+        }
+
+    pub bundle-some : 10 ≤ length rows → goes && leb 10 (length rows - at) ≡ false → 10 ≤ at
+    bundle-some h e = by (leb 10 at) refl
+      where
+        by : (c : Bool) → leb 10 at ≡ c → 10 ≤ at
+        by true q = leb-true 10 at q
+        by false q =
+            let first = u .begun (leb-false 10 at q) in
+            absurd (omega (arith, first .0, leb-false 10 (length rows - at) (rw (first .1) at e)))

@@ -131,7 +131,7 @@ fn write_bundle<'a>(
         open = rows[at] != 70;
         standing = one.standing;
         bytes += one.bytes;
-        at += 10;
+        at += one.numbers;
     }
     Progress {
         numbers: at,

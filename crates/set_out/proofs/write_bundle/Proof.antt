@@ -1,3 +1,10 @@
+use mathlib.Core.Path.{sym, _∙_}
+use mathlib.Core.Bool.{true}
+use Prim.Native.Nat.{_-_}
+use native.Mathlib.Omega.{arith}
+use denote.Ref.{now}
+use lib.ListN.{length, drop, length-take, length-drop}
+use Rattle.set_out.proofs.Rows.{Bundle, bundle-first, bundle-turn, bundle-on, bundle-some, rows-ready, same-long, bytes-within}
 use borrow.Author.Needs.{needs}
 use Rattle.set_out.proofs.write_bundle.Statement.{statement}
 use Rattle.set_out.proofs.write_bundle.Tie as tie
@@ -7,87 +14,68 @@ use Rattle.set_out.proofs.write_row.Reads as write-row-reads
 
 abbrev Inv-loop : tie.InvT-loop
 Inv-loop set layouts text rows sheet₀ out₀ standing₀ bytes₀ at₀ open₀ sheet out standing bytes at «open» =
-    ?
+    Bundle set text rows sheet₀ out₀ standing₀ sheet out standing bytes at «open»
 
 abbrev μ-loop : tie.MeasureT-loop
 μ-loop set layouts text rows sheet₀ out₀ standing₀ bytes₀ at₀ open₀ sheet out standing bytes at «open» =
-    ?
+    length rows - at
 
--- src/lib.rt:121:5
 loop-holds : tie.Need-loop-holds Inv-loop μ-loop
-loop-holds c = ?
+loop-holds c = bundle-first
 
--- src/lib.rt:121:25
 sub-loop : tie.Need-sub-loop Inv-loop μ-loop
-sub-loop c = ?
+sub-loop c = c .loop .inv .within
 
--- src/lib.rt:126:13
 mul-write-row : tie.Need-mul-write-row Inv-loop μ-loop
-mul-write-row c = ?
+mul-write-row c = search needs
 
--- src/lib.rt:126:13
 sub-write-row : tie.Need-sub-write-row Inv-loop μ-loop
-sub-write-row c = ?
+sub-write-row c = c .before .loop .inv .within
 
--- src/lib.rt:126:13
 part-write-row-start : tie.Need-part-write-row-start Inv-loop μ-loop
-part-write-row-start c = ?
+part-write-row-start c = c .before .loop .inv .within
 
--- src/lib.rt:126:13
 part-write-row-end : tie.Need-part-write-row-end Inv-loop μ-loop
-part-write-row-end c = ?
+part-write-row-end c = search needs
 
--- src/lib.rt:129:13
 sub-write-row-2 : tie.Need-sub-write-row-2 Inv-loop μ-loop
-sub-write-row-2 c = ?
+sub-write-row-2 c = bytes-within (c .before .before .before .loop .inv .onward (c .before .before .before .before .before .before .before .before .before .pre .2))
 
--- src/lib.rt:129:13
 part-write-row-start-2 : tie.Need-part-write-row-start-2 Inv-loop μ-loop
-part-write-row-start-2 c = ?
+part-write-row-start-2 c = bytes-within (c .before .before .before .loop .inv .onward (c .before .before .before .before .before .before .before .before .before .pre .2))
 
--- src/lib.rt:129:13
 part-write-row-end-2 : tie.Need-part-write-row-end-2 Inv-loop μ-loop
-part-write-row-end-2 c = ?
+part-write-row-end-2 c = search needs
 
--- src/lib.rt:122:13
 write-row-requires : tie.Need-write-row-requires Inv-loop μ-loop
-write-row-requires c κs = ?
+write-row-requires c κs = (c .before .before .before .before .before .before .before .before .before .before .pre .0, omega (arith, bundle-turn (c .before .before .before .before .loop .inv) (c .before .before .before .loop-test .taken), length-take (length (now (c .before .before .before .before .before .before .before .before .before .before .args .rows)) - c .before .before .before .before .loop .at) (drop (c .before .before .before .before .loop .at) (now (c .before .before .before .before .before .before .before .before .before .before .args .rows))), length-drop (c .before .before .before .before .loop .at) (now (c .before .before .before .before .before .before .before .before .before .before .args .rows))), rows-ready (c .before .before .before .before .before .before .before .before .before .before .args .set) (now (c .before .before .before .before .before .before .before .before .before .before .args .text)) (now (c .before .before .before .before .before .before .before .before .before .before .args .rows)) (c .before .before .before .before .loop .out) (c .before .before .before .before .loop .at) (c .before .before .before .before .loop .inv .onward (c .before .before .before .before .before .before .before .before .before .before .pre .2)) (c .before .before .before .before .before .before .before .before .before .before .pre .2 .few) (c .before .before .before .before .before .before .before .before .before .before .pre .2 .fits))
 
--- src/lib.rt:131:16
 mul-open : tie.Need-mul-open Inv-loop μ-loop
-mul-open c = ?
+mul-open c = omega (arith, c .before .before .before .before .before .before .before .before .before .loop .inv .within, bundle-turn (c .before .before .before .before .before .before .before .before .before .loop .inv) (c .before .before .before .before .before .before .before .before .loop-test .taken), c .before .before .before .before .before .before .before .before .before .before .before .before .before .before .before .good)
 
--- src/lib.rt:131:16
 shared-slice-read-open : tie.Need-shared-slice-read-open Inv-loop μ-loop
-shared-slice-read-open c = ?
+shared-slice-read-open c = let h = bundle-turn (c .before .before .before .before .before .before .before .before .before .before .loop .inv) (c .before .before .before .before .before .before .before .before .before .loop-test .taken) in search needs
 
--- src/lib.rt:133:9
 add-bytes : tie.Need-add-bytes Inv-loop μ-loop
-add-bytes c = ?
+add-bytes c = omega (arith, bundle-on (c .before .before .before .before .before .before .before .before .before .before .before .before .loop .inv) true (c .before .before .before .before .before .before .before .write-row .ensures) .onward (c .before .before .before .before .before .before .before .before .before .before .before .before .before .before .before .before .before .before .pre .2) .within, c .before .before .before .before .before .before .before .before .before .before .before .before .before .before .before .before .before .before .good)
 
--- src/lib.rt:134:9
 add-at : tie.Need-add-at Inv-loop μ-loop
-add-at c = ?
+add-at c = omega (arith, bundle-on (c .before .before .before .before .before .before .before .before .before .before .before .before .before .loop .inv) true (c .before .before .before .before .before .before .before .before .write-row .ensures) .within, c .before .before .before .before .before .before .before .before .before .before .before .before .before .before .before .before .before .before .before .good)
 
--- src/lib.rt:121:5
 loop-less : tie.Need-loop-less Inv-loop μ-loop
-loop-less c = ?
+loop-less c = omega (arith, bundle-on (c .before .before .before .before .before .before .before .before .before .before .before .before .before .loop .inv) true (c .before .before .before .before .before .before .before .before .write-row .ensures) .within, c .before .before .before .before .before .before .before .before .write-row .ensures .some)
 
--- src/lib.rt:121:5
 loop-again : tie.Need-loop-again Inv-loop μ-loop
-loop-again c = ?
+loop-again c = bundle-on (c .before .before .before .before .before .before .before .before .before .before .before .before .before .loop .inv) _ (c .before .before .before .before .before .before .before .before .write-row .ensures)
 
--- src/lib.rt:105:1
 same-length : tie.Need-same-length Inv-loop μ-loop
-same-length c = ?
+same-length c = (c .before .loop .inv .onward (c .before .before .before .before .before .before .before .pre .2)) .stands .long ∙ sym (c .before .before .before .before .before .before .before .pre .2 .stands .long)
 
--- src/lib.rt:105:1
 same-length-2 : tie.Need-same-length-2 Inv-loop μ-loop
-same-length-2 c = ?
+same-length-2 c = same-long (c .before .loop .inv .onward (c .before .before .before .before .before .before .before .pre .2))
 
--- src/lib.rt:105:1
 returns : tie.Need-returns Inv-loop μ-loop
-returns c = ?
+returns c = record { some = bundle-some (c .before .loop .inv) (c .before .before .before .before .before .before .before .pre .1) (c .loop-test .left); within = c .before .loop .inv .within; onward = c .before .loop .inv .onward }
 
 pub write-bundle-spec : {M : Type 1} → statement M
 write-bundle-spec =
