@@ -1,13 +1,12 @@
 -- Rows set out one after the other: those that are left come to the same behind the longer file. Assumes nothing.
 use Prim.Native.Nat.{ℕ, zero, suc, _+_, _-_, _/_, _≤_, _<_}
-use native.Mathlib.Nat.{add-zero}
 use native.Mathlib.Omega.{arith}
 use mathlib.Core.Bool.{Bool, true, false, _&&_, and-eq-true-iff}
 use lib.Dec.{leb}
 use borrow.Author.Tests.{leb-true, leb-false}
 use borrow.Rule.Slice.PartAt.{part-to-end}
 use mathlib.Core.List.{List, [], _∷_, _++_, append-assoc, append-nil}
-use mathlib.Core.Path.{_≡_, refl, ap, sym, _∙_, subst}
+use mathlib.Core.Path.{_≡_, refl, ap, sym, _∙_}
 use lib.ListN.{length, getD, take, drop, length-append, length-take, length-drop, drop-of-length-le}
 use lib.Seq.{sets, length-sets, drop-drop, take-append-add, take-append-seam, drop-append-add, drop-append-seam}
 use Rattle.text.specs.declared.character_set.CharacterSet.{CharacterSet}
@@ -39,7 +38,7 @@ use Rattle.made_is_read.proofs.Whole.{appended, written-fits}
 use Rattle.sheet.specs.Sheet.{slotOf, OnSheet}
 use Rattle.sheet.proofs.Parts.{part-stored, record-long}
 use Rattle.sheet.proofs.Slots.{low-slot}
-use Rattle.sheet.proofs.Laws.{sheet-follows, sheet-fixed, sheet-moves}
+use Rattle.sheet.proofs.Laws.{sheet-starts, sheet-follows, sheet-fixed, sheet-moves}
 use Rattle.set_out.specs.declared.Progress.{Progress}
 use Rattle.set_out.specs.SetOut.{valuesIn, Fits, Ready, Onward, RowsSetOut}
 
@@ -350,3 +349,49 @@ module _ {set : CharacterSet} {text rows sheet₀ out₀ : List ℕ} {s₀ : Sta
         by false q =
             let first = u .begun (leb-false 10 at q) in
             absurd (omega (arith, first .0, leb-false 10 (length rows - at) (rw (first .1) at e)))
+
+-- the rows of a draft so far
+pub record Draft (set : CharacterSet) (text rows out₀ : List ℕ) (out sheet : List ℕ) (s : Standing) (bytes at : ℕ) : Type 0 where
+  pub within : at ≤ length rows
+  pub few : length (valuesIn set text rows) ≤ 0x2000_0000_0000_0000
+  pub onward : Onward (valuesIn set text rows) [] [] out₀ (valuesIn set text (drop at rows)) sheet s bytes out
+
+module _ {set : CharacterSet} {text rows out₀ : List ℕ} where
+  pub draft-first : length rows ≤ 0xFFFF_FFFF_FFFF_FFFF → {sheet : List ℕ} → length sheet ≡ 800 → {s : Standing} → s ≡ cappedFigures (standing Ascii [] [])
+      → Draft set text rows out₀ out₀ sheet s 0 0
+  draft-first short {sheet} long {s} e =
+      record {
+        within = omega arith;
+        few = omega (arith, as-many set text (length rows / 10) rows);
+        onward = onward-none out₀ (sheet-starts sheet long s e);
+      }
+
+  module _ {out sheet : List ℕ} {s : Standing} {bytes at : ℕ} (u : Draft set text rows out₀ out sheet s bytes at) where
+    pub draft-room : bytes ≤ length out
+    draft-room = bytes-within (u .onward)
+
+    pub draft-some : 10 ≤ length rows - at → 10 ≤ length (take (length rows - at) (drop at rows))
+    draft-some h = omega (arith, length-take (length rows - at) (drop at rows), length-drop at rows)
+
+    pub draft-ready : Fits (valuesIn set text rows) [] [] (length out₀)
+        → Ready (valuesIn set text (take (length rows - at) (drop at rows))) sheet s (length (take (length out - bytes) (drop bytes out)))
+    draft-ready fits = rows-ready set text rows out at (u .onward) (omega (arith, u .few)) fits
+
+    -- the next of them, whichever way they were set out
+    pub draft-on : Fits (valuesIn set text rows) [] [] (length out₀) → {r : Progress} {sheet′ rest : List ℕ}
+        → RowsSetOut set text (take (length rows - at) (drop at rows)) sheet (take (length out - bytes) (drop bytes out)) s r sheet′ rest
+        → {out″ : List ℕ} → out″ ≡ take bytes out ++ (rest ++ drop (length out - bytes) (drop bytes out)) → {sheet″ : List ℕ} → sheet″ ≡ sheet′
+        → {r″ : Progress} → r″ ≡ r
+        → Draft set text rows out₀ out″ sheet″ (r″ .standing) (bytes + r″ .bytes) (at + r″ .numbers) × (10 ≤ r″ .numbers)
+    draft-on fits done e f g =
+        rw (e, f, g) (
+          record {
+            within = omega (arith, u .within, done .within, length-take (length rows - at) (drop at rows), length-drop at rows);
+            few = u .few;
+            onward = rows-on set text rows out at (u .onward) (omega (arith, u .few)) fits done;
+          },
+          done .some,
+        )
+
+    pub draft-all : length rows - at < 10 → out ≡ made (valuesIn set text rows) ++ drop (length (made (valuesIn set text rows))) out₀
+    draft-all h = onward-all (valuesIn set text rows) out₀ (u .onward) (rows-none set text (drop at rows) (omega (arith, length-drop at rows)))

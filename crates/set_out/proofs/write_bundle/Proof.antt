@@ -8,9 +8,6 @@ use Rattle.set_out.proofs.Rows.{Bundle, bundle-first, bundle-turn, bund
 use borrow.Author.Needs.{needs}
 use Rattle.set_out.proofs.write_bundle.Statement.{statement}
 use Rattle.set_out.proofs.write_bundle.Tie as tie
-use Rattle.set_out.proofs.write_bundle.Reads as reads
-use Rattle.set_out.proofs.write_bundle.Lts as lts
-use Rattle.set_out.proofs.write_row.Reads as write-row-reads
 
 abbrev Inv-loop : tie.InvT-loop
 Inv-loop set layouts text rows sheet₀ out₀ standing₀ bytes₀ at₀ open₀ sheet out standing bytes at «open» =

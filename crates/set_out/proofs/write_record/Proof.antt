@@ -7,12 +7,6 @@ use Rattle.set_out.proofs.Record.{record-size, record-set-down}
 use borrow.Author.Needs.{needs}
 use Rattle.set_out.proofs.write_record.Statement.{statement}
 use Rattle.set_out.proofs.write_record.Tie as tie
-use Rattle.set_out.proofs.write_record.Reads as reads
-use Rattle.set_out.proofs.write_record.Lts as lts
-use Rattle.copying.proofs.copy_bytes.Reads as copy-bytes-reads
-use Rattle.fitting.proofs.size_of.Reads as size-of-reads
-use Rattle.set_out.proofs.put_length.Reads as put-length-reads
-use Rattle.set_out.proofs.put_parts.Reads as put-parts-reads
 
 size-of-requires : tie.Need-size-of-requires
 size-of-requires c κs = search needs

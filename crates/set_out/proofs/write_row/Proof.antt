@@ -4,14 +4,6 @@ use Rattle.set_out.proofs.Rows.{row-owned, row-roomy, slot-room, row-en
 use borrow.Author.Needs.{needs}
 use Rattle.set_out.proofs.write_row.Statement.{statement}
 use Rattle.set_out.proofs.write_row.Tie as tie
-use Rattle.set_out.proofs.write_row.Reads as reads
-use Rattle.set_out.proofs.write_row.Lts as lts
-use Rattle.completing.proofs.complete.Reads as complete-reads
-use Rattle.draft_rows.proofs.addenda_behind.Reads as addenda-behind-reads
-use Rattle.layout.proofs.own_numbers.Reads as own-numbers-reads
-use Rattle.set_out.proofs.write_record.Reads as write-record-reads
-use Rattle.sheet.proofs.slot_of.Reads as slot-of-reads
-use Rattle.standing.proofs.moved.Reads as moved-reads
 
 shared-slice-read-kind : tie.Need-shared-slice-read-kind
 shared-slice-read-kind c = search needs
