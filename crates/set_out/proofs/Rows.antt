@@ -350,6 +350,10 @@ module _ {set : CharacterSet} {text rows sheet₀ out₀ : List ℕ} {s₀ : Sta
             let first = u .begun (leb-false 10 at q) in
             absurd (omega (arith, first .0, leb-false 10 (length rows - at) (rw (first .1) at e)))
 
+-- a whole draft that can be made out
+pub fits-room : {vs : List Values} {n : ℕ} {t : Totals} → answerFrom vs [] [] ≡ Written n t → {room : ℕ} → n ≤ room → Fits vs [] [] room
+fits-room {n = n} {t = t} e h = record { size = n; totals = t; written = e; within = omega arith }
+
 -- the rows of a draft so far
 pub record Draft (set : CharacterSet) (text rows out₀ : List ℕ) (out sheet : List ℕ) (s : Standing) (bytes at : ℕ) : Type 0 where
   pub within : at ≤ length rows
