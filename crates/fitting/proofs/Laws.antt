@@ -224,7 +224,7 @@ module _ (own rows : List ℕ) (parts end : ℕ) where
         behind = ap (λ (n : ℕ). drop n own) at ∙ sym (drop-drop (linesIn (getD own 0 0)) 1 own)
 
     -- all of them to begin with
-    all-pieces : (set : CharacterSet) (text : List ℕ) → piecesAt set text (layoutOf (getD rows 0 0) .fixedLength) parts ≡ valuesOfRow set text rows .parts
+    pub all-pieces : (set : CharacterSet) (text : List ℕ) → piecesAt set text (layoutOf (getD rows 0 0) .fixedLength) parts ≡ valuesOfRow set text rows .parts
     unfolding valuesOfRow valuesAt
     all-pieces set text = let none : parts - parts ≡ 0 = omega arith in rw (none, owned-parts)
 
@@ -259,7 +259,7 @@ module _ (own rows : List ℕ) (parts end : ℕ) where
     sizes-behind : drop 1 (drop (i - parts) (take 7 (drop 3 rows))) ≡ drop (i + 1 - parts) (take 7 (drop 3 rows))
     sizes-behind = let e : i - parts + 1 ≡ i + 1 - parts = omega arith in drop-drop 1 (i - parts) (take 7 (drop 3 rows)) ∙ ap (λ (n : ℕ). drop n (take 7 (drop 3 rows))) e
 
-    next-piece : (set : CharacterSet) (text : List ℕ) (far : ℕ)
+    pub next-piece : (set : CharacterSet) (text : List ℕ) (far : ℕ)
         → piecesAt set text far i
         ≡ piece set text (sizedOf i (getD own i 0) .dataType) (getD rows 1 0 + far) (sizeAt i) ∷ piecesAt set text (far + sizeAt i) (i + 1)
     next-piece set text far = rw (next-part, next-size, sizes-behind, add-assoc (getD rows 1 0) far (sizeAt i))

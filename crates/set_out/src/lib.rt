@@ -4,18 +4,16 @@ use standing::Standing;
 use text::CharacterSet;
 ghost use mathlib.Core.List.{List, [], _∷_, _++_};
 ghost use mathlib.Core.Path.{_≡_};
-ghost use Prim.Native.Nat.{ℕ, _+_, _-_, _*_, _/_, _≤_};
+ghost use Prim.Native.Nat.{ℕ, _+_, _≤_};
 ghost use lib.ListN.{length, getD, drop};
+ghost use lib.Seq.{sets};
 ghost use Rattle.layout.specs.Packing.{Packed};
-ghost use Rattle.standing.specs.History.{Entry};
-ghost use Rattle.standing.specs.Standing.{Roomy};
-ghost use Rattle.file_as_records.specs.Framed.{framed};
+ghost use Rattle.file_as_records.specs.Framed.{lengthField, framed};
 ghost use Rattle.draft.specs.Owned.{Owned};
-ghost use Rattle.draft.specs.Values.{layoutOf, valuesOfRow, valuesOfRows, valuesOfDraft};
+ghost use Rattle.draft.specs.Values.{layoutOf, valuesOfRow};
 ghost use Rattle.draft.specs.Completed.{allParts, allSizes};
 ghost use Rattle.draft.specs.Drafted.{made};
-ghost use Rattle.sheet.specs.Sheet.{OnSheet};
-ghost use Rattle.set_out.specs.SetOut.{bytesOf, fileAfter, pastAfter};
+ghost use Rattle.set_out.specs.SetOut.{valuesIn, Fits, Ready, RowsSetOut};
 
 // How far the setting out has come: numbers of the draft, bytes of the buffer, and what then stands before the next record.
 pub struct Progress {
@@ -25,38 +23,42 @@ pub struct Progress {
 }
 
 // The four bytes of a length, high byte first.
-fn put_length(out: &mut [u8], size: usize) {
+fn put_length(out: &mut [u8], size: usize)
+    requires { ⌜ 4 ≤ length (now out) ⌝ }
+    ensures { λ _. ⌜ now (out .exit) ≡ sets (now (out .entry)) 0 (lengthField size) ⌝ }
+{
     out[0] = (size / 0x100_0000 % 0x100) as u8;
     out[1] = (size / 0x1_0000 % 0x100) as u8;
     out[2] = (size / 0x100 % 0x100) as u8;
     out[3] = (size % 0x100) as u8;
 }
 
-// The parts of a record, one after the other, from a place of the buffer on.
-fn put_parts(set: CharacterSet, own: &[u64], text: &[u8], rows: &[u64], out: &mut [u8], at: usize) {
+// The parts of a record, one after the other, behind its length and its fixed part.
+fn put_parts<'a>(set: CharacterSet, own: &'a [u64], text: &[u8], rows: &'a [u64], out: &mut [u8])
+    requires { ⌜ Owned (layoutOf (getD (now rows) 0 0)) (now own) × (10 ≤ length (now rows)) × (4 + (layoutOf (getD (now rows) 0 0) .fixedLength + allSizes (valuesOfRow set (now text) (now rows) .parts)) ≤ length (now out)) ⌝ }
+    ensures { λ _. ⌜ now (out .exit) ≡ sets (now (out .entry)) (4 + layoutOf (getD (now (rows .entry)) 0 0) .fixedLength) (allParts (valuesOfRow set (now (text .entry)) (now (rows .entry)) .parts)) ⌝ }
+{
     let header = own[0];
     let end = layout::fields_in(header) + 1;
     let parts = end - layout::parts_in(header);
     let start = rows[1] as usize;
     let mut place = layout::length_in(header);
-    let mut to = at;
     let mut i = parts;
     while i < end {
         let size = rows[3 + (i - parts)] as usize;
         let data_type = layout::data_type_of(own[i] / 0x100_0000 % 0x100);
-        completing::put_piece(set, data_type, text, start, place, size, out, to);
+        completing::put_piece(set, data_type, text, start, place, size, out, 4 + place);
         place += size;
-        to += size;
         i += 1;
     }
 }
 
 // One record: its length, its fixed part, which stands completed on the sheet, and its parts. How many bytes it takes.
-pub fn write_record(
+pub fn write_record<'a>(
     set: CharacterSet,
-    own: &[u64],
+    own: &'a [u64],
     text: &[u8],
-    rows: &[u64],
+    rows: &'a [u64],
     fixed: &[u8],
     out: &mut [u8],
 ) -> usize
@@ -66,20 +68,23 @@ pub fn write_record(
     let size = fitting::size_of(own, rows);
     put_length(out, size);
     copying::copy_bytes(fixed, 0, fixed.len(), out, 4);
-    put_parts(set, own, text, rows, out, 4 + fixed.len());
+    put_parts(set, own, text, rows, out);
     4 + size
 }
 
 // The record of the first row: completed on the sheet, and written.
-fn write_row(
+fn write_row<'a>(
     set: CharacterSet,
-    layouts: &[u64],
+    layouts: &'a [u64],
     text: &[u8],
-    rows: &[u64],
+    rows: &'a [u64],
     s: Standing,
     sheet: &mut [u8],
     out: &mut [u8],
-) -> Progress {
+) -> Progress
+    requires { ⌜ Packed (now layouts) × (10 ≤ length (now rows)) × Ready (valuesIn set (now text) (now rows)) (now sheet) s (length (now out)) ⌝ }
+    ensures { λ r. ⌜ RowsSetOut set (now (text .entry)) (now (rows .entry)) (now (sheet .entry)) (now (out .entry)) s r (now (sheet .exit)) (now (out .exit)) ⌝ }
+{
     let kind = rows[0];
     let own = layout::own_numbers(layouts, kind);
     let addenda = draft_rows::addenda_behind(rows);
@@ -97,15 +102,18 @@ fn write_row(
 }
 
 // A bundle: the records from the first row through the next 70, or to the end of the rows.
-fn write_bundle(
+fn write_bundle<'a>(
     set: CharacterSet,
-    layouts: &[u64],
+    layouts: &'a [u64],
     text: &[u8],
-    rows: &[u64],
+    rows: &'a [u64],
     s: Standing,
     sheet: &mut [u8],
     out: &mut [u8],
-) -> Progress {
+) -> Progress
+    requires { ⌜ Packed (now layouts) × (10 ≤ length (now rows)) × Ready (valuesIn set (now text) (now rows)) (now sheet) s (length (now out)) ⌝ }
+    ensures { λ r. ⌜ RowsSetOut set (now (text .entry)) (now (rows .entry)) (now (sheet .entry)) (now (out .entry)) s r (now (sheet .exit)) (now (out .exit)) ⌝ }
+{
     let mut standing = s;
     let mut bytes: usize = 0;
     let mut at: usize = 0;
@@ -123,7 +131,7 @@ fn write_bundle(
         open = rows[at] != 70;
         standing = one.standing;
         bytes += one.bytes;
-        at += 10;
+        at += one.numbers;
     }
     Progress {
         numbers: at,
@@ -133,11 +141,16 @@ fn write_bundle(
 }
 
 // The whole file, bundle by bundle; records outside a bundle one by one.
-pub fn write_rows(layouts: &[u64], text: &[u8], draft: &[u64], out: &mut [u8])
-    requires { ⌜ Packed (now layouts) ⌝ }
-    ensures { λ _. ⌜ bytesOf (valuesOfDraft (now (text .entry)) (now (draft .entry))) ≤ length (now (out .entry)) → now (out .exit) ≡ made (valuesOfDraft (now (text .entry)) (now (draft .entry))) ++ drop (length (made (valuesOfDraft (now (text .entry)) (now (draft .entry))))) (now (out .entry)) ⌝ }
+pub fn write_rows<'a>(
+    set: CharacterSet,
+    layouts: &'a [u64],
+    text: &[u8],
+    draft: &'a [u64],
+    out: &mut [u8],
+)
+    requires { ⌜ Packed (now layouts) × Fits (valuesIn set (now text) (now draft)) [] [] (length (now out)) ⌝ }
+    ensures { λ _. ⌜ now (out .exit) ≡ made (valuesIn set (now (text .entry)) (now (draft .entry))) ++ drop (length (made (valuesIn set (now (text .entry)) (now (draft .entry))))) (now (out .entry)) ⌝ }
 {
-    let set = draft_survey::set_of_text(text, draft);
     let mut sheet: [u8; 800] = [0; 800];
     let mut s = Standing::start();
     let mut bytes: usize = 0;
