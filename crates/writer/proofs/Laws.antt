@@ -20,6 +20,7 @@ use Rattle.draft.specs.declared.Outcome.the-variants.{Written, Refused}
 use Rattle.draft.specs.Values.{Values, setOfText, valuesOfRows, valuesOfDraft}
 use Rattle.draft.specs.Drafted.{made, offsetOf, answerFrom, inRoom, outcomeOf, bufferAfter, bufferOf}
 use Rattle.draft.specs.Promises.{ReadBack, MadeAgain, Promised}
+use Rattle.draft_survey.specs.CappedOutcome.{cappedOutcome}
 use Rattle.set_out.specs.SetOut.{valuesIn, Fits}
 use Rattle.draft.proofs.Shapes.{shaped-draft}
 use Rattle.made_is_read.proofs.Whole.{accepted, as-the-reader}
@@ -139,3 +140,52 @@ module _ (text draft : List ℕ) where
         written = ap (λ (vs : List Values). answerFrom vs [] []) (same-values set told) ∙ e;
         within = omega (arith, counted n 0xFFFF_FFFF_FFFF_FFFF b (omega arith));
       }
+
+-- the answer behind what the first pass tells
+record Told (answer : Outcome) (bytes : ℕ) (t : Totals) : Type 0 where
+  size : ℕ
+  is : answer ≡ Written size t
+  counts : bytes ≡ offsetOf size
+
+told : (answer : Outcome) {bytes : ℕ} {t : Totals} → Written bytes t ≡ cappedOutcome answer → Told answer bytes t
+told (Written n u) e = record { size = n; is = cc; counts = cc }
+told (Refused fault place offset) e = never (sym e)
+
+told-refused : (answer : Outcome) {fault : Fault} {place offset : ℕ} → Refused fault place offset ≡ cappedOutcome answer → answer ≡ Refused fault place offset
+told-refused (Written n u) e = never e
+told-refused (Refused fault place offset) e = sym e
+
+-- what is promised of the call, in each way that it ends
+module _ (text draft out : List ℕ) where
+  abbrev pub Done : Outcome → List ℕ → Type 0
+  Done r after =
+      (r ≡ outcomeOf (valuesOfDraft text draft) (length out)) × ((after ≡ bufferOf (valuesOfDraft text draft) out) × Promised text draft out r after)
+
+  done : {r : Outcome} {after : List ℕ} → (r ≡ outcomeOf (valuesOfDraft text draft) (length out)) × (after ≡ bufferOf (valuesOfDraft text draft) out)
+      → Done r after
+  done e = (e .0, (e .1, rw (e .0, e .1) (promised text draft out)))
+
+  pub done-refused : {r : Outcome} {fault : Fault} {place offset : ℕ} → r ≡ Refused fault place offset
+      → r ≡ cappedOutcome (answerFrom (valuesOfDraft text draft) [] []) → Done r out
+  done-refused q e = subst (λ (o : Outcome). Done o out) (sym q) (done (refused-settles text draft out (told-refused _ (sym q ∙ e))))
+
+  module _ {r : Outcome} {bytes : ℕ} {t : Totals} (q : r ≡ Written bytes t) (f : r ≡ cappedOutcome (answerFrom (valuesOfDraft text draft) [] [])) where
+    e : Written bytes t ≡ cappedOutcome (answerFrom (valuesOfDraft text draft) [] [])
+    e = sym q ∙ f
+
+    pub done-large : 268_435_456 < bytes → Done (Refused Size 0 0) out
+    done-large h = let k = told _ e in done (large-settles text draft out (k .size) bytes t (k .is) (k .counts) h)
+
+    pub done-short : bytes ≤ 268_435_456 → length out < bytes → Done (Refused Room bytes 0) out
+    done-short small h = let k = told _ e in done (short-settles text draft out (k .size) bytes t (k .is) (k .counts) small h)
+
+    module _ (small : bytes ≤ 268_435_456) (h : bytes ≤ length out) (set : CharacterSet) (of : 10 ≤ length draft → set ≡ setOfText text draft) where
+      pub asks : Fits (valuesIn set text draft) [] [] (length out)
+      asks = let k = told _ e in all-fits text draft set of out (k .size) bytes t (k .is) (k .counts) small h
+
+      pub done-written : {after : List ℕ}
+          → after ≡ made (valuesIn set text draft) ++ drop (length (made (valuesIn set text draft))) out → Done (Written bytes t) after
+      done-written {after} b =
+          let k = told _ e in
+          let w = written-settles text draft out (k .size) bytes t (k .is) (k .counts) small h in
+          done (w .0, w .1 after (b ∙ ap (λ (vs : List Values). made vs ++ drop (length (made vs)) out) (same-values text draft set of)))
