@@ -69,9 +69,9 @@ pub extern "C" fn x9_read(file: &[u8], table: &mut [u64], answer: &mut [u64; 12]
 // The making out of a whole file: the number, in `out` the bytes of a file that could be made out, and in `answer` the numbers as x9_read has them, with
 // the bytes written as the offset.
 #[no_mangle]
-pub extern "C" fn x9_write(
-    text: &[u8],
-    draft: &[u64],
+pub extern "C" fn x9_write<'a>(
+    text: &'a [u8],
+    draft: &'a [u64],
     out: &mut [u8],
     answer: &mut [u64; 12],
 ) -> u64
