@@ -1,19 +1,17 @@
 //! One draft, or one file, put to both sides.
 
-use peer_reader::copy::copy;
-use peer_reader::descent::{read, Number};
+use peer_reader::descent::{read, Answer, Number};
 use peer_reader::random::Random;
 
 use peer_writer::asked::{buffer_lengths, draft_lengths};
-use peer_writer::draft::{draft_of, ROW};
+use peer_writer::draft::ROW;
 use peer_writer::points::Tally;
+use peer_writer::promises::{as_the_reader_would, written_is_accepted};
 use peer_writer::sheet::Made;
 use peer_writer::write::{judge, write};
 
-use crate::abi;
-
-/// A difference, in words.
-pub type Difference = String;
+use proved::again::{drafts_agree, written_again};
+use proved::{abi, Difference};
 
 /// Counts of what was put to both sides.
 #[derive(Clone, Copy, Default)]
@@ -22,6 +20,8 @@ pub struct Counts {
     pub accepted: u64,
     pub writings: u64,
     pub bytes: u64,
+    /// Written files that were read, and their values compared with the draft's.
+    pub read_back: u64,
     pub files: u64,
     /// Accepted files that were written again.
     pub again: u64,
@@ -33,12 +33,13 @@ impl Counts {
         self.accepted += other.accepted;
         self.writings += other.writings;
         self.bytes += other.bytes;
+        self.read_back += other.read_back;
         self.files += other.files;
         self.again += other.again;
     }
 }
 
-/// Compares both sides on one draft with every buffer that is asked for.
+/// Compares both sides on one draft with every buffer that is asked for, and asserts the promises of point 26 and the statement of point 25.
 pub fn check_draft(made: &Made, random: &mut Random, tally: &mut Tally, counts: &mut Counts) -> Result<(), Difference> {
     let verdict = judge(&made.text, &made.numbers);
     tally.note_draft(made, &verdict);
@@ -46,11 +47,34 @@ pub fn check_draft(made: &Made, random: &mut Random, tally: &mut Tally, counts: 
     counts.accepted += u64::from(verdict.answer.number == Number::Accepted);
     for room in buffer_lengths(&verdict, random) {
         tally.note_buffer(made, &verdict, room);
-        writings_agree(&made.text, &made.numbers, room, random)?;
+        let written = writings_agree(&made.text, &made.numbers, room, random)?;
         counts.writings += 1;
         counts.bytes += room as u64;
+        if verdict.answer.number == Number::Accepted && verdict.answer.offset == room as u64 {
+            read_back(made, &verdict.answer, &written)?;
+            counts.read_back += 1;
+        }
+    }
+    if made.numbers.len() <= SHORT && verdict.answer.number != Number::Size {
+        as_the_reader_would(&made.text, &made.numbers, &verdict.answer)?;
     }
     Ok(())
+}
+
+/// The records of drafts up to this many numbers are completed and read.
+const SHORT: usize = 20_000;
+
+/// What the proved library has written it reads with the answer it wrote it with, and the independent reader finds the draft's values there.
+fn read_back(made: &Made, answer: &Answer, file: &[u8]) -> Result<(), Difference> {
+    let mut table = vec![0; answer.record as usize * 7];
+    let (number, read) = abi::read(file, &mut table)?;
+    if number != 0 || read != answer.listed() {
+        return Err(format!(
+            "written with {:?}\n  proved reads it, returns {number}, answer {read:?}",
+            answer.listed()
+        ));
+    }
+    written_is_accepted(&made.text, &made.numbers, answer, file)
 }
 
 /// Bytes before and behind a lent buffer that no call may touch, and before and behind what is read that no call may look at.
@@ -67,7 +91,8 @@ fn within<T>(around: &[T]) -> &[T] {
 }
 
 /// Both sides on one draft and one buffer length: the number, the answer, every byte written, every byte left alone, guards on either side.
-pub fn writings_agree(text: &[u8], numbers: &[u64], room: usize, random: &mut Random) -> Result<(), Difference> {
+/// Gives the buffer as the proved library leaves it.
+pub fn writings_agree(text: &[u8], numbers: &[u64], room: usize, random: &mut Random) -> Result<Vec<u8>, Difference> {
     let pattern = random.byte();
     let mut theirs = vec![pattern; GUARD + room + GUARD];
     let mut ours = theirs.clone();
@@ -89,55 +114,28 @@ pub fn writings_agree(text: &[u8], numbers: &[u64], room: usize, random: &mut Ra
             ours[at]
         ));
     }
-    Ok(())
+    theirs.truncate(GUARD + room);
+    Ok(theirs.split_off(GUARD))
 }
 
-/// Compares both sides on the draft of one file, and has the proved library write an accepted file again.
+/// Compares both sides on the draft of one file, sound or damaged, in drafts of several lengths, and has the proved library write an accepted
+/// file again.
 pub fn check_file(file: &[u8], random: &mut Random, counts: &mut Counts) -> Result<(), Difference> {
-    let rows = read(file).rows.len();
+    let reading = read(file);
+    let rows = reading.rows.len();
     counts.files += 1;
-    for length in draft_lengths(rows, random) {
-        drafts_agree(file, length, random)?;
-    }
-    if rows > 0 {
-        written_again(file, rows)?;
-        counts.again += 1;
-    }
-    Ok(())
-}
-
-fn drafts_agree(file: &[u8], length: usize, random: &mut Random) -> Result<(), Difference> {
-    let pattern = random.draw() | 1;
-    let mut theirs = vec![pattern; ROW + length + ROW];
-    let mut ours = theirs.clone();
-    let expected = draft_of(file, &mut ours[ROW..ROW + length]).listed();
     let file_amid = amid(file, random.pick(b" 0\xF0\xF1\x40\x00"));
-    let (number, answer) = abi::draft_of(within(&file_amid), &mut theirs[ROW..ROW + length])?;
-    if answer != expected || number != expected[0] {
-        return Err(format!(
-            "draft of {length} numbers\n  proved      returns {number}, answer {answer:?}\n  independent answer {expected:?}"
-        ));
-    }
-    if let Some(at) = (0..ours.len()).find(|at| ours[*at] != theirs[*at]) {
-        return Err(format!(
-            "draft of {length} numbers: row {} number {}\n  proved      {}\n  independent {} (untouched is {pattern})",
-            at / ROW,
-            at % ROW,
-            theirs[at],
-            ours[at]
-        ));
+    for length in draft_lengths(rows, random) {
+        let draft = drafts_agree(within(&file_amid), &reading, length, random)?;
+        if length == rows * ROW && reading.answer.number == Number::Accepted {
+            written_again(file, &reading, &draft, random)?;
+            counts.again += 1;
+        }
     }
     Ok(())
 }
 
-/// An accepted file by the proved library's own draft of it: the same bytes, or its ASCII copy (point 26).
-fn written_again(file: &[u8], rows: usize) -> Result<(), Difference> {
-    let mut draft = vec![0; rows * ROW];
-    abi::draft_of(file, &mut draft)?;
-    let mut out = vec![0; file.len()];
-    let (number, answer) = abi::write(file, &draft, &mut out)?;
-    if number != 0 || answer != read(file).answer.listed() || out != *copy(file) {
-        return Err(format!("not written again as it was: returns {number}, answer {answer:?}"));
-    }
-    Ok(())
+/// The difference on a file, for the shrinking.
+pub fn file_differs(file: &[u8]) -> Option<Difference> {
+    check_file(file, &mut Random::new(1), &mut Counts::default()).err()
 }

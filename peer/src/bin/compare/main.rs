@@ -1,10 +1,8 @@
-//! Compares the proved library with the independent reader over many generated files.
+//! Compares the proved library with the independent reader over many generated files, and has it write every accepted one again.
 //! Use: compare [--files N] [--seed S] [--save DIR] [--threads T] [--sweep | --no-sweep]
 
-mod abi;
 mod check;
 mod large;
-mod shrink;
 mod sweep;
 mod tails;
 
@@ -20,7 +18,9 @@ use peer_reader::random::Random;
 use peer_reader::stream::{self, Made};
 use peer_reader::tally::Tally;
 
-use check::Counts;
+use proved::shrink::shrink;
+
+use check::{differs, Counts};
 use tails::Broken;
 
 /// Coverage is demanded of runs at least this long.
@@ -162,7 +162,7 @@ fn put(file: &[u8], seed: u64, index: u64, tally: &mut Tally, counts: &mut Count
 
 /// Prints a difference and saves the file, as it was and shrunk.
 pub fn report(save: &Path, name: &str, shape: &str, file: &[u8], difference: &str, found: &Mutex<Vec<String>>) {
-    let (smaller, smaller_difference) = shrink::shrink(file, difference);
+    let (smaller, smaller_difference) = shrink(file, difference, differs);
     let saved = std::fs::create_dir_all(save)
         .and_then(|()| std::fs::write(save.join(format!("{name}.x9")), file))
         .and_then(|()| std::fs::write(save.join(format!("{name}.small.x9")), &smaller));
@@ -182,11 +182,12 @@ pub fn report(save: &Path, name: &str, shape: &str, file: &[u8], difference: &st
 fn conclude(options: &Options, shared: &Shared, tally: &Tally, counts: &Counts, begun: Instant) -> ExitCode {
     let differences = shared.found.lock().map(|found| found.len()).unwrap_or(1);
     println!(
-        "{} files ({} accepted, {} bytes), {} tails, {} readings, {} rows, {} pictures, {:.1} seconds",
+        "{} files ({} accepted, {} bytes), {} tails, {} written again, {} readings, {} rows, {} pictures, {:.1} seconds",
         counts.files,
         counts.accepted,
         counts.bytes,
         counts.tails,
+        counts.again,
         counts.readings,
         counts.rows,
         counts.pictures,

@@ -6,7 +6,9 @@ use peer_reader::random::Random;
 use peer_reader::tails::{trials, Trial};
 use peer_reader::tally::{Point, Tally};
 
-use crate::check::{readings_agree, Counts, Difference};
+use proved::Difference;
+
+use crate::check::{readings_agree, written_again, Counts};
 
 /// A file of which a claim does not hold, or on which the sides differ.
 pub struct Broken {
@@ -41,7 +43,8 @@ fn check_trial(trial: &Trial, random: &mut Random, counts: &mut Counts) -> Resul
         trial.holds_for("independent", &reading.with_rows(length / 7).listed(), length)?;
         counts.readings += 1;
     }
-    Ok(())
+    written_again(&trial.bytes, &reading, random, counts)
+        .map_err(|difference| format!("{:?}, {} bytes, {difference}", trial.point, trial.bytes.len()))
 }
 
 /// Files of this length are not written out.

@@ -1,7 +1,6 @@
 //! Compares the proved writer with the independent one over many generated drafts, and both on the drafts of many files.
 //! Use: compare_writer [--drafts N] [--seed S] [--save DIR] [--threads T] [--heavy]
 
-mod abi;
 mod check;
 mod shrink;
 
@@ -19,7 +18,9 @@ use peer_writer::points::Tally;
 use peer_writer::sheet::Made;
 use peer_writer::{generate, large};
 
-use check::{check_draft, check_file, Counts};
+use proved::shrink::shrink as shrink_file;
+
+use check::{check_draft, check_file, file_differs, Counts};
 
 /// Coverage is demanded of runs at least this long.
 const WHOLE_RUN: u64 = 50_000;
@@ -115,21 +116,10 @@ fn work(options: &Options, shared: &Shared, first: u64) -> (Tally, Counts) {
         let made = generate::draft(options.seed, index);
         put_draft(options, shared, &made, ("draft", index), &mut tally, &mut counts);
         // Half as many files, of either set, as the texts of their own drafts.
+        let of_file = index / 4;
         match index % 4 {
-            0 => put_file(
-                options,
-                shared,
-                &stream::file(options.seed, index / 4).bytes,
-                ("file", index / 4),
-                &mut counts,
-            ),
-            2 => put_file(
-                options,
-                shared,
-                &ebcdic::file(options.seed, index / 4).bytes,
-                ("ebcdic", index / 4),
-                &mut counts,
-            ),
+            0 => put_file(options, shared, &stream::file(options.seed, of_file), ("file", of_file), &mut counts),
+            2 => put_file(options, shared, &ebcdic::file(options.seed, of_file), ("ebcdic", of_file), &mut counts),
             _ => {}
         }
         let done = shared.done.fetch_add(1, Ordering::Relaxed) + 1;
@@ -147,34 +137,43 @@ fn put_draft(options: &Options, shared: &Shared, made: &Made, name: Name, tally:
     let (sort, index) = name;
     let mut random = Random::for_file(!options.seed, index);
     let Err(difference) = check_draft(made, &mut random, tally, counts) else { return };
-    println!("DIFFERENCE in {sort} {index} ({}, {} rows): {difference}", made.shape, made.numbers.len() / ROW);
-    let (small, in_small) = shrink::shrink(made);
-    if let Some(words) = in_small {
-        println!("  shrunk to {} rows, {} bytes of text: {words}", small.numbers.len() / ROW, small.text.len());
-    }
     let name = format!("seed{}-{sort}{index}", options.seed);
-    let saved = made.save(&options.save, &name).and_then(|()| small.save(&options.save, &format!("{name}.small")));
-    note(shared, name, saved);
+    println!("DIFFERENCE in {name} ({}, {} rows): {difference}", made.shape, made.numbers.len() / ROW);
+    let (smaller, smaller_difference) = shrink::shrink(made, &difference);
+    if smaller.numbers.len() < made.numbers.len() || smaller.text.len() < made.text.len() {
+        let (rows, bytes) = (smaller.numbers.len() / ROW, smaller.text.len());
+        println!("  shrunk to {rows} rows, {bytes} bytes of text: {smaller_difference}");
+    }
+    let small = format!("{name}.small");
+    let saved = made.save(&options.save, &name).and_then(|()| smaller.save(&options.save, &small));
+    note(options, shared, &[name, small], saved);
 }
 
-fn put_file(options: &Options, shared: &Shared, file: &[u8], (sort, index): Name, counts: &mut Counts) {
+fn put_file(options: &Options, shared: &Shared, made: &stream::Made, (sort, index): Name, counts: &mut Counts) {
+    let file = &made.bytes;
     let mut random = Random::for_file(!options.seed, index);
     let Err(difference) = check_file(file, &mut random, counts) else { return };
-    println!("DIFFERENCE in {sort} {index} ({} bytes): {difference}", file.len());
     let name = format!("seed{}-{sort}{index}", options.seed);
-    let folder = &options.save;
-    let saved = std::fs::create_dir_all(folder).and_then(|()| std::fs::write(folder.join(format!("{name}.x9")), file));
-    note(shared, name, saved);
+    println!("DIFFERENCE in the draft of {name} ({}, {} bytes): {difference}", made.shape, file.len());
+    let (smaller, smaller_difference) = shrink_file(file, &difference, file_differs);
+    if smaller.len() < file.len() {
+        println!("  shrunk to {} bytes: {smaller_difference}", smaller.len());
+    }
+    let names = [format!("{name}.x9"), format!("{name}.small.x9")];
+    let saved = std::fs::create_dir_all(&options.save)
+        .and_then(|()| std::fs::write(options.save.join(&names[0]), file))
+        .and_then(|()| std::fs::write(options.save.join(&names[1]), &smaller));
+    note(options, shared, &names, saved);
 }
 
 /// Notes a difference; after ten the run stops.
-fn note(shared: &Shared, name: String, saved: std::io::Result<()>) {
+fn note(options: &Options, shared: &Shared, names: &[String; 2], saved: std::io::Result<()>) {
     match saved {
-        Ok(()) => println!("  saved as {name}"),
+        Ok(()) => println!("  saved as {} and {} in {}", names[0], names[1], options.save.display()),
         Err(error) => println!("  not saved: {error}"),
     }
     if let Ok(mut found) = shared.found.lock() {
-        found.push(name);
+        found.push(names[0].clone());
         shared.stop.fetch_or(found.len() >= 10, Ordering::Relaxed);
     }
 }
@@ -182,11 +181,12 @@ fn note(shared: &Shared, name: String, saved: std::io::Result<()>) {
 fn conclude(options: &Options, shared: &Shared, tally: &Tally, counts: &Counts, begun: Instant) -> ExitCode {
     let differences = shared.found.lock().map(|found| found.len()).unwrap_or(1);
     println!(
-        "{} drafts ({} accepted), {} writings, {} bytes lent, {} files, {} written again, {:.1} seconds",
+        "{} drafts ({} accepted), {} writings, {} bytes lent, {} read back, {} files, {} written again, {:.1} seconds",
         counts.drafts,
         counts.accepted,
         counts.writings,
         counts.bytes,
+        counts.read_back,
         counts.files,
         counts.again,
         begun.elapsed().as_secs_f64()

@@ -7,10 +7,8 @@ use peer_reader::picture::picture_in;
 use peer_reader::random::Random;
 use peer_reader::tally::Tally;
 
-use crate::abi;
-
-/// A difference, in words.
-pub type Difference = String;
+use proved::again::round_trip;
+use proved::{abi, Difference};
 
 /// Counts of what was put to both sides.
 #[derive(Clone, Copy, Default)]
@@ -23,6 +21,8 @@ pub struct Counts {
     pub pictures: u64,
     /// Files made from others, with another tail.
     pub tails: u64,
+    /// Accepted files, tails among them, that were written again.
+    pub again: u64,
 }
 
 impl Counts {
@@ -34,6 +34,7 @@ impl Counts {
         self.rows += other.rows;
         self.pictures += other.pictures;
         self.tails += other.tails;
+        self.again += other.again;
     }
 }
 
@@ -53,12 +54,32 @@ pub fn check(file: &[u8], random: &mut Random, tally: &mut Tally, counts: &mut C
         counts.accepted += 1;
         counts.rows += rows as u64;
     }
+    written_again(file, &reading, random, counts)?;
     for offset in picture_offsets(file, random) {
         pictures_agree(file, offset, tally)?;
         counts.pictures += 1;
     }
     tally.note_within_images(file);
     Ok(reading)
+}
+
+/// An accepted file there and back by the proved library: x9_draft, x9_write.
+pub fn written_again(
+    file: &[u8],
+    reading: &Reading,
+    random: &mut Random,
+    counts: &mut Counts,
+) -> Result<(), Difference> {
+    if reading.answer.number == Number::Accepted {
+        round_trip(file, reading, random)?;
+        counts.again += 1;
+    }
+    Ok(())
+}
+
+/// The difference on a file, for the shrinking.
+pub fn differs(file: &[u8]) -> Option<Difference> {
+    check(file, &mut Random::new(1), &mut Tally::default(), &mut Counts::default()).err()
 }
 
 /// Both sides on one file and one table length: the number, the answer, every row, every number left alone. Gives the proved library's answer.
@@ -73,7 +94,7 @@ pub fn readings_agree(
     let mut theirs = vec![pattern; length + GUARD];
     let mut ours = theirs.clone();
     let expected = reading.fill(&mut ours[..length]).listed();
-    let (number, answer) = abi::read(file, &mut theirs[..length]);
+    let (number, answer) = abi::read(file, &mut theirs[..length])?;
     if answer != expected || number != expected[0] {
         return Err(format!(
             "table of {length} numbers\n  proved      returns {number}, answer {answer:?}\n  independent answer {expected:?} ({})",
