@@ -68,7 +68,7 @@ pub fn shaped(random: &mut Random, shape: &'static str, turn: usize) -> Made {
 /// The shapes that are made of lines alone.
 fn lines_in_shape(random: &mut Random, shape: &str, turn: usize) -> Vec<Line> {
     match shape {
-        "field" => lines_of(&harm::field_file(random, at(&outgrow::given_targets(), turn))),
+        "field" => outgrow::harmed(random, at(&outgrow::given_targets(), turn)),
         "place" => lines_of(&harm::place_file(random, at(&place_targets(), turn))),
         "link" => lines_of(&harm::link_file(random, at(&link_targets(), turn))),
         "addenda" => outgrow::addenda(random, turn),
