@@ -24,6 +24,13 @@ const TURNS: [&str; 64] = [
     "tail", "flip", "flip", "several",
 ];
 
+/// The shapes that `shaped` takes.
+#[rustfmt::skip]
+pub const SHAPES: [&str; 21] = [
+    "sound", "own", "stream", "field", "outside", "place", "link", "outgrown", "addenda", "sums", "end", "behind", "strange", "rows", "near", "cut",
+    "small", "flags", "tail", "flip", "several",
+];
+
 /// The drafts of a round.
 pub const ROUND: usize = TURNS.len();
 
@@ -336,6 +343,12 @@ mod tests {
             assert!(one.text == other.text && one.numbers == other.numbers, "draft {index}");
         }
         assert!((0..64).any(|index| draft(3, index).text != draft(4, index).text));
+    }
+
+    #[test]
+    fn the_shapes_are_those_of_the_turns() {
+        let named = |shapes: &[&'static str]| shapes.iter().copied().collect::<std::collections::BTreeSet<_>>();
+        assert_eq!(named(&SHAPES), named(&TURNS));
     }
 
     /// Sound lines in any manner, set and junk, and an accepted file as its own draft.

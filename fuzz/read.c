@@ -1,4 +1,4 @@
-/* The fuzz target: one input is sixteen control bytes and a file's bytes.
+/* The target `read`: one input is sixteen control bytes and a file's bytes.
  *
  * Each input is put to the proved library (x9_read, x9_picture, x9_record) and to the independent reader. The target aborts with
  *   ORACLE      an answer that breaks what include/x9180.h promises, whatever any other reader says
@@ -7,20 +7,14 @@
  *
  * Control bytes: 0 where buffers stand and whether the file is also lent with a long tail of zeros; 1-2 a table length; 3 the pattern
  * of untouched numbers; 4-11 a picture offset, 12 how it is taken; 13-15 a stretch of the file judged as a record. */
-#define _GNU_SOURCE
-#include <inttypes.h>
-#include <signal.h>
-#include <stdarg.h>
-#include <stdio.h>
-#include <stdlib.h>
-#include <string.h>
-#include <sys/mman.h>
-#include <ucontext.h>
-#include <unistd.h>
-
-#include "x9180.h"
-
-#define ANSWER 12 /* numbers of an answer of x9_read */
+#define FILE_MOST ((size_t)1 << 17)
+#define INPUT_MOST (CONTROL + FILE_MOST)
+#define COUNTERS              \
+    uint8_t records[ANSWERS]; \
+    uint8_t pictures[NUMBERS * FIELDS];
+#define MUTATE peer_mutate
+#define CROSS peer_cross
+#include "common.h"
 
 /* The independent reader (peer_c). */
 typedef struct reading reading;
@@ -30,7 +24,6 @@ size_t peer_rows(const reading *r);
 uint64_t peer_fill(const reading *r, uint64_t *table, size_t len, uint64_t answer[ANSWER]);
 uint64_t peer_picture(const uint8_t *file, size_t len, uint64_t offset, uint64_t place[4]);
 uint64_t peer_record(const uint8_t *body, size_t len, uint64_t set, uint64_t answer[2]);
-void peer_setup(void);
 
 /* Whether the library carries EBCDIC: the constant of the independent side, handed over by `carried`. */
 #ifndef EBCDIC_CARRIED
@@ -42,64 +35,9 @@ uint64_t x9_record_in(const uint8_t *body, size_t body_len, uint64_t set, uint64
 
 enum { ASCII, EBCDIC };
 
-enum { ACCEPTED, SIZE, ROOM, CUT, LENGTH, TYPE, PLACE, FIELD, LINK, TOTAL, OPEN, AFTER, NUMBERS };
-
-#define CONTROL 16
-#define LARGEST ((size_t)268435456)
-#define FILE_MOST ((size_t)1 << 17)
 #define TABLE_MOST ((size_t)1 << 14) /* numbers; a sound record is at least 77 bytes with its length */
 
-/* ---- Failing ---- */
-
-static size_t now_len;
-
-__attribute__((noreturn, format(printf, 2, 3))) static void fail(const char *kind, const char *form, ...) {
-    va_list list;
-    fprintf(stderr, "%s: ", kind);
-    va_start(list, form);
-    vfprintf(stderr, form, list);
-    va_end(list);
-    fprintf(stderr, " (file of %zu bytes)\n", now_len);
-    fflush(stderr);
-    abort();
-}
-
-#define MUST(holds, ...)                       \
-    do {                                       \
-        if (!(holds)) fail("ORACLE", __VA_ARGS__); \
-    } while (0)
-
-static void show(const char *who, const uint64_t *numbers, int count) {
-    fprintf(stderr, "  %s", who);
-    for (int i = 0; i < count; i++) fprintf(stderr, " %" PRIu64, numbers[i]);
-    fprintf(stderr, "\n");
-}
-
-/* ---- Guidance and counts ----
- * Counters that the fuzzer reads besides its own: a block of the library reached for the first time, and each answer given, by number,
- * type of the record at fault and field. */
-
-#define BLOCKS_MOST 8192
-#define TYPES 20
-#define FIELDS 64
-#define ANSWERS (NUMBERS * TYPES * FIELDS)
-
-struct counters {
-    uint8_t blocks[BLOCKS_MOST];
-    uint8_t answers[ANSWERS];
-    uint8_t records[ANSWERS];
-    uint8_t pictures[NUMBERS * FIELDS];
-};
-/* Volatile, since nothing in this file reads them. */
-#ifdef REPLAY
-static volatile struct counters counted;
-#else
-__attribute__((used, section("__libfuzzer_extra_counters"))) static volatile struct counters counted;
-#endif
-
-static struct counters seen; /* over the whole process */
-static uint64_t inputs, reads, pictures, records, long_reads;
-static uint64_t by_number[NUMBERS];
+static uint64_t reads, pictures, records, long_reads;
 
 /* The byte of the digit 0 in the file at hand. All that is looked at here are digits, which are ten bytes in a row in either set. */
 static uint8_t zero = '0';
@@ -115,103 +53,9 @@ static int type_index(const uint8_t *two, size_t left) {
     return 0;
 }
 
-#define COUNT(part, at)        \
-    do {                       \
-        counted.part[at] = 1;  \
-        seen.part[at] = 1;     \
-    } while (0)
+/* ---- What is lent ---- */
 
-/* ---- The library's blocks ----
- * The library is linked as it is. For guidance by its own blocks, each block's first byte is replaced by a breakpoint that puts the byte
- * back when it is first reached. The offsets come from the disassembly (blocks.awk), relative to x9_read. */
-
-#ifndef REPLAY
-static struct {
-    uint8_t *at;
-    uint8_t was;
-} blocks[BLOCKS_MOST];
-static size_t block_count;
-
-static int block_order(const void *a, const void *b) {
-    const uint8_t *x = *(uint8_t *const *)a, *y = *(uint8_t *const *)b;
-    return x < y ? -1 : x > y;
-}
-
-static void on_trap(int sig, siginfo_t *info, void *context) {
-    ucontext_t *machine = context;
-    uint8_t *at = (uint8_t *)machine->uc_mcontext.gregs[REG_RIP] - 1;
-    size_t low = 0, high = block_count;
-    (void)info;
-    while (low < high) {
-        size_t mid = (low + high) / 2;
-        if (blocks[mid].at < at) low = mid + 1;
-        else high = mid;
-    }
-    if (low == block_count || blocks[low].at != at) {
-        signal(sig, SIG_DFL);
-        return;
-    }
-    *at = blocks[low].was;
-    machine->uc_mcontext.gregs[REG_RIP] = (greg_t)at;
-    COUNT(blocks, low);
-}
-
-static void arm_blocks(const char *list) {
-    FILE *from = fopen(list, "r");
-    long long offset;
-    uintptr_t page = (uintptr_t)sysconf(_SC_PAGESIZE), first, last;
-    struct sigaction action = {0};
-    if (!from) {
-        fprintf(stderr, "no list of blocks: %s\n", list);
-        exit(2);
-    }
-    while (block_count < BLOCKS_MOST && fscanf(from, "%lld", &offset) == 1)
-        blocks[block_count++].at = (uint8_t *)(uintptr_t)&x9_read + offset;
-    fclose(from);
-    if (!block_count) return;
-    qsort(blocks, block_count, sizeof blocks[0], block_order);
-    first = (uintptr_t)blocks[0].at & -page;
-    last = ((uintptr_t)blocks[block_count - 1].at + page) & -page;
-    if (mprotect((void *)first, last - first, PROT_READ | PROT_WRITE | PROT_EXEC)) {
-        perror("mprotect");
-        exit(2);
-    }
-    action.sa_sigaction = on_trap;
-    action.sa_flags = SA_SIGINFO | SA_NODEFER | SA_ONSTACK;
-    sigaction(SIGTRAP, &action, NULL);
-    for (size_t i = 0; i < block_count; i++) {
-        blocks[i].was = *blocks[i].at;
-        *blocks[i].at = 0xCC;
-    }
-}
-#else
-static const size_t block_count = 0;
-#endif
-
-/* ---- Buffers ----
- * A region has a page without access on either side: what is lent ends at the one (END) or begins at the other (BEGIN). The third place
- * is the heap (HEAP), where AddressSanitizer looks on. */
-
-enum { END, BEGIN, HEAP, PLACES };
-
-typedef struct {
-    uint8_t *base;
-    size_t cap;
-} region;
-
-static region region_of(size_t cap) {
-    size_t page = (size_t)sysconf(_SC_PAGESIZE);
-    uint8_t *all = mmap(NULL, cap + 2 * page, PROT_NONE, MAP_PRIVATE | MAP_ANONYMOUS, -1, 0);
-    if (all == MAP_FAILED || mprotect(all + page, cap, PROT_READ | PROT_WRITE)) {
-        perror("mmap");
-        exit(2);
-    }
-    return (region){all + page, cap};
-}
-
-static uint8_t *stand(region r, int place, size_t len) { return place == END ? r.base + r.cap - len : r.base; }
-
-static region file_regions[2], table_region, answer_region, body_region;
+static region file_regions[2], table_region, body_region;
 static uint8_t *lent_file[PLACES];
 static uint8_t *long_file; /* LARGEST + 1 zeros, and a page without access */
 
@@ -219,7 +63,6 @@ static void make_regions(void) {
     file_regions[END] = region_of(FILE_MOST);
     file_regions[BEGIN] = region_of(FILE_MOST);
     table_region = region_of(TABLE_MOST * 8);
-    answer_region = region_of((size_t)sysconf(_SC_PAGESIZE));
     body_region = region_of(FILE_MOST);
     long_file = mmap(NULL, LARGEST + 8192, PROT_READ | PROT_WRITE, MAP_PRIVATE | MAP_ANONYMOUS | MAP_NORESERVE, -1, 0);
     if (long_file == MAP_FAILED) {
@@ -253,10 +96,6 @@ typedef struct {
     size_t count;
     size_t at[FILE_MOST / 4 + 1]; /* offsets of length fields; at[count] is where the walk ends */
 } walk;
-
-static size_t told(const uint8_t *at) {
-    return (size_t)at[0] << 24 | (size_t)at[1] << 16 | (size_t)at[2] << 8 | at[3];
-}
 
 static void walk_file(walk *w, const uint8_t *file, size_t len) {
     size_t at = 0, most = sizeof w->at / sizeof w->at[0] - 1;
@@ -351,18 +190,6 @@ static void check_accepted(const uint8_t *file, size_t len, const walk *w, size_
 }
 
 /* ---- The calls ---- */
-
-static int turn; /* from the control bytes: which place comes next */
-
-static uint64_t *lend_answer(int place, size_t count, uint64_t pattern) {
-    uint64_t *answer = place == HEAP ? malloc(count * 8) : (uint64_t *)stand(answer_region, place, count * 8);
-    for (size_t i = 0; i < count; i++) answer[i] = pattern;
-    return answer;
-}
-
-static void drop(int place, void *lent) {
-    if (place == HEAP) free(lent);
-}
 
 /* One reading with everything lent at one place; the answer is copied out, and the table compared. */
 static void read_at(int place, const uint8_t *file, size_t len, const walk *w, size_t table_len, uint64_t pattern, const reading *peer,
@@ -515,7 +342,6 @@ static void with_long_tail(const uint8_t *file, size_t len, size_t table_len, ui
 
 /* ---- One input ---- */
 
-int LLVMFuzzerTestOneInput(const uint8_t *data, size_t size);
 int LLVMFuzzerTestOneInput(const uint8_t *data, size_t size) {
     static walk w;
     uint8_t c[CONTROL] = {0};
@@ -589,81 +415,7 @@ int LLVMFuzzerTestOneInput(const uint8_t *data, size_t size) {
     return 0;
 }
 
-/* ---- Start and end ---- */
-
-static size_t held_in(const uint8_t *from, size_t count) {
-    size_t held = 0;
-    for (size_t i = 0; i < count; i++) held += from[i];
-    return held;
+static void tell_counts(FILE *to) {
+    fprintf(to, " reads %" PRIu64 " pictures %" PRIu64 " records %" PRIu64 " long_reads %" PRIu64 " alone %zu picture_answers %zu", reads, pictures,
+            records, long_reads, held_in(seen.records, ANSWERS), held_in(seen.pictures, NUMBERS * FIELDS));
 }
-
-static void report(void) {
-    const char *path = getenv("X9FUZZ_STATS");
-    FILE *to = path ? fopen(path, "a") : stderr;
-    if (!to) return;
-    fprintf(to, "inputs %" PRIu64 " reads %" PRIu64 " pictures %" PRIu64 " records %" PRIu64 " long_reads %" PRIu64, inputs, reads, pictures,
-            records, long_reads);
-    for (int i = 0; i < NUMBERS; i++) fprintf(to, " n%d %" PRIu64, i, by_number[i]);
-    fprintf(to, " answers %zu alone %zu picture_answers %zu blocks %zu of %zu\n", held_in(seen.answers, ANSWERS),
-            held_in(seen.records, ANSWERS), held_in(seen.pictures, NUMBERS * FIELDS), held_in(seen.blocks, BLOCKS_MOST), block_count);
-    path = getenv("X9FUZZ_UNREACHED");
-#ifndef REPLAY
-    if (path) {
-        FILE *list = fopen(path, "w");
-        for (size_t i = 0; list && i < block_count; i++)
-            if (!seen.blocks[i]) fprintf(list, "%td\n", blocks[i].at - (uint8_t *)(uintptr_t)&x9_read);
-        if (list) fclose(list);
-    }
-#endif
-    if (to != stderr) fclose(to);
-}
-
-static void begin(void) {
-    make_regions();
-    peer_setup();
-    atexit(report);
-}
-
-#ifdef REPLAY
-/* Without a fuzzer and without AddressSanitizer: each file named is put through once. For valgrind. */
-int main(int count, char **names) {
-    static uint8_t data[CONTROL + FILE_MOST];
-    begin();
-    for (int i = 1; i < count; i++) {
-        FILE *from = fopen(names[i], "rb");
-        if (!from) {
-            perror(names[i]);
-            return 2;
-        }
-        size_t size = fread(data, 1, sizeof data, from);
-        fclose(from);
-        LLVMFuzzerTestOneInput(data, size);
-    }
-    return 0;
-}
-#else
-size_t LLVMFuzzerMutate(uint8_t *data, size_t size, size_t max);
-size_t peer_mutate(uint8_t *data, size_t size, size_t max, unsigned seed, size_t (*bytewise)(uint8_t *, size_t, size_t));
-size_t peer_cross(const uint8_t *one, size_t one_size, const uint8_t *two, size_t two_size, uint8_t *out, size_t max, unsigned seed);
-
-int LLVMFuzzerInitialize(int *argc, char ***argv);
-int LLVMFuzzerInitialize(int *argc, char ***argv) {
-    const char *list = getenv("X9FUZZ_BLOCKS");
-    (void)argc, (void)argv;
-    begin();
-    if (list) arm_blocks(list);
-    return 0;
-}
-
-size_t LLVMFuzzerCustomMutator(uint8_t *data, size_t size, size_t max, unsigned seed);
-size_t LLVMFuzzerCustomMutator(uint8_t *data, size_t size, size_t max, unsigned seed) {
-    return peer_mutate(data, size, max, seed, LLVMFuzzerMutate);
-}
-
-size_t LLVMFuzzerCustomCrossOver(const uint8_t *one, size_t one_size, const uint8_t *two, size_t two_size, uint8_t *out, size_t max,
-                                 unsigned seed);
-size_t LLVMFuzzerCustomCrossOver(const uint8_t *one, size_t one_size, const uint8_t *two, size_t two_size, uint8_t *out, size_t max,
-                                 unsigned seed) {
-    return peer_cross(one, one_size, two, two_size, out, max, seed);
-}
-#endif
