@@ -24,6 +24,13 @@ const TURNS: [&str; 64] = [
     "tail", "flip", "flip", "several",
 ];
 
+/// The shapes that `shaped` takes.
+#[rustfmt::skip]
+pub const SHAPES: [&str; 21] = [
+    "sound", "own", "stream", "field", "outside", "place", "link", "outgrown", "addenda", "sums", "end", "behind", "strange", "rows", "near", "cut",
+    "small", "flags", "tail", "flip", "several",
+];
+
 /// The drafts of a round.
 pub const ROUND: usize = TURNS.len();
 
@@ -68,7 +75,7 @@ pub fn shaped(random: &mut Random, shape: &'static str, turn: usize) -> Made {
 /// The shapes that are made of lines alone.
 fn lines_in_shape(random: &mut Random, shape: &str, turn: usize) -> Vec<Line> {
     match shape {
-        "field" => lines_of(&harm::field_file(random, at(&outgrow::given_targets(), turn))),
+        "field" => outgrow::harmed(random, at(&outgrow::given_targets(), turn)),
         "place" => lines_of(&harm::place_file(random, at(&place_targets(), turn))),
         "link" => lines_of(&harm::link_file(random, at(&link_targets(), turn))),
         "addenda" => outgrow::addenda(random, turn),
@@ -336,6 +343,12 @@ mod tests {
             assert!(one.text == other.text && one.numbers == other.numbers, "draft {index}");
         }
         assert!((0..64).any(|index| draft(3, index).text != draft(4, index).text));
+    }
+
+    #[test]
+    fn the_shapes_are_those_of_the_turns() {
+        let named = |shapes: &[&'static str]| shapes.iter().copied().collect::<std::collections::BTreeSet<_>>();
+        assert_eq!(named(&SHAPES), named(&TURNS));
     }
 
     /// Sound lines in any manner, set and junk, and an accepted file as its own draft.
