@@ -93,3 +93,86 @@ fn filled(data_type: DataType, text: &str, width: usize) -> String {
         false => text.to_string() + &filling,
     }
 }
+
+#[cfg(test)]
+mod tests {
+    use super::*;
+    use crate::value::{Date, Time};
+
+    fn fitted<'v>(record_type: u64, field: u64, value: impl Into<Value<'v>>) -> Result<String, String> {
+        let kind = carried(record_type).unwrap();
+        let fitted = characters(kind, field, value.into());
+        fitted.map(|(_, characters)| characters).map_err(|misfit| misfit.asked().to_string())
+    }
+
+    /// Clause 5.3: each data type has its side and its filling.
+    #[test]
+    fn fields_are_filled_up() {
+        assert_eq!(fitted(25, 6, 123).as_deref(), Ok("0000000123")); // N
+        assert_eq!(fitted(25, 6, "123").as_deref(), Ok("0000000123"));
+        assert_eq!(fitted(25, 7, 123).as_deref(), Ok("123            ")); // NB
+        assert_eq!(fitted(25, 2, "12-3").as_deref(), Ok("           12-3")); // NBMcd
+        assert_eq!(fitted(25, 5, "12/").as_deref(), Ok("                 12/")); // NBMcdo
+        assert_eq!(fitted(25, 3, "*").as_deref(), Ok("*")); // NBMc
+        assert_eq!(fitted(1, 4, "123").as_deref(), Ok("123      ")); // NBD
+        assert_eq!(fitted(32, 4, "2005??").as_deref(), Ok("2005??  ")); // NBQ
+        assert_eq!(fitted(1, 9, "A B").as_deref(), Ok("A B               ")); // ANS
+        assert_eq!(fitted(1, 9, "").as_deref(), Ok("                  "));
+        assert_eq!(fitted(1, 14, " ").as_deref(), Ok(" ")); // AB
+        assert_eq!(fitted(1, 6, Date::new(2024, 1, 16)).as_deref(), Ok("20240116"));
+        assert_eq!(fitted(1, 7, Time::new(9, 5)).as_deref(), Ok("0905"));
+        assert_eq!(fitted(27, 4, Time::new(9, 5)).as_deref(), Ok("090500"));
+        // A variable field is as long as its text.
+        assert_eq!(fitted(27, 14, " 1 ").as_deref(), Ok(" 1 "));
+        assert_eq!(fitted(27, 13, "").as_deref(), Ok(""));
+    }
+
+    #[test]
+    fn what_does_not_fit() {
+        let asked = |asked: &str| Err(asked.to_string());
+        assert_eq!(fitted(25, 6, 12_345_678_901), asked("digits, at most 10 of them"));
+        assert_eq!(fitted(25, 6, ""), asked("digits"));
+        assert_eq!(fitted(25, 6, "12.34"), asked("digits; \".\" is none of them"));
+        assert_eq!(fitted(1, 9, "NINETEEN CHARACTERS"), asked("printable characters, at most 18 of them"));
+        assert_eq!(fitted(1, 9, "Cr\u{e9}dit"), asked("printable characters; \"\u{e9}\" is none of them"));
+        assert_eq!(fitted(1, 9, "A\n"), asked("printable characters; \"\\n\" is none of them"));
+        assert_eq!(fitted(1, 14, "A"), asked("blanks; \"A\" is none of them"));
+        assert_eq!(fitted(1, 8, 1), asked("letters and blanks; \"1\" is none of them"));
+        let calendar = asked("a date of the calendar, in the years 1993 to 9999");
+        assert_eq!(fitted(1, 6, Date::new(2023, 2, 29)), calendar);
+        assert_eq!(fitted(1, 7, Time::new(24, 0)), asked("a time of day, 00:00:00 to 23:59:59"));
+        let most = "digits, blanks and the marks * - / $ #, at most 99 of them";
+        assert_eq!(fitted(27, 14, &"1".repeat(100)), asked(most));
+        assert!(fitted(27, 14, &"1".repeat(99)).is_ok() && fitted(27, 13, &"1".repeat(9_999)).is_ok());
+        assert_eq!(fitted(52, 27, "text"), asked("bytes, not a text"));
+        assert_eq!(fitted(25, 15, "1"), asked("the number of a field: the record has none of this number"));
+        for (record_type, field) in [(25, 1), (25, 12), (26, 2), (27, 6), (52, 20), (70, 4), (90, 9), (99, 3)] {
+            assert_eq!(fitted(record_type, field, "1"), asked("nothing: the writer works it out"));
+        }
+    }
+
+    #[test]
+    fn bytes_that_do_not_fit() {
+        let asked = |field, length| {
+            let kind = carried(52).unwrap();
+            binary(kind, field, length).map_err(|misfit| misfit.asked().to_string())
+        };
+        assert_eq!(
+            [(23, 99_999), (26, 99_999), (27, 9_999_999), (28, 0)].map(|(f, l)| asked(f, l).unwrap()),
+            [1, 4, 5, 6]
+        );
+        assert_eq!(asked(27, 10_000_000), Err("at most 9999999 bytes".to_string()));
+        assert_eq!(asked(22, 1), Err("a text, not bytes".to_string()));
+        assert_eq!(asked(5, 1), Err("a text, not bytes".to_string()));
+        assert_eq!(asked(20, 1), Err("nothing: the writer works it out".to_string()));
+    }
+
+    #[test]
+    fn types_that_are_not_carried() {
+        let misfit = |record_type| carried(record_type).unwrap_err().to_string();
+        let asked = "asked: a type of record that is carried here";
+        assert_eq!(misfit(68), format!("given User Record (type 68); {asked}"));
+        assert_eq!(misfit(7), format!("given type 7; {asked}"));
+        assert!(carried(25).is_ok());
+    }
+}
