@@ -6,7 +6,7 @@ use crate::character_set::CharacterSet;
 use crate::digits::number_in;
 
 /// A kind of record that the standard describes. Those without fields here are named so that a refusal can speak of them.
-#[derive(Debug, PartialEq, Eq)]
+#[derive(PartialEq, Eq)]
 pub struct Kind {
     /// The type number: the record's first two characters.
     pub number: u64,
@@ -216,6 +216,13 @@ impl Kind {
             Place::Positions(first, last) => usize::try_from(number_in(set, body.get(first - 1..last)?)?).ok(),
             Place::SizedBy(_) => None,
         }
+    }
+}
+
+impl std::fmt::Debug for Kind {
+    /// As it is displayed: the table behind it would fill a page.
+    fn fmt(&self, f: &mut std::fmt::Formatter<'_>) -> std::fmt::Result {
+        std::fmt::Display::fmt(self, f)
     }
 }
 
