@@ -96,7 +96,7 @@ icl draft [--force] FILE -o DIR
 Writes the values of an accepted file as a text to be read and changed, DIR/letter.json, and its pictures and
 other binary parts as files beside it. icl write makes the same file out of them (of a file in EBCDIC, its
 copy in ASCII). The text is JSON: a list of records in the order of the file, each an object with
-  \"type\"      the two digits of its type, and \"record\", the name of its kind
+  \"type\"       the two digits of its type, and \"record\", the name of its kind
   its fields   by their names in the standard, as texts. Blanks that fill a field up are left out (behind
                the text, or before it in the MICR fields, which are right justified), and so are blank fields
   its parts    of bytes as {\"file\": NAME}. Pictures are named as icl pictures names them; signatures,
@@ -112,14 +112,14 @@ Exit status: 0 written, 1 refused (told on standard error), 2 something could no
 const WRITE: &str = "\
 icl write [--force] DIR -o FILE
 
-Makes out a file from DIR/letter.json and the files beside it that it names, as icl draft writes them or as they
-were changed or written by hand. All lengths, counts, record numbers and sums are worked out. The file is in
-ASCII. A text that is shorter than its field is filled up: digits (data type N) with zeros before it, MICR
-fields with blanks before it, all others with blanks behind it. What is not given is blank.
-  -o FILE     the file to write, or - for standard output; written to a temporary name and then renamed
-  --force     overwrite FILE where it is there already
+Makes out a file from DIR/letter.json and the files beside it that it names, as icl draft writes them, changed
+or written by hand. Lengths, counts, record numbers and sums are worked out. The file is in ASCII.
+A text that is shorter than its field is filled up: digits (data type N) with zeros before it, MICR fields with
+blanks before it, all others with blanks behind it. What is not given is blank; \"record\" may be left out.
 What cannot be taken from the text is told with its line and column, and so is what the rules refuse, with
 number, record, field, and the offset that the record would have in the file. Nothing is written then.
+  -o FILE     the file to write, or - for standard output; written to a temporary name and then renamed
+  --force     overwrite FILE where it is there already
 Exit status: 0 written, 1 refused (told on standard error), 2 something could not be read or written, or
 letter.json is not what is asked.
 ";

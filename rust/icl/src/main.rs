@@ -1,7 +1,7 @@
 //! icl: checks X9.100-180 image cash letters, lists what they hold, takes out their pictures, and makes them out.
 
 // Imports go one way. This root imports the modules, and no module imports the root; among themselves each imports only those on lines
-// below its own. `x9180/tests/imports.rs` fails if two of them come to import each other.
+// below its own. `x9180/tests/imports.rs` fails where that is not so.
 //
 //     check, rows, tree, pictures, draft, write    the commands
 //     args, input, output, sheet, names, help

@@ -56,7 +56,7 @@ impl<'t> Draft<'t> {
         Draft { set: CharacterSet::Ascii, text: Cow::Borrowed(&[]), rows: Vec::new() }
     }
 
-    /// The draft of a file, which is its text: no picture is copied, unless the draft is changed, and then all once. Refused as
+    /// The draft of a file. The file is lent as its text: nothing is copied before the draft is changed. Refused as
     /// [`read`](crate::read) refuses. Written again it gives the same bytes; of a file in EBCDIC, its copy in ASCII.
     pub fn of(file: &'t [u8]) -> Result<Draft<'t>, Refusal> {
         let mut rows = Vec::new();

@@ -1,7 +1,10 @@
-//! The proved reader of X9.100-180 image cash letters (ANS X9.100-180-2006), called safely from Rust.
+//! The proved reader and writer of X9.100-180 image cash letters (ANS X9.100-180-2006), called safely from Rust.
 //!
 //! What is right or wrong in a file is decided by the proved static library `libabi.a` alone (`rt staticlib abi` at the root of the
 //! repository builds it). This crate lends it the bytes, keeps the rows that come back, and says refusals in plain words.
+//!
+//! [`read`] reads a file and [`picture`] finds a picture in it; [`make`] makes a file out from nothing, and [`Draft`] changes one and writes it
+//! again.
 //!
 //! ```
 //! # fn main() -> Result<(), Box<dyn std::error::Error>> {
@@ -20,27 +23,26 @@
 //! The characters of a file are ASCII or EBCDIC ([`CharacterSet`]), which the file itself tells. Rows, totals and pictures come alike from
 //! both; [`Row::text`] gives a field as text from either.
 //!
-//! No call panics, whatever the bytes. The words of a refusal are not proved: they tell what stands in the file at the place that the
-//! proved library names.
+//! No call panics, whatever the bytes. The words of a refusal are not proved: they tell what stands in the file, or in the draft, at the place that
+//! the proved library names.
 #![warn(missing_docs)]
 
 // Imports go one way. This root imports the modules, and no module imports the root; among themselves each imports only those that stand
-// right of it on a line below. `tests/imports.rs` fails if two of them come to import each other.
+// right of it on a line below. `tests/imports.rs` fails where that is not so, and if two of them come to import each other.
 //
-//     make → make_items → make_addenda → entry → given → fit → value → kinds
-//     make_items → make_view → entry → misfit
-//     make → draft → given
-//     draft → explain_draft → explain
+//     make → make_items → make_addenda → entry → given → fit → value → kinds → digits → character_set
+//     make → make_items → make_view → entry → given → fit → value
+//     make → draft → given → fit → value
+//     make → draft → given → fit → misfit → kinds
+//     make → entry → misfit
+//     make → draft → explain_draft → explain → more_bytes → refusal → kinds → digits → character_set
+//     draft → explain_draft → explain → before → shown → character_set
 //     draft → ffi → draft_row → kinds
 //     draft → room
 //     explain_draft → draft_row
 //     explain → before → sums
-//     explain → before → shown → character_set
-//     explain → refusal → kinds → digits → character_set
-//     explain → more_bytes → refusal
 //     before → kinds → digits → character_set
 //     ffi → row → kinds → digits → character_set
-//     fit → misfit → kinds
 //     reading → row → kinds → digits → character_set
 mod before;
 mod character_set;

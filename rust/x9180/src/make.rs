@@ -9,7 +9,7 @@
 //! use x9180::{Date, Time};
 //!
 //! # fn main() -> Result<(), Box<dyn std::error::Error>> {
-//! let (bank, receiver) = ("123456780", "234567894");
+//! let (bank, receiver) = ("123456780", "234567898");
 //! let (today, now) = (Date::new(2024, 1, 16), Time::new(10, 30));
 //! let (front, back) = (b"the picture of its front", b"the picture of its back");
 //!
