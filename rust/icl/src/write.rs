@@ -80,7 +80,10 @@ impl Letter {
 
     /// The bytes of the file that a Binary field is given; none for any other.
     fn loaded(&self, kind: &Kind, named: Named, member: &Member) -> Result<Vec<u8>, Fault> {
-        let (Named::Field(field), Given::File(name)) = (named, &member.value) else { return Ok(Vec::new()) };
+        let (field, name) = match (named, &member.value) {
+            (Named::Field(field), Given::File(name)) if field.data_type == DataType::Binary => (field, name),
+            _ => return Ok(Vec::new()),
+        };
         let fault = |words: &str| {
             Fault::new(member.at, format!("{}: {}: {words}", quoted(&member.name), words::name(name.as_ref())))
         };

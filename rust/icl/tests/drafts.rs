@@ -216,7 +216,7 @@ fn texts_that_are_not_taken() {
         ("\"20\"", "20", "line 5, column 23: \"Standard Level\" is to be in quotes, numbers too"),
         ("\"20\"", "null", "line 5, column 23: \"Standard Level\" is to be a text in quotes"),
         ("\"20\"", "true", "line 5, column 5: \"Standard Level\" is to be a text in quotes"),
-        ("\"20\"", "{\"file\": \"x\"}", "line 5, column 5: \"Standard Level\": x: there is no such file or folder"),
+        ("\"20\"", "{\"file\": \"x\"}", "line 5, column 5: \"Standard Level\" is to be a text in quotes"),
         ("\"20\"", "{}", "line 5, column 23: {\"file\": NAME} is asked, and nothing else in it"),
         ("\"20\"", "{\"file\": [", "line 5, column 23: {\"file\": NAME} is asked, and nothing else in it"),
         ("\"20\"", "{\"file\": \"x\", \"y\"", "line 5, column 40: a : is asked behind the name, and found ,"),

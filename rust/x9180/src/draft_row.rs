@@ -17,6 +17,9 @@ pub(crate) struct DraftRow {
     pub sizes: [u64; DraftRow::PARTS],
 }
 
+// The library takes it for that many numbers.
+const _: () = assert!(size_of::<DraftRow>() == DraftRow::NUMBERS * size_of::<u64>());
+
 impl DraftRow {
     /// How many numbers a row has.
     pub const NUMBERS: usize = 10;

@@ -62,11 +62,11 @@ impl<'d> Unwritten<'d> {
         match self.number {
             Number::PLACE => words.lines.extend(before.place(words.kind, record)),
             Number::LINK => words.lines.extend(before.link(words.kind, self.field)),
-            Number::TOTAL => words.lines.extend(before.total(words.kind, self.field, record)),
+            Number::TOTAL => {
+                words.lines.extend(before.total(words.kind, self.field, record));
+                words.lines.extend(words.kind.map(|kind| holds_digits(kind, self.field)));
+            }
             _ => {}
-        }
-        if self.number == Number::TOTAL {
-            words.lines.extend(words.kind.map(|kind| holds_digits(kind, self.field)));
         }
     }
 
@@ -127,4 +127,44 @@ impl<'d> Unwritten<'d> {
 
 fn holds_digits(kind: &Kind, field: u64) -> String {
     format!("the field holds {} digits", kind.most(field))
+}
+
+#[cfg(test)]
+mod tests {
+    use super::*;
+
+    /// The lines behind the first of a refusal of the one record of a draft.
+    fn lines(row: DraftRow, text: &[u8], number: Number, field: u64) -> Vec<String> {
+        let unwritten =
+            Unwritten { set: CharacterSet::Ascii, text, rows: &[row], size: 7, number, record: 1, field, offset: 0 };
+        format!("{:#}", unwritten.refusal()).lines().skip(1).map(str::to_string).collect()
+    }
+
+    /// What no draft of this package leads to, since it holds no more than fits, the library may answer all the same.
+    #[test]
+    fn parts_that_outgrow_their_lengths_and_values_outside_the_text() {
+        let mut row = DraftRow { record_type: 52, ..DraftRow::default() };
+        row.sizes[5] = 10_000_000;
+        let expected = [
+            "record 1 of the draft, Image View Data Record (type 52), at offset 0 of the file being made",
+            "field 20, Length of Image Data, at offset 131",
+            "field 27, Image Data, has 10000000 bytes",
+            "the field holds 7 digits",
+        ];
+        assert_eq!(lines(row, b"", Number::FIELD, 20), expected);
+        let row = DraftRow { record_type: 27, start: u64::MAX, sizes: [u64::MAX; 7], ..row };
+        assert_eq!(
+            lines(row, b"", Number::FIELD, 6)[2],
+            "field 13, Image Archive Locator, has 18446744073709551615 characters"
+        );
+        for field in [2, 13, 18] {
+            assert_eq!(lines(row, b"", Number::FIELD, field)[2], "given nothing: it does not lie in the draft's text");
+        }
+    }
+
+    #[test]
+    fn too_many_bytes() {
+        assert_eq!(lines(DraftRow::default(), b"", Number::SIZE, 0), ["the file would have 7 bytes"]);
+        assert_eq!(lines(DraftRow::default(), b"", Number::ROOM, 0), ["1 bytes are needed"]);
+    }
 }

@@ -1,7 +1,7 @@
 //! Makes out a file from nothing: cash letters, bundles, items, addenda and views, each filled in by the names of the standard.
 //!
 //! What has to be told is asked for by `new`; all else is a method. Amounts are cents, dates are dates, pictures are lent. What the writer works
-//! out (lengths, counts, record numbers, sums) is nowhere to be given, and so are blanks that have to be. A value that does not fit stops nothing: the first
+//! out (lengths, counts, record numbers, sums) is nowhere to be given, nor is what is always blank. A value that does not fit stops nothing: the first
 //! of them is told when the file is written, with its record and field.
 //!
 //! ```
