@@ -117,11 +117,15 @@ impl Letter {
         Stop::Message(REFUSED, format!("{place}: {}: {refusal}", refusal.line()))
     }
 
-    /// Where the field at fault stands, or its record where the field is not given; behind the last record, the end of the list.
+    /// Where the field at fault stands, or its record where the field is not given; behind the last record, the end of the list. Of the whole file no
+    /// place is told.
     fn at_fault(&self, drawn_up: &DrawnUp, refusal: &Refusal) -> Option<usize> {
+        if matches!(refusal.number(), Number::SIZE | Number::ROOM) {
+            return None;
+        }
         let index = usize::try_from(refusal.record().checked_sub(1)?).ok()?;
         let Some(start) = drawn_up.starts.get(index) else {
-            return self.text.iter().rposition(|byte| *byte == b']').filter(|_| refusal.number() == Number::PLACE);
+            return self.text.iter().rposition(|byte| *byte == b']');
         };
         let field = refusal.named_field().map(|field| field.name);
         let members = sheet::record_at(&self.text, *start).map_or_else(|_| Vec::new(), |entry| entry.members);

@@ -329,6 +329,16 @@ fn refusals_of_links() {
     ];
     assert_eq!(lines, expected);
 
+    // The same behind an item of which an addendum was taken out: what its count said in the file is not spoken of.
+    let checks = sample("sound-2-checks.x9");
+    let mut draft = Draft::of(&checks).unwrap();
+    draft.set(2, 8, "I").unwrap();
+    draft.remove(5).unwrap();
+    let (name, record, field, _, lines) = told(&draft.write().unwrap_err());
+    assert_eq!((name, record, field), ("LINK", 8, 1));
+    let says = "field 8, Cash Letter Record Type Indicator, of record 2 is \"I\", and the item of record 4 has no view";
+    assert_eq!(lines[1..], [says]);
+
     // A tenth 26: its number has one digit.
     let file = sample("sound-2-checks.x9");
     let mut draft = Draft::of(&file).unwrap();
