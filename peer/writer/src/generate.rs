@@ -114,7 +114,7 @@ pub fn finish(random: &mut Random, set: Set, mut lines: Vec<Line>) -> (Vec<u8>, 
     (text, numbers)
 }
 
-/// Lines in this set, most often with junk.
+/// Lines in this set, most often with junk. The first line tells the set, though a first record of another type than 01 may tell ASCII.
 pub fn dress(random: &mut Random, set: Set, lines: &mut [Line]) {
     let junk = random.percent(70);
     for (index, line) in lines.iter_mut().enumerate() {
@@ -123,8 +123,8 @@ pub fn dress(random: &mut Random, set: Set, lines: &mut [Line]) {
         }
         if junk {
             line.junk(random, set, index == 0);
-        } else if set == Set::Ebcdic && index == 0 && line.body.len() >= 2 && random.percent(70) {
-            // A first record of another type than 01 would tell ASCII.
+        }
+        if index == 0 && set == Set::Ebcdic && line.body.len() >= 2 && (junk || random.percent(70)) {
             line.body[..2].copy_from_slice(&[0xF0, 0xF1]);
         }
     }
