@@ -53,7 +53,7 @@ pub fn header(random: &mut Random, turn: usize) -> Vec<u8> {
 /// The directory at and near the end, near 2^32, cut short by 1 to 16 bytes, and just within.
 pub fn directory(random: &mut Random, turn: usize) -> Vec<u8> {
     let plan = sound(random);
-    if turn % 2 == 0 {
+    if turn.is_multiple_of(2) {
         let mut laid = lay_with_last(random, &plan, Some(Part::Directory));
         let missing = turn / 2 % 18;
         laid.bytes.truncate(laid.bytes.len() - missing);
@@ -733,7 +733,7 @@ pub fn count_past_16_bits(random: &mut Random, turn: usize) -> Vec<u8> {
 pub fn flip(random: &mut Random, turn: usize) -> Vec<u8> {
     let plan = sound(random);
     let mut laid: Laid = lay(random, &plan);
-    if turn % 3 == 0 {
+    if turn.is_multiple_of(3) {
         laid.bytes.truncate(random.below(laid.bytes.len() + 1));
     }
     for _ in 0..random.between(0, 4) {

@@ -479,7 +479,7 @@ fn ratio_of(image: &[u8], entry: &Entry) -> (u64, u64) {
 fn ratio_holds(image: &[u8], entries: &[Entry], entry: &Entry, verdict: &Verdict) -> Vec<bool> {
     let (above, below) = ratio_of(image, entry);
     let simply = [199, 201, 239, 241, 300, 0].map(|number| (above, below) == (number, 1));
-    let wraps = |times: u64| below > 0 && times * below >> 32 > 0 && (times * below) % (1 << 32) == above;
+    let wraps = |times: u64| below > 0 && (times * below) >> 32 > 0 && (times * below) % (1 << 32) == above;
     let x = first(entries, 282).map(|x| ratio_of(image, x)).unwrap_or((0, 0));
     let unlike = verdict.why == Why::UnlikeX;
     let start = [(above, below) == (0, 0), (above, below) == (200, 0)];
