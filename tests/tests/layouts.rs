@@ -55,7 +55,11 @@ fn rule_in_capitals(rule: &str) -> Vec<String> {
 
 /// The mark of a line of the definitions, in the words of the code, which says nothing of what is given.
 fn origin_in_capitals(origin: &str) -> Vec<String> {
-    if origin == "Given" { Vec::new() } else { vec![in_capitals(origin)] }
+    if origin == "Given" {
+        Vec::new()
+    } else {
+        vec![in_capitals(origin)]
+    }
 }
 
 /// `    line 10 C Given 75 75 1 NB (numbers 1 4) ∷  -- MICR Valid Indicator`
