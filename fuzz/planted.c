@@ -1,5 +1,5 @@
-/* Planted faults, to see that the target finds them: the library's calls are renamed proved_*, and these stand before them. PLANT says
- * which fault. Compiled without AddressSanitizer, like the library. */
+/* Planted faults, to see that the targets find them: the library's calls are renamed proved_*, and these stand before them. PLANT says
+ * which fault: up to 32 those of the target `read`, from 33 on those of `write`. Compiled without AddressSanitizer, like the library. */
 #include <stdlib.h>
 #include <string.h>
 
@@ -8,6 +8,9 @@
 uint64_t proved_x9_read(const uint8_t *file, size_t file_len, uint64_t *table, size_t table_len, uint64_t answer[12]);
 uint64_t proved_x9_picture(const uint8_t *file, size_t file_len, uint64_t offset, uint64_t place[4]);
 uint64_t proved_x9_record(const uint8_t *body, size_t body_len, uint64_t answer[2]);
+uint64_t proved_x9_write(const uint8_t *text, size_t text_len, const uint64_t *draft, size_t draft_len, uint8_t *out, size_t out_len,
+                         uint64_t answer[12]);
+uint64_t proved_x9_draft(const uint8_t *file, size_t file_len, uint64_t *draft, size_t draft_len, uint64_t answer[12]);
 
 /* Bytes 5 and 6 say that the file is EBCDIC. */
 static inline int is_ebcdic(const uint8_t *file, size_t file_len) { return file_len >= 6 && file[4] == 0xF0 && file[5] == 0xF1; }
@@ -129,6 +132,118 @@ uint64_t x9_record(const uint8_t *body, size_t body_len, uint64_t answer[2]) {
     if (!number && !memcmp(body, "52", 2) && body[2] == ' ') { number = answer[0] = 7; answer[1] = 2; }
 #elif PLANT == 29 /* sources of work 12 to 20, which are not listed, pass in a 61 */
     if (number == 7 && answer[1] == 11 && !memcmp(body, "61", 2) && body[79] == '1') number = answer[0] = answer[1] = 0;
+#endif
+    return number;
+}
+
+/* A wrong refusal in the place of a writing: the buffer as it was, no totals. */
+static inline uint64_t refuse_writing(uint8_t *out, size_t out_len, const uint8_t *before, uint64_t answer[12], const uint64_t fault[4]) {
+    memcpy(out, before, out_len);
+    memset(answer, 0, 12 * 8);
+    memcpy(answer, fault, 4 * 8);
+    return fault[0];
+}
+
+/* The draft with one number of each row cut down. */
+static inline uint64_t *cut_down(const uint64_t *draft, size_t draft_len, size_t first, size_t last, uint64_t mask) {
+    uint64_t *cut = malloc(draft_len * 8 + 8);
+    memcpy(cut, draft, draft_len * 8);
+    for (size_t row = 0; row + 10 <= draft_len; row += 10)
+        for (size_t i = first; i <= last; i++) cut[row + i] &= mask;
+    return cut;
+}
+
+/* Where the record of a row was written, by the lengths. */
+static inline size_t record_at(const uint8_t *out, size_t row) {
+    size_t at = 0;
+    for (; row > 0; row--) at += 4 + ((size_t)out[at] << 24 | (size_t)out[at + 1] << 16 | (size_t)out[at + 2] << 8 | out[at + 3]);
+    return at;
+}
+
+#if PLANT == 38
+#define CUT_DOWN 2, 2, 0xFF /* of the flag the low byte alone is looked at */
+#elif PLANT == 39
+#define CUT_DOWN 0, 0, 0xFF /* of the type */
+#elif PLANT == 40
+#define CUT_DOWN 1, 1, UINT32_MAX /* of the start 32 bits */
+#elif PLANT == 41
+#define CUT_DOWN 3, 9, UINT32_MAX /* of the sizes 32 bits */
+#else
+#define CUT_DOWN 0, 0, UINT64_MAX
+#endif
+
+uint64_t x9_write(const uint8_t *text, size_t text_len, const uint64_t *draft, size_t draft_len, uint8_t *out, size_t out_len,
+                  uint64_t answer[12]) {
+    uint8_t *before = malloc(out_len + 1);
+    uint64_t *taken = cut_down(draft, draft_len, CUT_DOWN);
+    memcpy(before, out, out_len);
+    uint64_t number = proved_x9_write(text, text_len, taken, draft_len, out, out_len, answer);
+    size_t rows = draft_len / 10;
+    (void)rows, (void)refuse_writing, (void)record_at;
+#if PLANT == 33 /* writes a byte behind the file */
+    if (!number && answer[3] < out_len) out[answer[3]] = 0;
+#elif PLANT == 34 /* writes as far as there is room, then refuses */
+    if (number == 2 && out_len > 3) out[3] = 80;
+#elif PLANT == 35 /* reads a byte past the text */
+    sink = text[text_len];
+#elif PLANT == 36 /* reads a number past the draft */
+    sink = (uint8_t)draft[draft_len];
+#elif PLANT == 37 /* works a field out in the text itself */
+    if (!number && text_len > 3000) ((uint8_t *)(uintptr_t)text)[draft[1]] = '0';
+#elif PLANT == 42 /* numbers after the last whole row are taken for one */
+    if (!number && draft_len % 10) {
+        uint64_t fault[4] = {6, rows + 1, 0, answer[3]};
+        number = refuse_writing(out, out_len, before, answer, fault);
+    }
+#elif PLANT == 43 /* a record number too long is FIELD */
+    if (number == 8 && answer[2] == 2 && draft[(answer[1] - 1) * 10] == 26) number = answer[0] = 7;
+#elif PLANT == 44 /* digits in a picture of an EBCDIC text are translated */
+    for (size_t row = 0; !number && row < rows && text[draft[1]] == 0xF0 && text[draft[1] + 1] == 0xF1; row++)
+        if (draft[row * 10] == 52 && draft[row * 10 + 8]) {
+            size_t start = record_at(out, row) + 4 + 139;
+            for (int part = 3; part < 8; part++) start += draft[row * 10 + (size_t)part];
+            for (size_t i = 0; i < draft[row * 10 + 8]; i++)
+                if (out[start + i] >= 0xF0 && out[start + i] <= 0xF9) out[start + i] -= 0xC0;
+        }
+#elif PLANT == 45 /* twelve addenda outgrow a count */
+    for (size_t row = 0; !number && row + 12 < rows; row++) {
+        size_t behind = 0;
+        while (draft[(row + 1 + behind) * 10] >= 26 && draft[(row + 1 + behind) * 10] <= 28) behind++;
+        if (draft[row * 10] == 25 && behind >= 12) {
+            uint64_t fault[4] = {7, row + 1, 12, record_at(out, row)};
+            number = refuse_writing(out, out_len, before, answer, fault);
+        }
+    }
+#elif PLANT == 46 /* credits of a second cash letter are left out of the answer */
+    if (!number && answer[5] == 2 && answer[10] > 2) answer[10]--;
+#elif PLANT == 47 /* a total of a 70 is stated one cent too high, in the 70 alone */
+    for (size_t row = 0; !number && row < rows; row++)
+        if (draft[row * 10] == 70 && out[record_at(out, row) + 4 + 17] == '7') out[record_at(out, row) + 4 + 17] = '8';
+#elif PLANT == 48 /* the room needed is one byte more than there is */
+    if (number == 2 && out_len > 100) answer[1] = out_len + 1;
+#elif PLANT == 49 /* a letter in a 52 that an EBCDIC text gives is written as it stood there */
+    for (size_t row = 0; !number && row < rows && text[draft[1]] == 0xF0 && text[draft[1] + 1] == 0xF1; row++)
+        if (draft[row * 10] == 52) out[record_at(out, row) + 4 + 30] = text[draft[row * 10 + 1] + 30];
+#endif
+    free(before);
+    free(taken);
+    return number;
+}
+
+uint64_t x9_draft(const uint8_t *file, size_t file_len, uint64_t *draft, size_t draft_len, uint64_t answer[12]) {
+    uint64_t number = proved_x9_draft(file, file_len, draft, draft_len, answer);
+    size_t used = number ? 0 : 10 * answer[4];
+    (void)used;
+#if PLANT == 50 /* a blank total is not asked for */
+    for (size_t row = 0; row < used; row += 10) if (draft[row] == 70) draft[row + 2] = 0;
+#elif PLANT == 51 /* a row is left behind, then ROOM */
+    if (number == 2 && draft_len >= 10) draft[0] = 1;
+#elif PLANT == 52 /* writes the number past the last row */
+    if (!number && used < draft_len) draft[used] = 0;
+#elif PLANT == 53 /* writes a number past the draft */
+    if (!number) draft[draft_len] = 0;
+#elif PLANT == 54 /* a size is left in a record without parts */
+    for (size_t row = 0; row < used; row += 10) if (draft[row] == 54) draft[row + 3] = 80;
 #endif
     return number;
 }

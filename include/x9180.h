@@ -1,4 +1,4 @@
-/* The proved reader of X9.100-180 image cash letters: its calls for C. Link with libabi.a (rt staticlib abi).
+/* The proved reader and writer of X9.100-180 image cash letters: their calls for C. Link with libabi.a (rt staticlib abi).
  *
  * Every call takes any bytes and gives a definite answer. The numbers are those of the answers in README.md:
  * 0 ACCEPTED, 1 SIZE, 2 ROOM, 3 CUT, 4 LENGTH, 5 TYPE, 6 PLACE, 7 FIELD, 8 LINK, 9 TOTAL, 10 OPEN, 11 AFTER.
@@ -46,6 +46,33 @@ uint64_t x9_record(const uint8_t *body, size_t body_len, uint64_t answer[2]);
  * the Binary parts of a 52 are as they were. A byte for which code page 037 has none of the 95 printable characters of clause 5 is in no
  * data type. */
 uint64_t x9_record_in(const uint8_t *body, size_t body_len, uint64_t set, uint64_t answer[2]);
+
+/* The making out of a whole file from a draft: a text of bytes, and rows of ten numbers, one for each record in the order of the file. `draft_len`
+ * counts numbers, not rows; numbers after the last whole ten are not looked at. A row:
+ *   [0] the record type
+ *   [1] where the record's fixed part begins in the text; its parts follow there, in the order of their fields
+ *   [2] for a 70, 1 asks for a blank MICR total (70.4); any other number, and in any other row, asks for nothing
+ *   [3] to [9] the sizes of the parts: of a 27 or 34 six (fields 13 to 18), of a 52 seven (fields 22 to 28, [8] the picture)
+ * Worked out, and not looked at in the text (nor need they lie in it): the length before each record; field 1 of every record; the lengths that
+ * size parts (27.6 to 11, 34.6 to 11, 52.15 to 21); the addendum counts 25.12 and 31.8; the record numbers 26.2, 28.2, 32.2 and 35.2; 70.2 to 7;
+ * 90.2 to 5, 8 and 9; 99.2 to 5 and 8. Everything else is given. The fields of a 52 that repeat its header and its item (2 to 5) are given and judged.
+ * Returns the number and fills `answer` as x9_read does: 0, the records, 0, the bytes written, and the totals of the file. Only then is `out` written,
+ * and only as far as the file goes. Refused, record by record, with the record, the field and the offset that the record's length field would have:
+ *   PLACE   the type may not follow (nor is one that is not carried, nor anything behind a 99); where the rows end before a 99, the record after the last
+ *   FIELD   the lowest field that breaks its rule or does not lie in the text; a length field that its part outgrows; 25.12 or 31.8, where more addenda
+ *           follow than it can state
+ *   LINK    as x9_read; field 2, where a record number is too long
+ *   TOTAL   the lowest control field whose sum is too long
+ * then SIZE (0, 0, 0), where the file would pass 268,435,456 bytes; then ROOM, with the bytes needed as the record. What is written x9_read accepts.
+ * The text is EBCDIC (code page 037) where the two bytes at which the first row's fixed part begins are F0 F1; ASCII is written. */
+uint64_t x9_write(const uint8_t *text, size_t text_len, const uint64_t *draft, size_t draft_len, uint8_t *out, size_t out_len,
+                  uint64_t answer[12]);
+
+/* The draft of an accepted file, the file itself being the text: x9_write makes the same bytes of it (of an EBCDIC file, its copy in ASCII).
+ * `draft_len` counts numbers; the rows available are the whole tens. Returns the number and fills `answer` as x9_read does. Accepted: the draft has a
+ * row for each record, with 0 for what x9_write does not look at; numbers after the last row are untouched. Refused: the whole draft is untouched.
+ * ROOM gives the rows needed as the record. */
+uint64_t x9_draft(const uint8_t *file, size_t file_len, uint64_t *draft, size_t draft_len, uint64_t answer[12]);
 
 #ifdef __cplusplus
 }

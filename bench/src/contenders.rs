@@ -1,4 +1,4 @@
-//! What is timed: the proved library, the independent reader, and a plain walk of memory.
+//! What is timed: the proved library, the independent reader and writer, a plain walk of memory, a plain copy.
 
 use std::alloc::{GlobalAlloc, Layout, System};
 use std::sync::atomic::{AtomicU64, Ordering::Relaxed};
@@ -6,12 +6,24 @@ use std::sync::atomic::{AtomicU64, Ordering::Relaxed};
 use peer_reader::charset::{Set, Text};
 use peer_reader::descent::{self, LISTED};
 use peer_reader::judge::number_in;
+use peer_writer::draft::draft_of;
+use peer_writer::write::write;
 
 /// The numbers of an answer.
 pub type Answer = [u64; LISTED];
 
 extern "C" {
     fn x9_read(file: *const u8, file_len: usize, table: *mut u64, table_len: usize, answer: *mut Answer) -> u64;
+    fn x9_write(
+        text: *const u8,
+        text_len: usize,
+        draft: *const u64,
+        draft_len: usize,
+        out: *mut u8,
+        out_len: usize,
+        answer: *mut Answer,
+    ) -> u64;
+    fn x9_draft(file: *const u8, file_len: usize, draft: *mut u64, draft_len: usize, answer: *mut Answer) -> u64;
 }
 
 /// The proved library.
@@ -26,6 +38,43 @@ pub fn proved(file: &[u8], table: &mut [u64]) -> Answer {
 /// The independent reader, which fills the lent table from rows it has allocated.
 pub fn independent(file: &[u8], table: &mut [u64]) -> Answer {
     descent::read_into(file, table).listed()
+}
+
+/// The proved library writes a draft into a buffer.
+pub fn proved_writing(text: &[u8], draft: &[u64], out: &mut [u8]) -> Answer {
+    let mut answer = [u64::MAX; LISTED];
+    // SAFETY: each pointer goes with its slice's own length, and the answer holds the twelve numbers the call fills.
+    let number = unsafe {
+        let (text_at, draft_at, out_at) = (text.as_ptr(), draft.as_ptr(), out.as_mut_ptr());
+        x9_write(text_at, text.len(), draft_at, draft.len(), out_at, out.len(), &mut answer)
+    };
+    assert_eq!(number, answer[0]);
+    answer
+}
+
+/// The independent writer.
+pub fn independent_writing(text: &[u8], draft: &[u64], out: &mut [u8]) -> Answer {
+    write(text, draft, out).listed()
+}
+
+/// The bytes of the text into the buffer, which is as long, and nothing else.
+pub fn copying(text: &[u8], _: &[u64], out: &mut [u8]) -> Answer {
+    out.copy_from_slice(text);
+    [0; LISTED]
+}
+
+/// The proved library makes the draft of a file.
+pub fn proved_draft(file: &[u8], draft: &mut [u64]) -> Answer {
+    let mut answer = [u64::MAX; LISTED];
+    // SAFETY: each pointer goes with its slice's own length, and the answer holds the twelve numbers the call fills.
+    let number = unsafe { x9_draft(file.as_ptr(), file.len(), draft.as_mut_ptr(), draft.len(), &mut answer) };
+    assert_eq!(number, answer[0]);
+    answer
+}
+
+/// The independent one, from rows it has allocated.
+pub fn independent_draft(file: &[u8], draft: &mut [u64]) -> Answer {
+    draft_of(file, draft).listed()
 }
 
 /// Walks the lengths and adds up every byte of the records but the Image Data of the 52s. Nothing is judged.

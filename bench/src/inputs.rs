@@ -8,6 +8,13 @@ use peer_reader::random::Random;
 
 pub const MIB: usize = 1 << 20;
 
+/// The sizes over which the time is to grow with the file, in MiB; and how many copies of each but the largest come to 64 MiB.
+pub const SIZES: [usize; 5] = [1, 4, 16, 64, 256];
+pub const COPIES: [usize; 4] = [64, 16, 4, 1];
+
+/// How often a file is taken again and again in a turn, so that a small one takes as long as one of 16 MiB.
+pub const AGAIN: [usize; 5] = [16, 4, 1, 1, 1];
+
 /// Files that lie one after the other in memory.
 pub struct Batch {
     pub bytes: Vec<u8>,

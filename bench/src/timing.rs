@@ -59,3 +59,22 @@ pub fn ratio(above: &[f64], below: &[f64]) -> String {
     let [low, _, high] = quartiles(&own);
     format!("{:.2} ({low:.2} to {high:.2})", median(above) / median(below))
 }
+
+/// A contender's seconds, speed and time for a record, on standard error.
+pub fn tell_times(who: &str, times: &[f64], bytes: usize, records: u64) {
+    let seconds = median(times);
+    let speed = bytes as f64 / (1 << 20) as f64 / seconds;
+    let each = seconds * 1e9 / records as f64;
+    eprintln!("  {who}: {seconds:.6} s, {speed:.0} MiB/s, {each:.0} ns a record, {} rounds", times.len());
+}
+
+/// The lines of how the time for one of something grows: for one file again and again, and for copies one after the other.
+pub fn tell_growth(name: &str, one: &str, times: &[Vec<f64>]) {
+    let sizes = times.len() / 2;
+    for (kind, times) in ["one file again and again", "copies one after the other"].iter().zip(times.chunks(sizes)) {
+        let seconds: Vec<String> = times.iter().map(|times| format!(" {:.3e}", median(times))).collect();
+        eprintln!("{name}, {kind}: seconds for {one}{}", seconds.concat());
+        let shown: Vec<String> = times.iter().map(|size| format!(" {} |", ratio(size, &times[0]))).collect();
+        println!("| {name}, {kind} |{}", shown.concat());
+    }
+}

@@ -1,16 +1,14 @@
 //! Makes a differing file smaller while the two sides still differ.
 
 use peer_reader::descent::split_record;
-use peer_reader::random::Random;
-use peer_reader::tally::Tally;
 
-use crate::check::{check, Counts};
+use crate::Difference;
 
 /// Larger files are left as they are.
 const MOST: usize = 200_000;
 
 /// Drops whole records, then the tail, while a difference stays.
-pub fn shrink(file: &[u8], difference: &str) -> (Vec<u8>, String) {
+pub fn shrink(file: &[u8], difference: &str, differs: impl Fn(&[u8]) -> Option<Difference>) -> (Vec<u8>, Difference) {
     let mut best = (file.to_vec(), difference.to_string());
     if file.len() > MOST {
         return best;
@@ -43,9 +41,4 @@ fn pieces(file: &[u8]) -> Vec<(usize, usize)> {
     }
     pieces.push((at, file.len()));
     pieces
-}
-
-fn differs(file: &[u8]) -> Option<String> {
-    let mut random = Random::new(1);
-    check(file, &mut random, &mut Tally::default(), &mut Counts::default()).err()
 }

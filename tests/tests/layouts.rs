@@ -53,13 +53,24 @@ fn rule_in_capitals(rule: &str) -> Vec<String> {
     }
 }
 
-/// `    line 10 C 75 75 1 NB (numbers 1 4) ∷  -- MICR Valid Indicator`
+/// The mark of a line of the definitions, in the words of the code, which says nothing of what is given.
+fn origin_in_capitals(origin: &str) -> Vec<String> {
+    if origin == "Given" {
+        Vec::new()
+    } else {
+        vec![in_capitals(origin)]
+    }
+}
+
+/// `    line 10 C Given 75 75 1 NB (numbers 1 4) ∷  -- MICR Valid Indicator`
 fn defined_line(line: &str) -> Option<Written> {
     let (code, name) = line.trim().strip_prefix("line ")?.split_once(" ∷  -- ")?;
-    let cells: Vec<&str> = code.splitn(7, ' ').collect();
-    let mut words = vec![cells[1].to_string(), cells[5].to_uppercase()];
-    words.extend(rule_in_capitals(cells[6]));
-    let place = format!("{} * FIRST + {} * SIZE", cells[2], cells[4]);
+    let cells: Vec<&str> = code.splitn(8, ' ').collect();
+    let mut words = vec![cells[1].to_string()];
+    words.extend(origin_in_capitals(cells[2]));
+    words.push(cells[6].to_uppercase());
+    words.extend(rule_in_capitals(cells[7]));
+    let place = format!("{} * FIRST + {} * SIZE", cells[3], cells[5]);
     Some(Written { place, words, name: format!("{} {name}", cells[0]) })
 }
 

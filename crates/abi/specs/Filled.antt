@@ -7,7 +7,11 @@ use Rattle.text.specs.declared.character_set.CharacterSet.{CharacterSet}
 use Rattle.text.specs.declared.character_set.CharacterSet.the-variants.{Ascii, Ebcdic}
 use Rattle.judge.specs.declared.Judged.{Judged}
 use Rattle.picture.specs.declared.Found.{Found}
+use Rattle.passes.specs.Answers.{numberOf, numbersOf}
+use Rattle.draft.specs.declared.Outcome.{Outcome}
+use Rattle.draft.specs.declared.Outcome.the-variants.{Written, Refused}
 use Rattle.judge.specs.Alone as alone
+use Rattle.passes.specs.declared.Answer.the-variants as answers
 use Rattle.picture.specs.Picture as picture
 
 -- the set that a number tells: 1 is EBCDIC, any other ASCII
@@ -21,3 +25,12 @@ placeOf found = picture.numberOf found ∷ picture.fieldOf found ∷ picture.sta
 -- x9_record: number, field
 abbrev pub judgementOf : Judged → List ℕ
 judgementOf judged = alone.numberOf judged ∷ alone.fieldOf judged ∷ []
+
+-- x9_write: "0, records, 0, bytes written, then the totals as x9_read has them", or number, record, field, offset
+abbrev pub outcomeNumber : Outcome → ℕ
+outcomeNumber (Written n t) = 0
+outcomeNumber (Refused fault place offset) = numberOf fault
+
+abbrev pub outcomeNumbers : Outcome → List ℕ
+outcomeNumbers (Written n t) = numbersOf n (answers.Accepted t)
+outcomeNumbers (Refused fault place offset) = numbersOf 0 (answers.Refused fault place offset)

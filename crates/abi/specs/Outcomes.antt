@@ -10,7 +10,12 @@ use Rattle.passes.specs.Answers.{answerNumber, numbersOf}
 use Rattle.passes.specs.Reading.{answerOf, tableOf}
 use Rattle.passes.specs.declared.Answer.{Answer}
 use Rattle.arrangement.specs.Arranged.{Arranged}
-use Rattle.abi.specs.Filled.{placeOf, judgementOf}
+use Rattle.draft.specs.declared.Outcome.{Outcome}
+use Rattle.draft.specs.Values.{valuesOfDraft}
+use Rattle.draft.specs.Drafted.{outcomeOf, bufferOf}
+use Rattle.draft.specs.Promises.{Promised}
+use Rattle.drafting.specs.DraftOf.{draftAnswerOf, draftTableOf, DraftOfItself}
+use Rattle.abi.specs.Filled.{placeOf, judgementOf, outcomeNumber, outcomeNumbers}
 use Rattle.judge.specs.Alone as alone
 use Rattle.picture.specs.Picture as picture
 
@@ -47,7 +52,39 @@ pub one-judging : (set : CharacterSet) (body : List ℕ) {n m : ℕ} {answer oth
     → Judging set body n answer → Judging set body m other → (n ≡ m) × (answer ≡ other)
 one-judging set body r s = (one (r .number) (s .number), one (r .answer) (s .answer))
 
--- the calls of the Rattle crates: reader::read, picture::picture and picture::find_picture
+-- x9_write: the number, the buffer afterwards, the twelve numbers, and what is promised of them
+pub record Writing (text draft out : List ℕ) (n : ℕ) (after numbers : List ℕ) : Type 0 where
+  pub number : n ≡ outcomeNumber (outcomeOf (valuesOfDraft text draft) (length out))
+  pub buffer : after ≡ bufferOf (valuesOfDraft text draft) out
+  pub answer : numbers ≡ outcomeNumbers (outcomeOf (valuesOfDraft text draft) (length out))
+  pub promised : Promised text draft out (outcomeOf (valuesOfDraft text draft) (length out)) after
+
+pub one-writing : (text draft out : List ℕ) {n m : ℕ} {after later answer other : List ℕ}
+    → Writing text draft out n after answer → Writing text draft out m later other → (n ≡ m) × (after ≡ later) × (answer ≡ other)
+one-writing text draft out r s = (one (r .number) (s .number), one (r .buffer) (s .buffer), one (r .answer) (s .answer))
+
+-- x9_draft: the number, the draft afterwards, the twelve numbers, and that it is a draft of the file's own values
+pub record Drafting (file draft : List ℕ) (n : ℕ) (after numbers : List ℕ) : Type 0 where
+  pub number : n ≡ answerNumber (draftAnswerOf file (length draft))
+  pub rows : after ≡ draftTableOf file draft
+  pub answer : numbers ≡ numbersOf (length file) (draftAnswerOf file (length draft))
+  pub itself : DraftOfItself file (draftAnswerOf file (length draft)) after
+
+pub one-drafting : (file draft : List ℕ) {n m : ℕ} {after later answer other : List ℕ}
+    → Drafting file draft n after answer → Drafting file draft m later other → (n ≡ m) × (after ≡ later) × (answer ≡ other)
+one-drafting file draft r s = (one (r .number) (s .number), one (r .rows) (s .rows), one (r .answer) (s .answer))
+
+-- the calls of the Rattle crates: writer::write and drafting::draft_of; reader::read, picture::picture and picture::find_picture
+pub one-outcome : (text draft out : List ℕ) {a b : Outcome} {after later : List ℕ}
+    → a ≡ outcomeOf (valuesOfDraft text draft) (length out) → after ≡ bufferOf (valuesOfDraft text draft) out
+    → b ≡ outcomeOf (valuesOfDraft text draft) (length out) → later ≡ bufferOf (valuesOfDraft text draft) out → (a ≡ b) × (after ≡ later)
+one-outcome text draft out e t q u = (one e q, one t u)
+
+pub one-draft : (file draft : List ℕ) {a b : Answer} {after later : List ℕ}
+    → a ≡ draftAnswerOf file (length draft) → after ≡ draftTableOf file draft → b ≡ draftAnswerOf file (length draft) → later ≡ draftTableOf file draft
+    → (a ≡ b) × (after ≡ later)
+one-draft file draft e t q u = (one e q, one t u)
+
 pub one-answer : (file table : List ℕ) {a b : Answer} {after later : List ℕ}
     → a ≡ answerOf file (length table) → after ≡ tableOf file table → b ≡ answerOf file (length table) → later ≡ tableOf file table
     → (a ≡ b) × (after ≡ later)

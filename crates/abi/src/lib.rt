@@ -1,10 +1,54 @@
 // The calls for C and Rust (include/x9180.h).
+use draft::Outcome;
 use passes::Answer;
+use passes::Fault;
+use passes::Totals;
 use text::CharacterSet;
 ghost use mathlib.Core.Path.{_≡_};
 ghost use Rattle.text.specs.declared.character_set.CharacterSet.the-variants.{Ascii};
+ghost use Prim.Native.Nat.{ℕ};
+ghost use Rattle.passes.specs.Answers.{numberOf, numbersOf};
+ghost use Rattle.passes.specs.declared.Answer.the-variants.{Accepted, Refused};
 ghost use Rattle.abi.specs.Filled.{setNumbered};
-ghost use Rattle.abi.specs.Outcomes.{Reading, Picturing, Judging};
+ghost use Rattle.abi.specs.Outcomes.{Reading, Writing, Drafting, Picturing, Judging};
+
+// The numbers of an acceptance, where the file has so many bytes, and of a refusal.
+fn fill_accepted(bytes: u64, totals: Totals, answer: &mut [u64; 12])
+    ensures { λ _. ⌜ now (answer .exit) ≡ numbersOf bytes (Accepted totals) ⌝ }
+{
+    let sums = totals.sums;
+    let records = totals.records.0;
+    let letters = totals.letters;
+    let bundles = totals.bundles;
+    let items = totals.items.0;
+    let views = sums.views.0;
+    let cents = sums.debit.0;
+    let credits = sums.credits.0;
+    let credit_cents = sums.credit.0;
+    *answer = [
+        0,
+        records,
+        0,
+        bytes,
+        records,
+        letters,
+        bundles,
+        items,
+        views,
+        cents,
+        credits,
+        credit_cents,
+    ];
+}
+
+fn fill_refused(fault: Fault, place: u64, offset: usize, answer: &mut [u64; 12]) -> u64
+    ensures { λ r. ⌜ (r ≡ numberOf fault) × ((bytes : ℕ) → now (answer .exit) ≡ numbersOf bytes (Refused fault place offset)) ⌝ }
+{
+    let number = fault.number();
+    let field = fault.field() as u64;
+    *answer = [number, place, field, offset as u64, 0, 0, 0, 0, 0, 0, 0, 0];
+    number
+}
 
 // The reading of a whole file: the number, in `table` the rows of an accepted file, and in `answer` number, record, field, offset, and
 // the totals: records, cash letters, bundles, items, views, debit cents, credits, credit cents.
@@ -15,37 +59,45 @@ pub extern "C" fn x9_read(file: &[u8], table: &mut [u64], answer: &mut [u64; 12]
     let size = file.len() as u64;
     match reader::read(file, table) {
         Answer::Accepted(totals) => {
-            let sums = totals.sums;
-            let records = totals.records.0;
-            let letters = totals.letters;
-            let bundles = totals.bundles;
-            let items = totals.items.0;
-            let views = sums.views.0;
-            let cents = sums.debit.0;
-            let credits = sums.credits.0;
-            let credit_cents = sums.credit.0;
-            *answer = [
-                0,
-                records,
-                0,
-                size,
-                records,
-                letters,
-                bundles,
-                items,
-                views,
-                cents,
-                credits,
-                credit_cents,
-            ];
+            fill_accepted(size, totals, answer);
             0
         }
-        Answer::Refused(fault, record, offset) => {
-            let number = fault.number();
-            let field = fault.field() as u64;
-            *answer = [number, record, field, offset as u64, 0, 0, 0, 0, 0, 0, 0, 0];
-            number
+        Answer::Refused(fault, place, offset) => fill_refused(fault, place, offset, answer),
+    }
+}
+
+// The making out of a whole file: the number, in `out` the bytes of a file that could be made out, and in `answer` the numbers as x9_read has them, with
+// the bytes written as the offset.
+#[no_mangle]
+pub extern "C" fn x9_write<'a>(
+    text: &'a [u8],
+    draft: &'a [u64],
+    out: &mut [u8],
+    answer: &mut [u64; 12],
+) -> u64
+    ensures { λ r. ⌜ Writing (now (text .entry)) (now (draft .entry)) (now (out .entry)) r (now (out .exit)) (now (answer .exit)) ⌝ }
+{
+    match writer::write(text, draft, out) {
+        Outcome::Written(bytes, totals) => {
+            fill_accepted(bytes as u64, totals, answer);
+            0
         }
+        Outcome::Refused(fault, place, offset) => fill_refused(fault, place, offset, answer),
+    }
+}
+
+// The draft of an accepted file: the number, in `draft` its rows, and in `answer` the numbers of the reading.
+#[no_mangle]
+pub extern "C" fn x9_draft(file: &[u8], draft: &mut [u64], answer: &mut [u64; 12]) -> u64
+    ensures { λ r. ⌜ Drafting (now (file .entry)) (now (draft .entry)) r (now (draft .exit)) (now (answer .exit)) ⌝ }
+{
+    let bytes = file.len() as u64;
+    match drafting::draft_of(file, draft) {
+        Answer::Accepted(totals) => {
+            fill_accepted(bytes, totals, answer);
+            0
+        }
+        Answer::Refused(fault, place, offset) => fill_refused(fault, place, offset, answer),
     }
 }
 

@@ -29,12 +29,13 @@ module _ (set : CharacterSet) (file : List ℕ) (s : Standing) (k offset : ℕ) 
   unfolding linkFault
   link-capped = refl
 
-  -- the cents of the 70's fields 3 and 7, the 90's 4 and 9, the 99's 5 and 8
+  -- the cents of the 70's fields 3, 4 and 7, the 90's 4 and 9, the 99's 5 and 8
   pub total-capped : totalFault set file (cappedFigures s) k offset ≡ totalFault set file s k offset
   unfolding totalFault
   total-capped =
       rw (
         stated-capped set file offset 7 12 (s .bundle .debit .0) (omega arith),
+        stated-capped set file offset 19 12 (s .micr .0) (omega arith),
         stated-capped set file offset 40 12 (s .bundle .credit .0) (omega arith),
         stated-capped set file offset 17 14 (s .letter .debit .0) (omega arith),
         stated-capped set file offset 72 14 (s .letter .credit .0) (omega arith),

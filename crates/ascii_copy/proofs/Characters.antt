@@ -32,7 +32,7 @@ and-false true = refl
 and-false false = refl
 
 -- a test that is computed at every number below n
-abbrev passesBelow : ℕ → (ℕ → Bool) → Bool
+abbrev pub passesBelow : ℕ → (ℕ → Bool) → Bool
 passesBelow zero test = true
 passesBelow (suc n) test = test n && passesBelow n test
 
@@ -40,7 +40,7 @@ at-or-below : (b : Bool) (n x : ℕ) (test : ℕ → Bool) → eqb x n ≡ b →
 at-or-below true n x test q h at below = ap test (eqb-true x n q) ∙ at
 at-or-below false n x test q h at below = let other = eqb-false x n q in below (omega arith)
 
-passes-below : (n : ℕ) (test : ℕ → Bool) → passesBelow n test ≡ true → (x : ℕ) → x < n → test x ≡ true
+pub passes-below : (n : ℕ) (test : ℕ → Bool) → passesBelow n test ≡ true → (x : ℕ) → x < n → test x ≡ true
 passes-below zero test e x h = absurd (not-suc-le-zero h)
 passes-below (suc n) test e x h =
     at-or-below (eqb x n) n x test refl h (and-left (test n) (passesBelow n test) e)

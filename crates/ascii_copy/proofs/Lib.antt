@@ -1,4 +1,5 @@
 pub mod Characters
+pub mod Counterparts
 pub mod Fields
 pub mod Records
 pub mod Frames

@@ -26,7 +26,7 @@ use Rattle.ascii_copy.specs.AsciiCopy.{translated, copiedAs, copiedParts
 use Rattle.ascii_copy.proofs.Characters.{numeric-alike}
 use Rattle.ascii_copy.proofs.Fields.{length-translated, take-translated, drop-translated, every-alike, getD-alike, number-alike, type-alike, as-alike, holds-alike}
 
-length-as : (t : DataType) (xs : List ℕ) → length (copiedAs t xs) ≡ length xs
+pub length-as : (t : DataType) (xs : List ℕ) → length (copiedAs t xs) ≡ length xs
 length-as AB xs = length-translated xs
 length-as A xs = length-translated xs
 length-as AN xs = length-translated xs

@@ -35,13 +35,13 @@ module _ (file : List ℕ) (at : ℕ) (b rest : List ℕ) (e : drop at file ≡ 
   pub body-is : drop (at + 4) file ≡ b ++ rest
   body-is = sym (drop-drop 4 at file) ∙ ap (drop 4) e
 
-  part-is : part (at + 4) (length b) file ≡ b
+  pub part-is : part (at + 4) (length b) file ≡ b
   part-is = ap (take (length b)) body-is ∙ take-append-seam b rest
 
-  rest-is : drop (at + 4 + length b) file ≡ rest
+  pub rest-is : drop (at + 4 + length b) file ≡ rest
   rest-is = sym (drop-drop (length b) (at + 4) file) ∙ ap (drop (length b)) body-is ∙ drop-append-seam b rest
 
-  frame-is : length file ≤ 268_435_456 → frameAt file at ≡ Whole (at + 4) (length b)
+  pub frame-is : length file ≤ 268_435_456 → frameAt file at ≡ Whole (at + 4) (length b)
   frame-is small =
       let n : lengthAt file at ≡ length b = ap lengthIn e ∙ length-read (length b) (b ++ rest) (omega (arith, long)) in
       whole file at (omega (arith, long)) ∙ ap (Whole (at + 4)) n

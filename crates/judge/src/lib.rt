@@ -58,7 +58,7 @@ fn line_holds(set: CharacterSet, packed: u64, body: &[u8]) -> bool
     let start = layout::place_of(packed / 0x1_0000_0000_0000);
     let size = (packed / 0x100_0000_0000 % 0x100) as usize;
     let part = frame::part_within(body, start, size);
-    let usage = layout::usage_of(packed / 0x1_0000_0000 % 0x100);
+    let usage = layout::usage_of(packed / 0x1_0000_0000 % 2);
     if field::is_left_blank(set, usage, part) {
         return true;
     }
@@ -75,7 +75,7 @@ fn line_holds(set: CharacterSet, packed: u64, body: &[u8]) -> bool
 }
 
 // The number of the first field of the fixed part that does not hold, or 0.
-fn first_wrong<'a>(set: CharacterSet, lines: &'a [u64], body: &'a [u8]) -> usize
+pub fn first_wrong<'a>(set: CharacterSet, lines: &'a [u64], body: &'a [u8]) -> usize
     requires { ⌜ every (liesWithin (length (now body))) (now lines) ≡ true ⌝ }
     ensures { λ r. ⌜ r ≡ firstWrong set (linesFrom 1 (now (lines .entry))) (now (body .entry)) ⌝ }
 {
@@ -90,7 +90,7 @@ fn first_wrong<'a>(set: CharacterSet, lines: &'a [u64], body: &'a [u8]) -> usize
 }
 
 // The size that the record states for a part.
-fn stated_size(set: CharacterSet, packed: u64, body: &[u8]) -> u64
+pub fn stated_size(set: CharacterSet, packed: u64, body: &[u8]) -> u64
     ensures { λ r. ⌜ ((n : ℕ) → r ≡ statedSize set (sizedOf n packed) (now (body .entry))) ⌝ }
 {
     let start = layout::place_of(packed / 0x1_0000_0000_0000);

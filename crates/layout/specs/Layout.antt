@@ -9,20 +9,22 @@ use Rattle.field.specs.declared.Usage.the-variants.{Mandatory, Conditional}
 use Rattle.field.specs.declared.Rule.{Rule}
 use Rattle.field.specs.declared.Rule.the-variants.{DataTypeAlone, Numbers, Routing, ClippingCoordinate}
 use Rattle.field.specs.RoutingForms.{Form, listing}
+use Rattle.layout.specs.declared.packing.Origin.{Origin}
 
 -- a field of the fixed part: FIELD, USAGE, POSITION (first and last), SIZE and TYPE, as the table prints them, and its Format or
--- Defined Values
+-- Defined Values; besides, whether whoever makes out a record gives it or it is worked out, and then what it states (request 4)
 pub record Line : Type 0 where
   pub number : ℕ
   pub usage : Usage
+  pub origin : Origin
   pub first : ℕ
   pub last : ℕ
   pub size : ℕ
   pub dataType : DataType
   pub rule : Rule
 
-abbrev pub line : ℕ → Usage → ℕ → ℕ → ℕ → DataType → Rule → Line
-line n u f l s t r = record { number = n; usage = u; first = f; last = l; size = s; dataType = t; rule = r }
+abbrev pub line : ℕ → Usage → Origin → ℕ → ℕ → ℕ → DataType → Rule → Line
+line n u o f l s t r = record { number = n; usage = u; origin = o; first = f; last = l; size = s; dataType = t; rule = r }
 
 -- a field after the fixed part: its number, the number of the field that states its size, its data type
 pub record Part : Type 0 where

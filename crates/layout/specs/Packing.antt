@@ -1,6 +1,6 @@
 -- How the code writes the layouts, as one table of numbers. A kind is one number of four parts, each two bytes, from the highest: its type, its
 -- fixed length, how many fields it has, and how many of these are parts. The numbers of its fields follow. The bytes of a field's number are,
--- from the highest, the first position (two), the size, the usage, the data type, the rule and the rule's two numbers.
+-- from the highest, the first position (two), the size, the usage (lowest bit) with the origin, the data type, the rule and the rule's two numbers.
 -- Nothing of this has to be believed: that the table stands for the layouts of specs/Layouts.antt is proved (`Packed`, at the end).
 use Prim.Native.Nat.{ℕ, zero, suc, _+_, _-_, _/_, _%_}
 use mathlib.Core.Bool.{Bool, true, cond, _&&_}
@@ -17,11 +17,30 @@ use Rattle.field.specs.declared.CodeList.the-variants.{FileTypes, YesNo, YesNoU
 use Rattle.field.specs.declared.Rule.{Rule}
 use Rattle.field.specs.declared.Rule.the-variants.{DataTypeAlone, Numbers, AllDigits, OneOrTwoDigits, StandardLevel, CollectionType, BundleCollectionType, SourceOfWork, Date, HoursMinutes, HoursMinutesSeconds, Routing, Code, ClippingCoordinate}
 use Rattle.field.specs.declared.Forms.{Forms}
+use Rattle.layout.specs.declared.packing.Origin.{Origin}
+use Rattle.layout.specs.declared.packing.Origin.the-variants.{Given, TypeNumber, PartSize, AddendumCount, RecordNumber, DebitCount, DebitCents, MicrCents, ViewCount, CreditCount, CreditCents, BundleCount, LetterCount, RecordCount, ItemCount}
 use Rattle.layout.specs.Layout.{Line, Layout, Sized, sizedParts}
 use Rattle.layout.specs.Layouts.{layouts}
 
 abbrev pub usageOf : ℕ → Usage
 usageOf code = cond (eqb code 0) Mandatory Conditional
+
+abbrev pub originOf : ℕ → Origin
+originOf code =
+    cond (eqb code 1) TypeNumber
+    (cond (eqb code 2) PartSize
+    (cond (eqb code 3) AddendumCount
+    (cond (eqb code 4) RecordNumber
+    (cond (eqb code 5) DebitCount
+    (cond (eqb code 6) DebitCents
+    (cond (eqb code 7) MicrCents
+    (cond (eqb code 8) ViewCount
+    (cond (eqb code 9) CreditCount
+    (cond (eqb code 10) CreditCents
+    (cond (eqb code 11) BundleCount
+    (cond (eqb code 12) LetterCount
+    (cond (eqb code 13) RecordCount
+    (cond (eqb code 14) ItemCount Given)))))))))))))
 
 abbrev pub dataTypeOf : ℕ → DataType
 dataTypeOf code =
@@ -79,7 +98,8 @@ abbrev pub lineOf : ℕ → ℕ → Line
 lineOf n packed =
     record {
       number = n;
-      usage = usageOf (packed / 0x1_0000_0000 % 0x100);
+      usage = usageOf (packed / 0x1_0000_0000 % 2);
+      origin = originOf (packed / 0x2_0000_0000 % 0x80);
       first = packed / 0x1_0000_0000_0000;
       last = packed / 0x1_0000_0000_0000 + packed / 0x100_0000_0000 % 0x100 - 1;
       size = packed / 0x100_0000_0000 % 0x100;

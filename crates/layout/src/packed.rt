@@ -22,6 +22,7 @@ use crate::kinds::ReturnRecord;
 use crate::packing::A;
 use crate::packing::AB;
 use crate::packing::ACCOUNT_TYPES;
+use crate::packing::ADDENDUM_COUNT;
 use crate::packing::ALL_DIGITS;
 use crate::packing::AN;
 use crate::packing::ANS;
@@ -29,21 +30,29 @@ use crate::packing::ARCHIVE_TYPES;
 use crate::packing::B_TTTTAAAA;
 use crate::packing::BINARY;
 use crate::packing::BUNDLE_COLLECTION_TYPE;
+use crate::packing::BUNDLE_COUNT;
 use crate::packing::C;
 use crate::packing::CASH_LETTER_DOCUMENTATION;
 use crate::packing::CLIPPED_BY;
 use crate::packing::COLLECTION_TYPE;
+use crate::packing::CREDIT_CENTS;
+use crate::packing::CREDIT_COUNT;
 use crate::packing::DATE;
+use crate::packing::DEBIT_CENTS;
+use crate::packing::DEBIT_COUNT;
 use crate::packing::FIELDS;
 use crate::packing::FILE_TYPES;
 use crate::packing::FIRST;
 use crate::packing::HOURS_MINUTES;
 use crate::packing::HOURS_MINUTES_SECONDS;
+use crate::packing::ITEM_COUNT;
 use crate::packing::ITEM_DOCUMENTATION;
 use crate::packing::KIND;
+use crate::packing::LETTER_COUNT;
 use crate::packing::LONG;
 use crate::packing::LOW;
 use crate::packing::M;
+use crate::packing::MICR_CENTS;
 use crate::packing::N;
 use crate::packing::NB;
 use crate::packing::NBD;
@@ -55,7 +64,10 @@ use crate::packing::NBQ;
 use crate::packing::NNNNNNNNN;
 use crate::packing::NUMBERS;
 use crate::packing::ONE_OR_TWO_DIGITS;
+use crate::packing::PART_SIZE;
 use crate::packing::PARTS;
+use crate::packing::RECORD_COUNT;
+use crate::packing::RECORD_NUMBER;
 use crate::packing::RECORD_TYPE_INDICATORS;
 use crate::packing::RETURN_ACCEPTANCE;
 use crate::packing::ROUTING;
@@ -66,6 +78,8 @@ use crate::packing::TEST_OVERRIDES;
 use crate::packing::TTTT_AAAA;
 use crate::packing::TTTTAAAAC;
 use crate::packing::TTTTT_FFF;
+use crate::packing::TYPE_NUMBER;
+use crate::packing::VIEW_COUNT;
 use crate::packing::YES_NO;
 use crate::packing::YES_NO_UNKNOWN;
 use crate::packing::fields_in;
@@ -79,7 +93,7 @@ pub const COUNT: usize = 322;
 const LAYOUTS: [u64; COUNT] = [
     // Clause 7: File Header Record.
     FileHeader::TYPE * KIND + FileHeader::LENGTH * LONG + FileHeader::FIELDS * FIELDS,
-    1 * FIRST + 2 * SIZE + M + N + NUMBERS + 1 * LOW + 1, // 1 Record Type
+    1 * FIRST + 2 * SIZE + M + TYPE_NUMBER + N + NUMBERS + 1 * LOW + 1, // 1 Record Type
     3 * FIRST + 2 * SIZE + M + N + STANDARD_LEVEL, // 2 Standard Level
     5 * FIRST + 1 * SIZE + M + AN + FILE_TYPES, // 3 File Type Indicator
     6 * FIRST + 9 * SIZE + M + NBD + ROUTING + TTTTAAAAC + TTTTT_FFF + NNNNNNNNN, // 4 Immediate Destination Routing Number
@@ -97,7 +111,7 @@ const LAYOUTS: [u64; COUNT] = [
     CashLetterHeader::TYPE * KIND
         + CashLetterHeader::LENGTH * LONG
         + CashLetterHeader::FIELDS * FIELDS,
-    1 * FIRST + 2 * SIZE + M + N + NUMBERS + 10 * LOW + 10, // 1 Record Type
+    1 * FIRST + 2 * SIZE + M + TYPE_NUMBER + N + NUMBERS + 10 * LOW + 10, // 1 Record Type
     3 * FIRST + 2 * SIZE + M + N + COLLECTION_TYPE, // 2 Collection Type Indicator
     5 * FIRST + 9 * SIZE + M + NBD + ROUTING + TTTTAAAAC + TTTTT_FFF + NNNNNNNNN, // 3 Destination Routing Number
     14 * FIRST + 9 * SIZE + M + NBD + ROUTING + TTTTAAAAC + TTTTT_FFF + NNNNNNNNN, // 4 ECE Institution Routing Number
@@ -113,7 +127,7 @@ const LAYOUTS: [u64; COUNT] = [
     79 * FIRST + 2 * SIZE + C + ANS, // 14 User Field
     // Clause 9: Bundle Header Record.
     BundleHeader::TYPE * KIND + BundleHeader::LENGTH * LONG + BundleHeader::FIELDS * FIELDS,
-    1 * FIRST + 2 * SIZE + M + N + NUMBERS + 20 * LOW + 20, // 1 Record Type
+    1 * FIRST + 2 * SIZE + M + TYPE_NUMBER + N + NUMBERS + 20 * LOW + 20, // 1 Record Type
     3 * FIRST + 2 * SIZE + M + N + BUNDLE_COLLECTION_TYPE, // 2 Collection Type Indicator
     5 * FIRST + 9 * SIZE + M + NBD + ROUTING + TTTTAAAAC + TTTTT_FFF + NNNNNNNNN, // 3 Bundle Destination Routing Number
     14 * FIRST + 9 * SIZE + M + NBD + ROUTING + TTTTAAAAC + TTTTT_FFF + NNNNNNNNN, // 4 Bundle ECE Institution Routing Number
@@ -128,7 +142,7 @@ const LAYOUTS: [u64; COUNT] = [
     74 * FIRST + 7 * SIZE + M + AB, // 13 Reserved
     // Clause 10: Check Detail Record.
     CheckDetail::TYPE * KIND + CheckDetail::LENGTH * LONG + CheckDetail::FIELDS * FIELDS,
-    1 * FIRST + 2 * SIZE + M + N + NUMBERS + 25 * LOW + 25, // 1 Record Type
+    1 * FIRST + 2 * SIZE + M + TYPE_NUMBER + N + NUMBERS + 25 * LOW + 25, // 1 Record Type
     3 * FIRST + 15 * SIZE + C + NBMCD, // 2 Auxiliary On-Us
     18 * FIRST + 1 * SIZE + C + NBMC, // 3 External Processing Code
     19 * FIRST + 9 * SIZE + M + NBMCD + ROUTING + TTTTAAAAC + TTTTT_FFF + TTTT_AAAA + B_TTTTAAAA, // 4 Payor Bank Routing Number
@@ -139,15 +153,15 @@ const LAYOUTS: [u64; COUNT] = [
     74 * FIRST + 1 * SIZE + C + AN + RETURN_ACCEPTANCE, // 9 Electronic Return Acceptance Indicator
     75 * FIRST + 1 * SIZE + C + NB + NUMBERS + 1 * LOW + 4, // 10 MICR Valid Indicator
     76 * FIRST + 1 * SIZE + C + A + YES_NO_UNKNOWN, // 11 BOFD Indicator
-    77 * FIRST + 2 * SIZE + M + N + NUMBERS + 0 * LOW + 99, // 12 Check Detail Record Addendum Count
+    77 * FIRST + 2 * SIZE + M + ADDENDUM_COUNT + N + NUMBERS + 0 * LOW + 99, // 12 Check Detail Record Addendum Count
     79 * FIRST + 1 * SIZE + C + AN + NUMBERS + 0 * LOW + 4, // 13 Correction Indicator
     80 * FIRST + 1 * SIZE + C + AN + ARCHIVE_TYPES, // 14 Archive Type Indicator
     // Clause 11: Check Detail Addendum A Record.
     CheckDetailAddendumA::TYPE * KIND
         + CheckDetailAddendumA::LENGTH * LONG
         + CheckDetailAddendumA::FIELDS * FIELDS,
-    1 * FIRST + 2 * SIZE + M + N + NUMBERS + 26 * LOW + 26, // 1 Record Type
-    3 * FIRST + 1 * SIZE + M + N, // 2 Check Detail Addendum A Record Number
+    1 * FIRST + 2 * SIZE + M + TYPE_NUMBER + N + NUMBERS + 26 * LOW + 26, // 1 Record Type
+    3 * FIRST + 1 * SIZE + M + RECORD_NUMBER + N, // 2 Check Detail Addendum A Record Number
     4 * FIRST + 9 * SIZE + C + NBD + ROUTING + TTTTAAAAC + TTTTT_FFF, // 3 Return Location Routing Number
     13 * FIRST + 8 * SIZE + C + NB + DATE, // 4 BOFD Business Endorsement Date
     21 * FIRST + 15 * SIZE + C + NB, // 5 BOFD Item Sequence Number
@@ -165,17 +179,17 @@ const LAYOUTS: [u64; COUNT] = [
         + CheckDetailAddendumB::LENGTH * LONG
         + CheckDetailAddendumB::FIELDS * FIELDS
         + 6 * PARTS,
-    1 * FIRST + 2 * SIZE + M + N + NUMBERS + 27 * LOW + 27, // 1 Record Type
+    1 * FIRST + 2 * SIZE + M + TYPE_NUMBER + N + NUMBERS + 27 * LOW + 27, // 1 Record Type
     3 * FIRST + 20 * SIZE + C + ANS, // 2 Item Description
     23 * FIRST + 8 * SIZE + C + NB + DATE, // 3 Image Capture Date
     31 * FIRST + 6 * SIZE + C + NB + HOURS_MINUTES_SECONDS, // 4 Image Capture Time
     37 * FIRST + 15 * SIZE + C + NB, // 5 Microfilm Archive Sequence Number
-    52 * FIRST + 4 * SIZE + M + N, // 6 Length of Image Archive Locator
-    56 * FIRST + 2 * SIZE + M + N + NUMBERS + 0 * LOW + 99, // 7 Length of Captured Unparsed MICR Data
-    58 * FIRST + 2 * SIZE + M + N + NUMBERS + 0 * LOW + 99, // 8 Length of Captured High Unparsed MICR Data
-    60 * FIRST + 2 * SIZE + M + N + NUMBERS + 0 * LOW + 99, // 9 Length of Corrected Unparsed MICR Data
-    62 * FIRST + 2 * SIZE + M + N + NUMBERS + 0 * LOW + 99, // 10 Length of Corrected High Unparsed MICR Data
-    64 * FIRST + 5 * SIZE + M + N, // 11 Length of User Data
+    52 * FIRST + 4 * SIZE + M + PART_SIZE + N, // 6 Length of Image Archive Locator
+    56 * FIRST + 2 * SIZE + M + PART_SIZE + N + NUMBERS + 0 * LOW + 99, // 7 Length of Captured Unparsed MICR Data
+    58 * FIRST + 2 * SIZE + M + PART_SIZE + N + NUMBERS + 0 * LOW + 99, // 8 Length of Captured High Unparsed MICR Data
+    60 * FIRST + 2 * SIZE + M + PART_SIZE + N + NUMBERS + 0 * LOW + 99, // 9 Length of Corrected Unparsed MICR Data
+    62 * FIRST + 2 * SIZE + M + PART_SIZE + N + NUMBERS + 0 * LOW + 99, // 10 Length of Corrected High Unparsed MICR Data
+    64 * FIRST + 5 * SIZE + M + PART_SIZE + N, // 11 Length of User Data
     69 * FIRST + 5 * SIZE + M + AB, // 12 Reserved
     52 * FIRST + 4 * SIZE + ANS, // 13 Image Archive Locator
     56 * FIRST + 2 * SIZE + NBMU, // 14 Captured Unparsed MICR Data
@@ -187,8 +201,8 @@ const LAYOUTS: [u64; COUNT] = [
     CheckDetailAddendumC::TYPE * KIND
         + CheckDetailAddendumC::LENGTH * LONG
         + CheckDetailAddendumC::FIELDS * FIELDS,
-    1 * FIRST + 2 * SIZE + M + N + NUMBERS + 28 * LOW + 28, // 1 Record Type
-    3 * FIRST + 2 * SIZE + M + N, // 2 Check Detail Addendum C Record Number
+    1 * FIRST + 2 * SIZE + M + TYPE_NUMBER + N + NUMBERS + 28 * LOW + 28, // 1 Record Type
+    3 * FIRST + 2 * SIZE + M + RECORD_NUMBER + N, // 2 Check Detail Addendum C Record Number
     5 * FIRST + 9 * SIZE + C + NBD + ROUTING + TTTTAAAAC + TTTTT_FFF, // 3 Endorsing Bank Routing Number
     14 * FIRST + 8 * SIZE + C + NB + DATE, // 4 Endorsing Bank Endorsement Date
     22 * FIRST + 15 * SIZE + C + NB, // 5 Endorsing Bank Item Sequence Number
@@ -203,21 +217,21 @@ const LAYOUTS: [u64; COUNT] = [
     77 * FIRST + 4 * SIZE + M + AB, // 14 Reserved
     // Clause 14: Return Record.
     ReturnRecord::TYPE * KIND + ReturnRecord::LENGTH * LONG + ReturnRecord::FIELDS * FIELDS,
-    1 * FIRST + 2 * SIZE + M + N + NUMBERS + 31 * LOW + 31, // 1 Record Type
+    1 * FIRST + 2 * SIZE + M + TYPE_NUMBER + N + NUMBERS + 31 * LOW + 31, // 1 Record Type
     3 * FIRST + 15 * SIZE + C + NBMCD, // 2 Auxiliary On-Us
     18 * FIRST + 1 * SIZE + C + NBMC, // 3 External Processing Code
     19 * FIRST + 9 * SIZE + M + NBMCD + ROUTING + TTTTAAAAC + TTTTT_FFF + TTTT_AAAA + B_TTTTAAAA, // 4 Payor Bank Routing Number
     28 * FIRST + 20 * SIZE + C + NBMCDO, // 5 On-Us
     48 * FIRST + 10 * SIZE + M + N, // 6 Item Amount
     58 * FIRST + 15 * SIZE + M + NB, // 7 ECE Institution Item Sequence Number
-    73 * FIRST + 2 * SIZE + M + N + NUMBERS + 0 * LOW + 99, // 8 Return Record Addendum Count
+    73 * FIRST + 2 * SIZE + M + ADDENDUM_COUNT + N + NUMBERS + 0 * LOW + 99, // 8 Return Record Addendum Count
     75 * FIRST + 6 * SIZE + M + AB, // 9 Reserved
     // Clause 15: Return Addendum A Record.
     ReturnAddendumA::TYPE * KIND
         + ReturnAddendumA::LENGTH * LONG
         + ReturnAddendumA::FIELDS * FIELDS,
-    1 * FIRST + 2 * SIZE + M + N + NUMBERS + 32 * LOW + 32, // 1 Record Type
-    3 * FIRST + 1 * SIZE + M + N, // 2 Return Addendum A Record Number
+    1 * FIRST + 2 * SIZE + M + TYPE_NUMBER + N + NUMBERS + 32 * LOW + 32, // 1 Record Type
+    3 * FIRST + 1 * SIZE + M + RECORD_NUMBER + N, // 2 Return Addendum A Record Number
     4 * FIRST + 9 * SIZE + C + NBD + ROUTING + TTTTAAAAC + TTTTT_FFF, // 3 Return Location Routing Number
     13 * FIRST + 8 * SIZE + C + NBQ + DATE, // 4 BOFD Business Endorsement Date
     21 * FIRST + 15 * SIZE + C + NBQ, // 5 BOFD Item Sequence Number
@@ -234,7 +248,7 @@ const LAYOUTS: [u64; COUNT] = [
     ReturnAddendumB::TYPE * KIND
         + ReturnAddendumB::LENGTH * LONG
         + ReturnAddendumB::FIELDS * FIELDS,
-    1 * FIRST + 2 * SIZE + M + N + NUMBERS + 33 * LOW + 33, // 1 Record Type
+    1 * FIRST + 2 * SIZE + M + TYPE_NUMBER + N + NUMBERS + 33 * LOW + 33, // 1 Record Type
     3 * FIRST + 2 * SIZE + M + AN, // 2 Return Reason
     5 * FIRST + 8 * SIZE + C + NB + DATE, // 3 Forward Bundle Date
     13 * FIRST + 2 * SIZE + C + AN, // 4 Additional Return Reason
@@ -250,17 +264,17 @@ const LAYOUTS: [u64; COUNT] = [
         + ReturnAddendumC::LENGTH * LONG
         + ReturnAddendumC::FIELDS * FIELDS
         + 6 * PARTS,
-    1 * FIRST + 2 * SIZE + M + N + NUMBERS + 34 * LOW + 34, // 1 Record Type
+    1 * FIRST + 2 * SIZE + M + TYPE_NUMBER + N + NUMBERS + 34 * LOW + 34, // 1 Record Type
     3 * FIRST + 20 * SIZE + C + ANS, // 2 Item Description
     23 * FIRST + 8 * SIZE + C + NB + DATE, // 3 Image Capture Date
     31 * FIRST + 6 * SIZE + C + NB + HOURS_MINUTES_SECONDS, // 4 Image Capture Time
     37 * FIRST + 15 * SIZE + C + NB, // 5 Microfilm Archive Sequence Number
-    52 * FIRST + 4 * SIZE + M + N, // 6 Length of Image Archive Locator
-    56 * FIRST + 2 * SIZE + M + N + NUMBERS + 0 * LOW + 99, // 7 Length of Captured Unparsed MICR Data
-    58 * FIRST + 2 * SIZE + M + N + NUMBERS + 0 * LOW + 99, // 8 Length of Captured High Unparsed MICR Data
-    60 * FIRST + 2 * SIZE + M + N + NUMBERS + 0 * LOW + 99, // 9 Length of Corrected Unparsed MICR Data
-    62 * FIRST + 2 * SIZE + M + N + NUMBERS + 0 * LOW + 99, // 10 Length of Corrected High Unparsed MICR Data
-    64 * FIRST + 5 * SIZE + M + N, // 11 Length of User Data
+    52 * FIRST + 4 * SIZE + M + PART_SIZE + N, // 6 Length of Image Archive Locator
+    56 * FIRST + 2 * SIZE + M + PART_SIZE + N + NUMBERS + 0 * LOW + 99, // 7 Length of Captured Unparsed MICR Data
+    58 * FIRST + 2 * SIZE + M + PART_SIZE + N + NUMBERS + 0 * LOW + 99, // 8 Length of Captured High Unparsed MICR Data
+    60 * FIRST + 2 * SIZE + M + PART_SIZE + N + NUMBERS + 0 * LOW + 99, // 9 Length of Corrected Unparsed MICR Data
+    62 * FIRST + 2 * SIZE + M + PART_SIZE + N + NUMBERS + 0 * LOW + 99, // 10 Length of Corrected High Unparsed MICR Data
+    64 * FIRST + 5 * SIZE + M + PART_SIZE + N, // 11 Length of User Data
     69 * FIRST + 5 * SIZE + M + AB, // 12 Reserved
     52 * FIRST + 4 * SIZE + ANS, // 13 Image Archive Locator
     56 * FIRST + 2 * SIZE + NBMU, // 14 Captured Unparsed MICR Data
@@ -272,8 +286,8 @@ const LAYOUTS: [u64; COUNT] = [
     ReturnAddendumD::TYPE * KIND
         + ReturnAddendumD::LENGTH * LONG
         + ReturnAddendumD::FIELDS * FIELDS,
-    1 * FIRST + 2 * SIZE + M + N + NUMBERS + 35 * LOW + 35, // 1 Record Type
-    3 * FIRST + 2 * SIZE + M + N, // 2 Return Addendum D Record Number
+    1 * FIRST + 2 * SIZE + M + TYPE_NUMBER + N + NUMBERS + 35 * LOW + 35, // 1 Record Type
+    3 * FIRST + 2 * SIZE + M + RECORD_NUMBER + N, // 2 Return Addendum D Record Number
     5 * FIRST + 9 * SIZE + C + NBD + ROUTING + TTTTAAAAC + TTTTT_FFF, // 3 Endorsing Bank Routing Number
     14 * FIRST + 8 * SIZE + C + NB + DATE, // 4 Endorsing Bank Endorsement Date
     22 * FIRST + 15 * SIZE + C + NB, // 5 Endorsing Bank Item Sequence Number
@@ -290,7 +304,7 @@ const LAYOUTS: [u64; COUNT] = [
     ImageViewDetail::TYPE * KIND
         + ImageViewDetail::LENGTH * LONG
         + ImageViewDetail::FIELDS * FIELDS,
-    1 * FIRST + 2 * SIZE + M + N + NUMBERS + 50 * LOW + 50, // 1 Record Type
+    1 * FIRST + 2 * SIZE + M + TYPE_NUMBER + N + NUMBERS + 50 * LOW + 50, // 1 Record Type
     3 * FIRST + 1 * SIZE + M + AN + NUMBERS + 0 * LOW + 3, // 2 Image Indicator
     4 * FIRST + 9 * SIZE + M + NBD + ROUTING + TTTTAAAAC + TTTTT_FFF + NNNNNNNNN, // 3 Image Creator Routing Number
     13 * FIRST + 8 * SIZE + M + N + DATE, // 4 Image Creator Date
@@ -318,7 +332,7 @@ const LAYOUTS: [u64; COUNT] = [
         + ImageViewData::LENGTH * LONG
         + ImageViewData::FIELDS * FIELDS
         + 7 * PARTS,
-    1 * FIRST + 2 * SIZE + M + N + NUMBERS + 52 * LOW + 52, // 1 Record Type
+    1 * FIRST + 2 * SIZE + M + TYPE_NUMBER + N + NUMBERS + 52 * LOW + 52, // 1 Record Type
     3 * FIRST + 9 * SIZE + M + NBD + ROUTING + TTTTAAAAC + TTTTT_FFF + NNNNNNNNN, // 2 ECE Institution Routing Number
     12 * FIRST + 8 * SIZE + M + N + DATE, // 3 Bundle Business Date
     20 * FIRST + 2 * SIZE + C + AN, // 4 Cycle Number
@@ -332,13 +346,13 @@ const LAYOUTS: [u64; COUNT] = [
     94 * FIRST + 4 * SIZE + M + N + CLIPPED_BY + 85, // 12 Clipping Coordinate v1
     98 * FIRST + 4 * SIZE + M + N + CLIPPED_BY + 85, // 13 Clipping Coordinate v2
     102 * FIRST + 2 * SIZE + M + N + NUMBERS + 0 * LOW + 99, // 14 Ancillary Data Indicator
-    104 * FIRST + 4 * SIZE + M + N, // 15 Length of Image Reference Key
-    108 * FIRST + 5 * SIZE + M + N, // 16 Length of Digital Signature
-    113 * FIRST + 5 * SIZE + M + N, // 17 Length of Digital Certificate Issuer Distinguished Name
-    118 * FIRST + 5 * SIZE + M + N, // 18 Length of Digital Certificate Serial Number
-    123 * FIRST + 5 * SIZE + M + N, // 19 Length of Digital Certificate
-    128 * FIRST + 7 * SIZE + M + N, // 20 Length of Image Data
-    135 * FIRST + 5 * SIZE + M + N, // 21 Length of Ancillary Data
+    104 * FIRST + 4 * SIZE + M + PART_SIZE + N, // 15 Length of Image Reference Key
+    108 * FIRST + 5 * SIZE + M + PART_SIZE + N, // 16 Length of Digital Signature
+    113 * FIRST + 5 * SIZE + M + PART_SIZE + N, // 17 Length of Digital Certificate Issuer Distinguished Name
+    118 * FIRST + 5 * SIZE + M + PART_SIZE + N, // 18 Length of Digital Certificate Serial Number
+    123 * FIRST + 5 * SIZE + M + PART_SIZE + N, // 19 Length of Digital Certificate
+    128 * FIRST + 7 * SIZE + M + PART_SIZE + N, // 20 Length of Image Data
+    135 * FIRST + 5 * SIZE + M + PART_SIZE + N, // 21 Length of Ancillary Data
     ImageViewData::PARTS[0], // 22 Image Reference Key
     ImageViewData::PARTS[1], // 23 Digital Signature
     ImageViewData::PARTS[2], // 24 Digital Certificate Issuer Distinguished Name
@@ -350,7 +364,7 @@ const LAYOUTS: [u64; COUNT] = [
     ImageViewAnalysis::TYPE * KIND
         + ImageViewAnalysis::LENGTH * LONG
         + ImageViewAnalysis::FIELDS * FIELDS,
-    1 * FIRST + 2 * SIZE + M + N + NUMBERS + 54 * LOW + 54, // 1 Record Type
+    1 * FIRST + 2 * SIZE + M + TYPE_NUMBER + N + NUMBERS + 54 * LOW + 54, // 1 Record Type
     3 * FIRST + 1 * SIZE + M + AN + NUMBERS + 0 * LOW + 2, // 2 Global Image Defect
     4 * FIRST + 1 * SIZE + M + AN + NUMBERS + 0 * LOW + 2, // 3 Global Image Usability
     5 * FIRST + 1 * SIZE + M + AN + NUMBERS + 0 * LOW + 2, // 4 Imaging Bank Specific Test
@@ -399,7 +413,7 @@ const LAYOUTS: [u64; COUNT] = [
     67 * FIRST + 14 * SIZE + M + AB, // 47 Reserved
     // Clause 26: Credit/Reconciliation Record.
     CreditRecord::TYPE * KIND + CreditRecord::LENGTH * LONG + CreditRecord::FIELDS * FIELDS,
-    1 * FIRST + 2 * SIZE + M + N + NUMBERS + 61 * LOW + 61, // 1 Record Type
+    1 * FIRST + 2 * SIZE + M + TYPE_NUMBER + N + NUMBERS + 61 * LOW + 61, // 1 Record Type
     3 * FIRST + 1 * SIZE + C + AN + NUMBERS + 1 * LOW + 9, // 2 Record Usage Indicator
     4 * FIRST + 15 * SIZE + C + NBMCD, // 3 Auxiliary On-Us
     19 * FIRST + 1 * SIZE + C + NBMC, // 4 External Processing Code
@@ -413,38 +427,38 @@ const LAYOUTS: [u64; COUNT] = [
     82 * FIRST + 3 * SIZE + M + AB, // 12 Reserved
     // Clause 31: Bundle Control Record.
     BundleControl::TYPE * KIND + BundleControl::LENGTH * LONG + BundleControl::FIELDS * FIELDS,
-    1 * FIRST + 2 * SIZE + M + N + NUMBERS + 70 * LOW + 70, // 1 Record Type
-    3 * FIRST + 4 * SIZE + M + N, // 2 Bundle Debit Item Count
-    7 * FIRST + 12 * SIZE + M + N, // 3 Bundle Debit Total Amount
-    19 * FIRST + 12 * SIZE + C + NB + ALL_DIGITS, // 4 MICR Valid Debit Total Amount
-    31 * FIRST + 5 * SIZE + M + N, // 5 Bundle Image View Record Count
-    36 * FIRST + 4 * SIZE + M + N, // 6 Bundle Credit Item Count
-    40 * FIRST + 12 * SIZE + M + N, // 7 Bundle Credit Total Amount
+    1 * FIRST + 2 * SIZE + M + TYPE_NUMBER + N + NUMBERS + 70 * LOW + 70, // 1 Record Type
+    3 * FIRST + 4 * SIZE + M + DEBIT_COUNT + N, // 2 Bundle Debit Item Count
+    7 * FIRST + 12 * SIZE + M + DEBIT_CENTS + N, // 3 Bundle Debit Total Amount
+    19 * FIRST + 12 * SIZE + C + MICR_CENTS + NB + ALL_DIGITS, // 4 MICR Valid Debit Total Amount
+    31 * FIRST + 5 * SIZE + M + VIEW_COUNT + N, // 5 Bundle Image View Record Count
+    36 * FIRST + 4 * SIZE + M + CREDIT_COUNT + N, // 6 Bundle Credit Item Count
+    40 * FIRST + 12 * SIZE + M + CREDIT_CENTS + N, // 7 Bundle Credit Total Amount
     52 * FIRST + 9 * SIZE + C + ANS, // 8 User Field
     61 * FIRST + 20 * SIZE + M + AB, // 9 Reserved
     // Clause 34: Cash Letter Control Record.
     CashLetterControl::TYPE * KIND
         + CashLetterControl::LENGTH * LONG
         + CashLetterControl::FIELDS * FIELDS,
-    1 * FIRST + 2 * SIZE + M + N + NUMBERS + 90 * LOW + 90, // 1 Record Type
-    3 * FIRST + 6 * SIZE + M + N, // 2 Bundle Count
-    9 * FIRST + 8 * SIZE + M + N, // 3 Cash Letter Debit Item Count
-    17 * FIRST + 14 * SIZE + M + N, // 4 Cash Letter Debit Total Amount
-    31 * FIRST + 9 * SIZE + M + N, // 5 Cash Letter Image View Record Count
+    1 * FIRST + 2 * SIZE + M + TYPE_NUMBER + N + NUMBERS + 90 * LOW + 90, // 1 Record Type
+    3 * FIRST + 6 * SIZE + M + BUNDLE_COUNT + N, // 2 Bundle Count
+    9 * FIRST + 8 * SIZE + M + DEBIT_COUNT + N, // 3 Cash Letter Debit Item Count
+    17 * FIRST + 14 * SIZE + M + DEBIT_CENTS + N, // 4 Cash Letter Debit Total Amount
+    31 * FIRST + 9 * SIZE + M + VIEW_COUNT + N, // 5 Cash Letter Image View Record Count
     40 * FIRST + 16 * SIZE + C + ANS, // 6 ECE Institution Name
     56 * FIRST + 8 * SIZE + C + NB + DATE, // 7 Settlement Date
-    64 * FIRST + 8 * SIZE + M + N, // 8 Cash Letter Credit Item Count
-    72 * FIRST + 14 * SIZE + M + N, // 9 Cash Letter Credit Total Amount
+    64 * FIRST + 8 * SIZE + M + CREDIT_COUNT + N, // 8 Cash Letter Credit Item Count
+    72 * FIRST + 14 * SIZE + M + CREDIT_CENTS + N, // 9 Cash Letter Credit Total Amount
     // Clause 35: File Control Record.
     FileControl::TYPE * KIND + FileControl::LENGTH * LONG + FileControl::FIELDS * FIELDS,
-    1 * FIRST + 2 * SIZE + M + N + NUMBERS + 99 * LOW + 99, // 1 Record Type
-    3 * FIRST + 6 * SIZE + M + N, // 2 Cash Letter Count
-    9 * FIRST + 8 * SIZE + M + N, // 3 Total Record Count
-    17 * FIRST + 8 * SIZE + M + N, // 4 Total Item Count
-    25 * FIRST + 16 * SIZE + M + N, // 5 File Debit Total Amount
+    1 * FIRST + 2 * SIZE + M + TYPE_NUMBER + N + NUMBERS + 99 * LOW + 99, // 1 Record Type
+    3 * FIRST + 6 * SIZE + M + LETTER_COUNT + N, // 2 Cash Letter Count
+    9 * FIRST + 8 * SIZE + M + RECORD_COUNT + N, // 3 Total Record Count
+    17 * FIRST + 8 * SIZE + M + ITEM_COUNT + N, // 4 Total Item Count
+    25 * FIRST + 16 * SIZE + M + DEBIT_CENTS + N, // 5 File Debit Total Amount
     41 * FIRST + 14 * SIZE + C + ANS, // 6 Immediate Origin Contact Name
     55 * FIRST + 10 * SIZE + C + NB, // 7 Immediate Origin Contact Phone Number
-    65 * FIRST + 16 * SIZE + M + N, // 8 File Credit Total Amount
+    65 * FIRST + 16 * SIZE + M + CREDIT_CENTS + N, // 8 File Credit Total Amount
 ];
 
 // The layouts as one table, to be lent to whoever judges records: a constant array is laid out anew wherever it is named.

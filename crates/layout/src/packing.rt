@@ -1,6 +1,6 @@
 // How layouts are written as numbers. A kind is one number of four parts, each two bytes, from the highest: its type, its fixed length, how
 // many fields it has, and how many of these are parts after the fixed length. A field is one number of bytes, from the highest: its first
-// position (two bytes), its size, its usage, its data type, its rule and the rule's two numbers.
+// position (two bytes), its size, its usage (the lowest bit) with its origin, its data type, its rule and the rule's two numbers.
 use field::CodeList;
 use field::Forms;
 use field::Rule;
@@ -8,7 +8,28 @@ use field::Usage;
 use text::DataType;
 ghost use mathlib.Core.Path.{_≡_};
 ghost use Prim.Native.Nat.{_-_};
-ghost use Rattle.layout.specs.Packing.{usageOf, dataTypeOf, formsIn, ruleOf, typeIn, longIn, fieldsIn, partsIn};
+ghost use Rattle.layout.specs.Packing.{usageOf, originOf, dataTypeOf, formsIn, ruleOf, typeIn, longIn, fieldsIn, partsIn};
+
+// Where the characters of a field come from when a record is made out (request 4).
+pub enum Origin {
+    Given,
+    // Worked out: the record's type; the size of the part that the field sizes; how many addenda an item has; the addendum's number in it.
+    TypeNumber,
+    PartSize,
+    AddendumCount,
+    RecordNumber,
+    // What the part of the file adds up to that a control record closes.
+    DebitCount,
+    DebitCents,
+    MicrCents,
+    ViewCount,
+    CreditCount,
+    CreditCents,
+    BundleCount,
+    LetterCount,
+    RecordCount,
+    ItemCount,
+}
 
 pub const KIND: u64 = 0x1_0000_0000_0000;
 
@@ -27,6 +48,35 @@ pub const LOW: u64 = 0x100;
 pub const M: u64 = 0;
 
 pub const C: u64 = 0x1_0000_0000;
+
+// Where a field comes from when a record is made out: a field with none of these is given.
+pub const TYPE_NUMBER: u64 = 1 * 0x2_0000_0000;
+
+pub const PART_SIZE: u64 = 2 * 0x2_0000_0000;
+
+pub const ADDENDUM_COUNT: u64 = 3 * 0x2_0000_0000;
+
+pub const RECORD_NUMBER: u64 = 4 * 0x2_0000_0000;
+
+pub const DEBIT_COUNT: u64 = 5 * 0x2_0000_0000;
+
+pub const DEBIT_CENTS: u64 = 6 * 0x2_0000_0000;
+
+pub const MICR_CENTS: u64 = 7 * 0x2_0000_0000;
+
+pub const VIEW_COUNT: u64 = 8 * 0x2_0000_0000;
+
+pub const CREDIT_COUNT: u64 = 9 * 0x2_0000_0000;
+
+pub const CREDIT_CENTS: u64 = 10 * 0x2_0000_0000;
+
+pub const BUNDLE_COUNT: u64 = 11 * 0x2_0000_0000;
+
+pub const LETTER_COUNT: u64 = 12 * 0x2_0000_0000;
+
+pub const RECORD_COUNT: u64 = 13 * 0x2_0000_0000;
+
+pub const ITEM_COUNT: u64 = 14 * 0x2_0000_0000;
 
 pub const AB: u64 = 1 * 0x100_0000;
 
@@ -150,6 +200,28 @@ pub fn usage_of(code: u64) -> Usage
     match code {
         0 => Usage::Mandatory,
         _ => Usage::Conditional,
+    }
+}
+
+pub fn origin_of(code: u64) -> Origin
+    ensures { λ r. ⌜ r ≡ originOf code ⌝ }
+{
+    match code {
+        1 => Origin::TypeNumber,
+        2 => Origin::PartSize,
+        3 => Origin::AddendumCount,
+        4 => Origin::RecordNumber,
+        5 => Origin::DebitCount,
+        6 => Origin::DebitCents,
+        7 => Origin::MicrCents,
+        8 => Origin::ViewCount,
+        9 => Origin::CreditCount,
+        10 => Origin::CreditCents,
+        11 => Origin::BundleCount,
+        12 => Origin::LetterCount,
+        13 => Origin::RecordCount,
+        14 => Origin::ItemCount,
+        _ => Origin::Given,
     }
 }
 

@@ -55,7 +55,11 @@ pub capped-sums-plus : (a b : Sums) → cappedSums (together a (cappedSums b)) �
 capped-sums-plus a b = rw (capped-plus (a .debit .0) (b .debit .0), capped-plus (a .credit .0) (b .credit .0))
 
 -- a level that begins anew, or goes on
+pub capped-since : (begins : Bool) (a b : ℕ) → capped (cond begins 0 (a + capped b)) ≡ capped (cond begins 0 (a + b))
+capped-since true a b = refl
+capped-since false a b = capped-plus a b
+
 pub capped-sums-since : (begins : Bool) (a b : Sums)
-    → cond begins noSums (cappedSums (together a (cappedSums b))) ≡ cappedSums (cond begins noSums (together a b))
+    → cappedSums (cond begins noSums (together a (cappedSums b))) ≡ cappedSums (cond begins noSums (together a b))
 capped-sums-since true a b = refl
 capped-sums-since false a b = capped-sums-plus a b

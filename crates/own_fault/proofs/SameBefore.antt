@@ -18,18 +18,18 @@ use Rattle.alike.proofs.Figures.{standing-alike}
 use Rattle.alike.proofs.Agreement.{agreement-alike}
 
 -- bytes that are alike because they are the same
-abbrev Same : List ℕ → List ℕ → Type 0
+abbrev pub Same : List ℕ → List ℕ → Type 0
 Same xs ys = ys ≡ xs
 
 -- a record's first bytes: `same` says that they are those of the file
 abbrev pub SameAt : List ℕ → List ℕ → ℕ → ℕ → Type 0
-SameAt file other offset width = AlikeAt Same file other offset width
+SameAt file other offset width = AlikeAt Same file other offset offset width
 
 -- every record read so far
 abbrev pub SamePast : List ℕ → List ℕ → List Entry → Type 0
 SamePast file other past = AlikePast Same file other past
 
-law : (set : CharacterSet) → Law set set Same
+pub law : (set : CharacterSet) → Law set set Same
 law set = record {
   part = λ k size e. ap (λ (l : List ℕ). take size (drop k l)) e;
   nothing = refl;

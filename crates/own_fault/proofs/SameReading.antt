@@ -97,7 +97,7 @@ module _ (file other : List ℕ) (e : ℕ) (same : take e other ≡ take e file)
     same-here : (s : Standing) (at t size : ℕ) → stepOf set file s at ≡ On t size → at + 4 + size ≤ e → SameAt file other at (widthOf t)
     same-here s at t size step h = record { same = part-same (at + 4) (widthOf t) (omega (arith, fixed-long set file s at t size step)) }
 
-    past-same : {past : List Entry} {at : ℕ} → ReadTo set file past at → at ≤ e → SamePast file other past
+    pub past-same : {past : List Entry} {at : ℕ} → ReadTo set file past at → at ≤ e → SamePast file other past
     past-same start h = tt
     past-same (on r step) h = (same-here _ _ _ _ step h, past-same r (omega arith))
 

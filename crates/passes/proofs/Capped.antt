@@ -17,17 +17,6 @@ use Rattle.passes.specs.Rows.{rowOf}
 use Rattle.passes.specs.Reading.{ofTurn, ofFrame, stepOf, endedWith}
 
 module _ (set : CharacterSet) (s : Standing) where
-  pub figures-twice : cappedFigures (cappedFigures s) ≡ cappedFigures s
-  figures-twice =
-      rw (
-        capped-twice (s .whole .debit .0),
-        capped-twice (s .whole .credit .0),
-        capped-twice (s .letter .debit .0),
-        capped-twice (s .letter .credit .0),
-        capped-twice (s .bundle .debit .0),
-        capped-twice (s .bundle .credit .0),
-      )
-
   pub ended-capped : (at : ℕ) → endedWith (cappedFigures s) at ≡ endedWith s at
   unfolding endedWith
   ended-capped at = rw (capped-twice (s .whole .debit .0), capped-twice (s .whole .credit .0))
@@ -37,7 +26,7 @@ module _ (set : CharacterSet) (s : Standing) where
     row-capped t offset size =
         rw (capped-twice (s .bundle .debit .0), capped-twice (s .letter .debit .0), capped-twice (s .whole .debit .0))
 
-    agreement-capped : (at t : ℕ) → agreement set file (cappedFigures s) at t ≡ agreement set file s at t
+    pub agreement-capped : (at t : ℕ) → agreement set file (cappedFigures s) at t ≡ agreement set file s at t
     unfolding agreement
     agreement-capped at t = rw (link-capped set file s t at, total-capped set file s t at)
 

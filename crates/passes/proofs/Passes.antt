@@ -16,9 +16,9 @@ use Rattle.frame.specs.declared.Frame.the-variants.{Cut, Whole}
 use Rattle.frame.proofs.Laws.{whole-within, whole-start}
 use Rattle.judge.specs.Alone.{typeOf}
 use Rattle.standing.specs.History.{Entry, entry}
-use Rattle.standing.specs.Standing.{standing, cappedFigures, Roomy}
+use Rattle.standing.specs.Standing.{standing, onward, cappedFigures, Roomy}
 use Rattle.standing.specs.declared.Standing.{Standing}
-use Rattle.standing.proofs.Laws.{standing-records, roomy}
+use Rattle.standing.proofs.Laws.{standing-records, figures-capped, moved-on, roomy}
 use Rattle.passes.specs.declared.Fault.{Fault}
 use Rattle.passes.specs.declared.Fault.the-variants.{Size, Open}
 use Rattle.passes.specs.declared.Step.{Step}
@@ -28,7 +28,7 @@ use Rattle.passes.specs.declared.Answer.{Answer}
 use Rattle.passes.specs.declared.Answer.the-variants.{Accepted, Refused}
 use Rattle.passes.specs.Rows.{rowOf, rowsFrom, rowsOf}
 use Rattle.passes.specs.Reading.{totalsOf, stepOf, endedWith, run, surveyed, Counted}
-use Rattle.passes.proofs.Capped.{figures-twice, ended-capped, row-capped, step-capped}
+use Rattle.passes.proofs.Capped.{ended-capped, row-capped, step-capped}
 use Rattle.passes.proofs.Laws.{run-end, run-stop, run-on, rows-end, rows-cut, rows-on, framed, splice, splice-none, splice-more}
 
 -- both passes: the records passed, where the loop is, and how many records may still come
@@ -47,20 +47,19 @@ place-roomy set file at s p = subst Roomy (sym (p .stands)) (roomy set file (p .
 pub place-records : (set : CharacterSet) (file : List ℕ) (at : ℕ) (s : Standing) (p : Place set file at s) → s .records .0 ≡ length (p .past)
 place-records set file at s p = ap (λ (u : Standing). u .records .0) (p .stands) ∙ standing-records set file (p .past)
 
--- what `standing::moved` gives for a record of type t at an offset
-abbrev pub Moves : CharacterSet → List ℕ → Standing → ℕ → ℕ → Standing → Type 0
-Moves set file s t at r =
-    (past : List Entry) (n : ℕ) → s ≡ cappedFigures (standing set file past) → r ≡ cappedFigures (standing set file (entry t at n ∷ past))
-
 -- sums that stop have stopped already
-stopped : CharacterSet → (s u : Standing) → s ≡ cappedFigures u → cappedFigures s ≡ s
-stopped set s u e = ap cappedFigures e ∙ figures-twice set u ∙ sym e
-
 pub place-stopped : (set : CharacterSet) (file : List ℕ) (at : ℕ) (s : Standing) → Place set file at s → cappedFigures s ≡ s
-place-stopped set file at s p = stopped set s (standing set file (p .past)) (p .stands)
+place-stopped set file at s p = figures-capped s (standing set file (p .past)) (p .stands)
 
-pub moves-stopped : (set : CharacterSet) (file : List ℕ) (at : ℕ) (s : Standing) → Place set file at s → (t : ℕ) (r : Standing) → Moves set file s t at r → cappedFigures r ≡ r
-moves-stopped set file at s p t r m = stopped set r (standing set file (entry t at 0 ∷ p .past)) (m (p .past) 0 (p .stands))
+-- what `standing::moved` asks for, and what it gives for a record of type t at an offset
+pub place-moves : (set : CharacterSet) (file : List ℕ) (at : ℕ) (s : Standing) → Place set file at s → Roomy s × (cappedFigures s ≡ s)
+place-moves set file at s p = (place-roomy set file at s p, place-stopped set file at s p)
+
+abbrev pub Moves : CharacterSet → List ℕ → Standing → ℕ → ℕ → Standing → Type 0
+Moves set file s t at r = r ≡ cappedFigures (onward set file s t at)
+
+pub moves-stopped : (set : CharacterSet) (file : List ℕ) (at : ℕ) (s : Standing) (t : ℕ) (r : Standing) → Moves set file s t at r → cappedFigures r ≡ r
+moves-stopped set file at s t r m = figures-capped r (onward set file s t at) m
 
 pub place-first : (set : CharacterSet) (file : List ℕ) (s : Standing) → length file ≤ 268_435_456 → s ≡ cappedFigures (standing set file []) → Place set file 0 s
 place-first set file s h e =
@@ -84,7 +83,7 @@ place-on set file at s p t size r h l m =
       limit = p .limit;
       few = omega (arith, p .few);
       enough = omega (arith, p .enough);
-      stands = m (p .past) size (p .stands);
+      stands = moved-on set file (p .past) s r t at size (p .stands) m;
     }
 
 -- the first pass: the answer from here is the whole answer, and each record so far has its row
@@ -213,7 +212,7 @@ module _ (set : CharacterSet) (file table₀ : List ℕ) (at : ℕ) (s : Standin
         → Fill set file table₀ (start + size) r (base + 7) after
     unfolding row others place-on
     fill-on r after m w =
-        let stands = m (v .place .past) size (v .place .stands) in
+        let stands = moved-on set file (v .place .past) s r t at size (v .place .stands) m in
         let begins = whole-start file at start size e in
         let fits = whole-within file at start size e in
         let whole = row-capped set (standing set file (entry t at size ∷ v .place .past)) file t at size in

@@ -104,7 +104,7 @@ impl Fault {
 }
 
 // The last checks of a record that is sound alone and in its place: LINK, then TOTAL.
-fn agrees(set: CharacterSet, file: &[u8], s: Standing, at: usize, kind: u64) -> Turn
+pub fn agrees(set: CharacterSet, file: &[u8], s: Standing, at: usize, kind: u64) -> Turn
     requires { ⌜ Roomy s ⌝ }
     ensures { λ r. ⌜ r ≡ agreement set (now (file .entry)) s at kind ⌝ }
 {

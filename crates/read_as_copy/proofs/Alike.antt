@@ -33,7 +33,7 @@ pub record Copied (xs ys : List ℕ) : Type 0 where
 
 -- a record's first characters
 abbrev pub AlikeAt : List ℕ → List ℕ → ℕ → ℕ → Type 0
-AlikeAt file copy offset width = alike.AlikeAt Copied file copy offset width
+AlikeAt file copy offset width = alike.AlikeAt Copied file copy offset offset width
 
 -- every record read so far
 abbrev pub AlikePast : List ℕ → List ℕ → List Entry → Type 0

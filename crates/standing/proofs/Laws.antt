@@ -1,13 +1,13 @@
--- Numbers of fields are small, and so are sums over few records; how one record more moves a figure on. Assumes nothing.
-use mathlib.Core.Path.{_≡_, refl, sym, ap₂, _∙_}
+-- Numbers of fields are small, and so are sums over few records; how one record more moves a figure, and all figures, on. Assumes nothing.
+use mathlib.Core.Path.{_≡_, refl, sym, ap, _∙_}
 use mathlib.Core.List.{List, [], _∷_}
 use mathlib.Core.Bool.{Bool, true, false, _&&_, not, cond}
+use native.Mathlib.Numerals.{add-one}
 use lib.Dec.{eqb}
 use borrow.Author.Tests.{eqb-true}
 use Rattle.text.specs.declared.character_set.CharacterSet.{CharacterSet}
-use Rattle.layout.specs.Layouts.{checkDetail}
-use Rattle.measure.specs.Measures.{noSums, together, cappedSums, Small}
-use Rattle.measure.proofs.Capped.{capped-small, capped-sums-since}
+use Rattle.measure.specs.Measures.{cents, noSums, together, capped, cappedSums, Small}
+use Rattle.measure.proofs.Capped.{capped-small, capped-twice, capped-since, capped-sums-twice, capped-sums-since}
 use Rattle.measure.specs.declared.Sums.{Sums}
 use Rattle.measure.specs.declared.Cents.{Cents}
 use Rattle.measure.specs.declared.Items.{Items}
@@ -19,8 +19,8 @@ use native.Mathlib.Omega.{arith}
 use lib.ListN.{length, drop, length-take}
 use Rattle.text.specs.Number.{number}
 use Rattle.text.proofs.Laws.{number-below}
-use Rattle.standing.specs.History.{Entry, characters, field, isDebit, isCredit, micrOf, adds, one, sumSince, sumsSince, countSince, never, is, isItemEntry, isBofdAddendum, isEndorserAddendum}
-use Rattle.standing.specs.Standing.{standing, cappedFigures, Roomy}
+use Rattle.standing.specs.History.{Entry, entry, characters, isDebit, isCredit, micrOf, adds, one, sumSince, sumsSince, countSince, never, is, isItemEntry, isBofdAddendum, isEndorserAddendum}
+use Rattle.standing.specs.Standing.{standing, onward, cappedFigures, Roomy}
 
 -- the number of a few characters
 pub few-digits : (set : CharacterSet) (file : List ℕ) (offset first size k : ℕ) → size ≤ k → number set (characters file offset first size) < 10 ^ k
@@ -44,15 +44,15 @@ credit-else set file t offset = by (eqb t 61) refl
     by false e = rw e
 
 -- a figure moved on, with its parts replaced by equals
-pub since-moves : {r m m′ o o′ : ℕ} {b b′ : Bool} → r ≡ cond b 0 (m + o) → b ≡ b′ → m ≡ m′ → o ≡ o′ → r ≡ cond b′ 0 (m′ + o′)
-since-moves e b m o = rw (sym b, sym m, sym o) e
+pub since-moves : (o : ℕ) {r m m′ : ℕ} {b b′ : Bool} → r ≡ cond b 0 (m + o) → b ≡ b′ → m ≡ m′ → r ≡ cond b′ 0 (m′ + o)
+since-moves o e b m = rw (sym b, sym m) e
 
-pub newest-moves : {r v v′ o o′ : ℕ} {b b′ : Bool} → r ≡ cond b v o → b ≡ b′ → v ≡ v′ → o ≡ o′ → r ≡ cond b′ v′ o′
-newest-moves e b v o = rw (sym b, sym v, sym o) e
+pub newest-moves : (o : ℕ) {r v v′ : ℕ} {b b′ : Bool} → r ≡ cond b v o → b ≡ b′ → v ≡ v′ → r ≡ cond b′ v′ o
+newest-moves o e b v = rw (sym b, sym v) e
 
-pub sums-move : (b : Bool) {r a a′ o : Sums} (o′ : Sums) → r ≡ cond b noSums (cappedSums (together a o)) → a ≡ a′ → o ≡ cappedSums o′
-    → r ≡ cappedSums (cond b noSums (together a′ o′))
-sums-move b {a′ = a′} o′ e a o = e ∙ ap₂ (λ (x y : Sums). cond b noSums (cappedSums (together x y))) a o ∙ capped-sums-since b a′ o′
+pub sums-move : (b : Bool) (o : Sums) {r a a′ : Sums} → r ≡ cond b noSums (cappedSums (together a o)) → a ≡ a′ → r ≡ cappedSums (cond b noSums (together a′ o))
+sums-move true o e a = e
+sums-move false o e a = e ∙ ap (λ (x : Sums). cappedSums (together x o)) a
 
 -- figures that are equal one by one
 pub assembled : {last last′ : ℕ} {inside inside′ : Bool} {present present′ : ℕ} {holder holder′ : ℕ} {records records′ : Records} {letters letters′ : ℕ} {bundles bundles′ : ℕ} {opened opened′ : ℕ} {items items′ : Items} {ordinal ordinal′ : ℕ} {whole whole′ : Sums} {letter letter′ : Sums} {bundle bundle′ : Sums} {micr micr′ : Cents} {addenda addenda′ : ℕ} {bofd bofd′ : ℕ} {endorser endorser′ : ℕ} {shown shown′ : ℕ} {stated stated′ : ℕ} {item item′ : ℕ} {header header′ : ℕ} {heading heading′ : ℕ} {indicator indicator′ : ℕ} {signature signature′ : ℕ}
@@ -65,6 +65,44 @@ assembled e0 e1 e2 e3 e4 e5 e6 e7 e8 e9 e10 e11 e12 e13 e14 e15 e16 e17 e18 e19 
 pub standing-records : (set : CharacterSet) (file : List ℕ) (past : List Entry) → standing set file past .records .0 ≡ length past
 unfolding standing
 standing-records set file past = refl
+
+-- sums of cents that have stopped
+pub figures-stopped : (s u : Standing) → s .whole ≡ cappedSums (u .whole) → s .letter ≡ cappedSums (u .letter) → s .bundle ≡ cappedSums (u .bundle)
+    → s .micr ≡ cents (capped (u .micr .0)) → cappedFigures s ≡ s
+figures-stopped s u whole letter bundle micr =
+    let sums : (a b : Sums) → a ≡ cappedSums b → cappedSums a ≡ a = λ a b e. ap cappedSums e ∙ capped-sums-twice b ∙ sym e in
+    assembled refl refl refl refl refl refl refl refl refl refl (sums (s .whole) (u .whole) whole) (sums (s .letter) (u .letter) letter)
+    (sums (s .bundle) (u .bundle) bundle)
+    (ap (λ (m : Cents). cents (capped (m .0))) micr ∙ ap cents (capped-twice (u .micr .0)) ∙ sym micr) refl refl refl refl refl refl refl refl refl refl
+
+pub figures-twice : (s : Standing) → cappedFigures (cappedFigures s) ≡ cappedFigures s
+figures-twice s = figures-stopped (cappedFigures s) s refl refl refl refl
+
+pub figures-capped : (s u : Standing) → s ≡ cappedFigures u → cappedFigures s ≡ s
+figures-capped s u e = ap cappedFigures e ∙ figures-twice u ∙ sym e
+
+-- the figures with one record more are those without it, moved on
+pub standing-onward : (set : CharacterSet) (file : List ℕ) (past : List Entry) (t offset n : ℕ)
+    → standing set file (entry t offset n ∷ past) ≡ onward set file (standing set file past) t offset
+unfolding standing onward
+standing-onward set file past t offset n = rw (add-one (length past))
+
+-- and it makes no difference whether their cents have stopped before
+pub onward-capped : (set : CharacterSet) (file : List ℕ) (s : Standing) (t offset : ℕ)
+    → cappedFigures (onward set file (cappedFigures s) t offset) ≡ cappedFigures (onward set file s t offset)
+unfolding onward
+onward-capped set file s t offset =
+    assembled refl refl refl refl refl refl refl refl refl refl (capped-sums-since false (adds set file t offset) (s .whole))
+    (capped-sums-since (eqb t 10) (adds set file t offset) (s .letter)) (capped-sums-since (eqb t 20) (adds set file t offset) (s .bundle))
+    (ap cents (capped-since (eqb t 20) (micrOf set file t offset) (s .micr .0))) refl refl refl refl refl refl refl refl refl refl
+
+pub moved-on : (set : CharacterSet) (file : List ℕ) (past : List Entry) (s r : Standing) (t offset n : ℕ) → s ≡ cappedFigures (standing set file past)
+    → r ≡ cappedFigures (onward set file s t offset) → r ≡ cappedFigures (standing set file (entry t offset n ∷ past))
+moved-on set file past s r t offset n e m =
+    m
+    ∙ ap (λ (u : Standing). cappedFigures (onward set file u t offset)) e
+    ∙ onward-capped set file (standing set file past) t offset
+    ∙ ap cappedFigures (sym (standing-onward set file past t offset n))
 
 -- sums over few records are small
 picked : (t : Bool) {x m : ℕ} → x ≤ m → cond t 0 x ≤ m
@@ -79,14 +117,6 @@ sum-small begins measure b h (r ∷ rs) = picked (begins r) (omega (arith, sum-s
 one-small : (t : Bool) → one t ≤ 1
 one-small true = omega arith
 one-small false = omega arith
-
-micr-pick : (t valid : Bool) {x : ℕ} (y : ℕ) → x < 10 ^ 10 → cond (t && valid) (cond t x y) 0 ≤ 10 ^ 10
-micr-pick true true y h = omega arith
-micr-pick true false y h = omega arith
-micr-pick false valid y h = omega arith
-
-micr-small : (set : CharacterSet) (file : List ℕ) (t offset : ℕ) → micrOf set file t offset ≤ 10 ^ 10
-micr-small set file t offset = micr-pick (eqb t 25) (eqb (number set (field checkDetail 10 file offset)) 1) _ (few-digits set file offset 48 10 10 (omega arith))
 
 -- sums whose counts are those of so many records; their cents stop by themselves
 pub record Below (s : Sums) (n : ℕ) : Type 0 where
@@ -109,7 +139,7 @@ sums-below set begins file (r ∷ rs) =
       views = omega (arith, older .views, one-small (eqb (r .type) 50));
     })
 
-small : (s : Sums) (n : ℕ) → n ≤ 268_435_456 → Below s n → Small (cappedSums s)
+small : (s : Sums) (n : ℕ) → n ≤ 0x2000_0000_0000_0000 → Below s n → Small (cappedSums s)
 small s n h b =
     record {
       debits = omega (arith, b .debits);
@@ -119,8 +149,8 @@ small s n h b =
       views = omega (arith, b .views);
     }
 
--- the figures of as many records as a file can have leave room for one more
-pub roomy : (set : CharacterSet) (file : List ℕ) (past : List Entry) → length past ≤ 268_435_456 → Roomy (cappedFigures (standing set file past))
+-- the figures of as many records as a file or a draft can have leave room for one more
+pub roomy : (set : CharacterSet) (file : List ℕ) (past : List Entry) → length past ≤ 0x2000_0000_0000_0000 → Roomy (cappedFigures (standing set file past))
 unfolding standing
 roomy set file past h =
     let count : (begins : Entry → Bool) (sort : ℕ → Bool) → countSince begins sort past ≤ length past * 1 =
@@ -135,7 +165,7 @@ roomy set file past h =
       whole = small (sumsSince set never file past) (length past) h (sums-below set never file past);
       letter = small (sumsSince set (is 10) file past) (length past) h (sums-below set (is 10) file past);
       bundle = small (sumsSince set (is 20) file past) (length past) h (sums-below set (is 20) file past);
-      micr = omega (arith, sum-small (is 20) (λ r. micrOf set file (r .type) (r .offset)) (10 ^ 10) (λ r. micr-small set file (r .type) (r .offset)) past);
+      micr = omega (arith, capped-small (sumSince (is 20) (λ r. micrOf set file (r .type) (r .offset)) past));
       addenda = omega (arith, count isItemEntry isAddendum);
       bofd = omega (arith, count isItemEntry isBofdAddendum);
       endorser = omega (arith, count isItemEntry isEndorserAddendum);

@@ -1,12 +1,13 @@
 -- Every figure of the history that the reader carries along.
 use Prim.Native.Nat.{ℕ, _+_, _<_}
+use mathlib.Core.Bool.{true, false, _||_, cond}
 use mathlib.Core.List.{List, map}
 use lib.Dec.{eqb}
 use lib.ListN.{length}
 use Rattle.text.specs.declared.character_set.CharacterSet.{CharacterSet}
-use Rattle.measure.specs.Measures.{cents, items, records, cappedSums, Small}
-use Rattle.order.specs.MayFollow.{isItem, isAddendum, lastOf, isOpen, itemTypeInBundle, newestItemType}
-use Rattle.standing.specs.History.{Entry, micrOf, statedBy, indicatorIn, signatureIn, sumSince, sumsSince, atNewest, never, is, isItemEntry, countSince, isBofdAddendum, isEndorserAddendum}
+use Rattle.measure.specs.Measures.{cents, items, records, noSums, together, capped, cappedSums, Small}
+use Rattle.order.specs.MayFollow.{isCheckOrReturn, isItem, isAddendum, lastOf, isOpen, itemTypeInBundle, newestItemType}
+use Rattle.standing.specs.History.{Entry, one, adds, micrOf, statedBy, indicatorIn, signatureIn, sumSince, sumsSince, atNewest, never, is, isItemEntry, countSince, isBofdAddendum, isEndorserAddendum}
 use Rattle.standing.specs.declared.Standing.{Standing}
 
 unfoldable pub standing : CharacterSet → List ℕ → List Entry → Standing
@@ -38,6 +39,36 @@ standing set file past =
       signature = atNewest (is 50) (λ r. signatureIn set file (r .offset)) past;
     }
 
+-- How one record more, of a type and at an offset, moves the figures on: `standing` of that record and those before it (proofs/Laws.antt).
+unfoldable pub onward : CharacterSet → List ℕ → Standing → ℕ → ℕ → Standing
+onward set file s t offset =
+    record {
+      last = t;
+      inside = cond (eqb t 20) true (cond (eqb t 70) false (s .inside));
+      present = cond (eqb t 20) 0 (cond (isCheckOrReturn t) t (s .present));
+      holder = cond (eqb t 10 || (eqb t 20 || eqb t 70)) 0 (cond (isItem t) t (s .holder));
+      records = records (s .records .0 + 1);
+      letters = one (eqb t 10) + s .letters;
+      bundles = one (eqb t 20) + s .bundles;
+      opened = cond (eqb t 10) 0 (one (eqb t 20) + s .opened);
+      items = items (one (isItem t) + s .items .0);
+      ordinal = cond (eqb t 20) 0 (one (isItem t) + s .ordinal);
+      whole = together (adds set file t offset) (s .whole);
+      letter = cond (eqb t 10) noSums (together (adds set file t offset) (s .letter));
+      bundle = cond (eqb t 20) noSums (together (adds set file t offset) (s .bundle));
+      micr = cents (cond (eqb t 20) 0 (micrOf set file t offset + s .micr .0));
+      addenda = cond (isItem t) 0 (one (isAddendum t) + s .addenda);
+      bofd = cond (isItem t) 0 (one (isBofdAddendum t) + s .bofd);
+      endorser = cond (isItem t) 0 (one (isEndorserAddendum t) + s .endorser);
+      shown = cond (isItem t) 0 (one (eqb t 50) + s .shown);
+      stated = cond (isItem t) (statedBy set file t offset) (s .stated);
+      item = cond (isItem t) offset (s .item);
+      header = cond (eqb t 20) offset (s .header);
+      heading = cond (eqb t 10) offset (s .heading);
+      indicator = cond (eqb t 10) (indicatorIn set file offset) (s .indicator);
+      signature = cond (eqb t 50) (signatureIn set file offset) (s .signature);
+    }
+
 -- the same figures as the code carries them along, where sums of cents stop at what no control field can state
 abbrev pub cappedFigures : Standing → Standing
 cappedFigures s =
@@ -55,7 +86,7 @@ cappedFigures s =
       whole = cappedSums (s .whole);
       letter = cappedSums (s .letter);
       bundle = cappedSums (s .bundle);
-      micr = s .micr;
+      micr = cents (capped (s .micr .0));
       addenda = s .addenda;
       bofd = s .bofd;
       endorser = s .endorser;

@@ -13,10 +13,10 @@ ghost use lib.Dec.{eqb};
 ghost use lib.ListN.{getD};
 ghost use Rattle.text.specs.declared.character_set.CharacterSet.{CharacterSet};
 ghost use Rattle.text.specs.Number.{number};
-ghost use Rattle.measure.specs.Measures.{Small};
+ghost use Rattle.measure.specs.Measures.{cents, capped, Small};
 ghost use Rattle.order.specs.MayFollow.{isOneOf, isCheckOrReturn, isItem};
-ghost use Rattle.standing.specs.History.{Entry, entry, characters, amountOf, isDebit, micrOf, statedBy, indicatorIn, signatureIn, adds, one};
-ghost use Rattle.standing.specs.Standing.{standing, cappedFigures, Roomy};
+ghost use Rattle.standing.specs.History.{characters, amountOf, isDebit, micrOf, statedBy, indicatorIn, signatureIn, adds, one};
+ghost use Rattle.standing.specs.Standing.{standing, onward, cappedFigures, Roomy};
 
 pub struct Standing {
     // The type of the last record, 0 at the start; whether a bundle is open; the type of the checks or returns in the open bundle, and that of
@@ -200,6 +200,17 @@ fn since(begins: bool, more: u64, sum: u64) -> u64
     more + sum
 }
 
+// The same of a sum of cents, which stops at what no control field can state.
+fn cents_since(begins: bool, more: u64, sum: Cents) -> Cents
+    requires { ⌜ (more < 0x4000_0000_0000_0000) × (sum .0 < 0x4000_0000_0000_0000) ⌝ }
+    ensures { λ r. ⌜ r ≡ cents (capped (cond begins 0 (more + sum .0))) ⌝ }
+{
+    if begins {
+        return Cents(0);
+    }
+    Cents(more).plus(sum)
+}
+
 // The newest record's figure where it is one of a sort, else the older figure.
 fn newest(found: bool, figure: u64, older: u64) -> u64
     ensures { λ r. ⌜ r ≡ cond found figure older ⌝ }
@@ -279,7 +290,7 @@ fn holder_after(kind: u64, older: u64) -> u64
 // The figures with one record more of any type.
 fn moved_in_full(set: CharacterSet, file: &[u8], s: Standing, kind: u64, offset: usize) -> Standing
     requires { ⌜ Roomy s ⌝ }
-    ensures { λ r. ⌜ ((past : List Entry) (n : ℕ) → s ≡ cappedFigures (standing set (now (file .entry)) past) → r ≡ cappedFigures (standing set (now (file .entry)) (entry kind offset n ∷ past))) ⌝ }
+    ensures { λ r. ⌜ r ≡ cappedFigures (onward set (now (file .entry)) s kind offset) ⌝ }
 {
     let item = order::is_item(kind);
     let letter = kind == 10;
@@ -300,7 +311,7 @@ fn moved_in_full(set: CharacterSet, file: &[u8], s: Standing, kind: u64, offset:
         whole: s.whole.since(false, added),
         letter: s.letter.since(letter, added),
         bundle: s.bundle.since(bundle, added),
-        micr: Cents(since(bundle, micr, s.micr.0)),
+        micr: cents_since(bundle, micr, s.micr),
         addenda: since(item, one_if(order::is_addendum(kind)), s.addenda),
         bofd: since(item, one_if((kind == 26) | (kind == 32)), s.bofd),
         endorser: since(item, one_if((kind == 28) | (kind == 35)), s.endorser),
@@ -330,8 +341,8 @@ fn changes_much(kind: u64) -> bool
 
 // The figures with one record more of another type.
 fn moved_a_little(mut s: Standing, kind: u64) -> Standing
-    requires { ⌜ Roomy s × (isOneOf kind (10 ∷ 20 ∷ 25 ∷ 31 ∷ 50 ∷ 61 ∷ 70 ∷ []) ≡ false) ⌝ }
-    ensures { λ r. ⌜ ((set : CharacterSet) (file : List ℕ) (past : List Entry) (offset n : ℕ) → s ≡ cappedFigures (standing set file past) → r ≡ cappedFigures (standing set file (entry kind offset n ∷ past))) ⌝ }
+    requires { ⌜ Roomy s × (cappedFigures s ≡ s) × (isOneOf kind (10 ∷ 20 ∷ 25 ∷ 31 ∷ 50 ∷ 61 ∷ 70 ∷ []) ≡ false) ⌝ }
+    ensures { λ r. ⌜ ((set : CharacterSet) (file : List ℕ) (offset : ℕ) → r ≡ cappedFigures (onward set file s kind offset)) ⌝ }
 {
     let records = Records(s.records.0 + 1);
     let addenda = since(false, one_if(order::is_addendum(kind)), s.addenda);
@@ -347,8 +358,8 @@ fn moved_a_little(mut s: Standing, kind: u64) -> Standing
 
 // The figures with one record more, whose length field stands at an offset.
 pub fn moved(set: CharacterSet, file: &[u8], s: Standing, kind: u64, offset: usize) -> Standing
-    requires { ⌜ Roomy s ⌝ }
-    ensures { λ r. ⌜ ((past : List Entry) (n : ℕ) → s ≡ cappedFigures (standing set (now (file .entry)) past) → r ≡ cappedFigures (standing set (now (file .entry)) (entry kind offset n ∷ past))) ⌝ }
+    requires { ⌜ Roomy s × (cappedFigures s ≡ s) ⌝ }
+    ensures { λ r. ⌜ r ≡ cappedFigures (onward set (now (file .entry)) s kind offset) ⌝ }
 {
     if changes_much(kind) {
         return moved_in_full(set, file, s, kind, offset);

@@ -1,7 +1,9 @@
-//! The independent reader behind C calls, for the fuzz target.
+//! The independent reader and the independent writer behind C calls, for the fuzz targets.
 
+pub mod drafts;
 mod mutate;
 mod repair;
+mod writing;
 
 use std::slice::{from_raw_parts, from_raw_parts_mut};
 

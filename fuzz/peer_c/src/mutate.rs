@@ -17,7 +17,7 @@ use peer_reader::stream::{shaped, SHAPES};
 
 use crate::repair::{repair, straighten, whole};
 
-const CONTROL: usize = 16;
+pub const CONTROL: usize = 16;
 
 /// The generator's functions may panic on records they were not made for: such a change is dropped without a word.
 static CHANGING: AtomicBool = AtomicBool::new(false);
@@ -33,7 +33,7 @@ pub extern "C" fn peer_setup() {
     }));
 }
 
-fn tried<T>(change: impl FnOnce() -> T) -> Option<T> {
+pub fn tried<T>(change: impl FnOnce() -> T) -> Option<T> {
     CHANGING.store(true, Ordering::Relaxed);
     let made = panic::catch_unwind(AssertUnwindSafe(change));
     CHANGING.store(false, Ordering::Relaxed);
@@ -41,7 +41,7 @@ fn tried<T>(change: impl FnOnce() -> T) -> Option<T> {
 }
 
 /// The fuzzer's own byte mutations.
-type Bytewise = unsafe extern "C" fn(*mut u8, usize, usize) -> usize;
+pub type Bytewise = unsafe extern "C" fn(*mut u8, usize, usize) -> usize;
 
 /// A file taken apart: records of carried types, and whatever is not one.
 #[derive(Clone)]
@@ -256,7 +256,7 @@ fn mutated(given: &[u8], max: usize, random: &mut Random, bytewise: Bytewise) ->
 }
 
 /// The fuzzer's byte mutations on a copy.
-fn bytes(bytewise: Bytewise, given: &[u8], most: usize) -> Vec<u8> {
+pub fn bytes(bytewise: Bytewise, given: &[u8], most: usize) -> Vec<u8> {
     let most = most.max(given.len()).max(1);
     let mut room = given.to_vec();
     room.resize(most, 0);
@@ -277,7 +277,7 @@ fn fresh(random: &mut Random, max: usize) -> Vec<u8> {
     file
 }
 
-fn by_record(file: &[u8], random: &mut Random, bytewise: Bytewise) -> Vec<u8> {
+pub fn by_record(file: &[u8], random: &mut Random, bytewise: Bytewise) -> Vec<u8> {
     let (mut pieces, mut rest) = taken_apart(&as_ascii(file));
     if random.percent(30) {
         rest.clear();

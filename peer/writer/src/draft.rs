@@ -1,7 +1,7 @@
 //! A draft as it is lent (point 23): a text of bytes, and rows of ten numbers, one for each record in the order of the file.
 
 use peer_reader::charset::{Set, Text};
-use peer_reader::descent::{read, Answer, Number};
+use peer_reader::descent::{read, Answer, Number, Reading};
 use peer_reader::judge::{all_blank, part_length_in};
 use peer_reader::layout::{layout, Field, Layout};
 
@@ -147,7 +147,11 @@ impl<'a> Row<'a> {
 
 /// The draft of a file, the file being its text (point 27): the reader's own answer, and rows where it is accepted.
 pub fn draft_of(file: &[u8], draft: &mut [u64]) -> Answer {
-    let reading = read(file);
+    draft_by(file, &read(file), draft)
+}
+
+/// The same of a file that has been read.
+pub fn draft_by(file: &[u8], reading: &Reading, draft: &mut [u64]) -> Answer {
     let answer = reading.with_rows(draft.len() / ROW);
     if answer.number == Number::Accepted {
         let set = Set::of(file);

@@ -24,6 +24,13 @@ const TURNS: [&str; 64] = [
     "tail", "flip", "flip", "several",
 ];
 
+/// The shapes that `shaped` takes.
+#[rustfmt::skip]
+pub const SHAPES: [&str; 21] = [
+    "sound", "own", "stream", "field", "outside", "place", "link", "outgrown", "addenda", "sums", "end", "behind", "strange", "rows", "near", "cut",
+    "small", "flags", "tail", "flip", "several",
+];
+
 /// The drafts of a round.
 pub const ROUND: usize = TURNS.len();
 
@@ -68,7 +75,7 @@ pub fn shaped(random: &mut Random, shape: &'static str, turn: usize) -> Made {
 /// The shapes that are made of lines alone.
 fn lines_in_shape(random: &mut Random, shape: &str, turn: usize) -> Vec<Line> {
     match shape {
-        "field" => lines_of(&harm::field_file(random, at(&outgrow::given_targets(), turn))),
+        "field" => outgrow::harmed(random, at(&outgrow::given_targets(), turn)),
         "place" => lines_of(&harm::place_file(random, at(&place_targets(), turn))),
         "link" => lines_of(&harm::link_file(random, at(&link_targets(), turn))),
         "addenda" => outgrow::addenda(random, turn),
@@ -107,7 +114,7 @@ pub fn finish(random: &mut Random, set: Set, mut lines: Vec<Line>) -> (Vec<u8>, 
     (text, numbers)
 }
 
-/// Lines in this set, most often with junk.
+/// Lines in this set, most often with junk. The first line tells the set, though a first record of another type than 01 may tell ASCII.
 pub fn dress(random: &mut Random, set: Set, lines: &mut [Line]) {
     let junk = random.percent(70);
     for (index, line) in lines.iter_mut().enumerate() {
@@ -116,8 +123,8 @@ pub fn dress(random: &mut Random, set: Set, lines: &mut [Line]) {
         }
         if junk {
             line.junk(random, set, index == 0);
-        } else if set == Set::Ebcdic && index == 0 && line.body.len() >= 2 && random.percent(70) {
-            // A first record of another type than 01 would tell ASCII.
+        }
+        if index == 0 && set == Set::Ebcdic && line.body.len() >= 2 && (junk || random.percent(70)) {
             line.body[..2].copy_from_slice(&[0xF0, 0xF1]);
         }
     }
@@ -336,6 +343,12 @@ mod tests {
             assert!(one.text == other.text && one.numbers == other.numbers, "draft {index}");
         }
         assert!((0..64).any(|index| draft(3, index).text != draft(4, index).text));
+    }
+
+    #[test]
+    fn the_shapes_are_those_of_the_turns() {
+        let named = |shapes: &[&'static str]| shapes.iter().copied().collect::<std::collections::BTreeSet<_>>();
+        assert_eq!(named(&SHAPES), named(&TURNS));
     }
 
     /// Sound lines in any manner, set and junk, and an accepted file as its own draft.

@@ -2,6 +2,7 @@
 
 use peer_reader::charset::Set;
 use peer_reader::harm::{self, field_targets, filled_part};
+use peer_reader::judge;
 use peer_reader::layout::{layout, Part, LAYOUTS};
 use peer_reader::make::{record, Rec, Wish};
 use peer_reader::random::Random;
@@ -36,18 +37,36 @@ pub fn length_targets() -> Vec<(u8, u8)> {
 pub fn outside(random: &mut Random, set: Set, turn: usize) -> (Vec<u8>, Vec<u64>) {
     let targets = outside_targets();
     let (code, number) = at(&targets, turn);
-    let (mut records, index) = harm::holding(random, &Wish::holding(code), code);
-    let (start, size) = match layout(code).fields.iter().find(|field| field.number == number) {
-        Some(field) => (field.first - 1, field.size()),
-        None => filled_part(random, &mut records[index], number),
+    let within = turn / targets.len() % 2 == 1;
+    let (records, index, start, size) = loop {
+        let (mut records, index) = harm::holding(random, &Wish::holding(code), code);
+        match layout(code).fields.iter().find(|field| field.number == number) {
+            Some(field) => break (records, index, field.first - 1, field.size()),
+            None => match filled_part(random, &mut records[index], number) {
+                (_, 1) if within => continue, // a part of one character has no place within
+                (start, size) => break (records, index, start, size),
+            },
+        }
     };
-    let some = size > 1 && turn / targets.len() % 2 == 1;
-    let keep = if some { start + random.between(1, size - 1) } else { start };
+    let keep = if within && size > 1 { start + random.between(1, size - 1) } else { start };
     let mut lines = lines_of(&records);
     dress(random, set, &mut lines);
     lines[index].body.truncate(keep);
     let manner = random.pick(&[Manner::AsFile, Manner::Packed, Manner::Scattered]);
     lay(random, &lines, manner, Some(index))
+}
+
+/// A record with a wrong or doubtful value in this field. In a part every second one would pass: it is drawn up to three times.
+pub fn harmed(random: &mut Random, (code, number): (u8, u8)) -> Vec<Line> {
+    let is_part = layout(code).parts.iter().any(|part| part.number == number);
+    let mut records = harm::field_file(random, (code, number));
+    for _ in 0..2 {
+        let sound = |record: &Rec| judge::record_in(Set::Ascii, record.layout(), &record.body).is_ok();
+        if is_part && records.iter().all(sound) {
+            records = harm::field_file(random, (code, number));
+        }
+    }
+    lines_of(&records)
 }
 
 /// The worked-out fields at the end of a fixed part: they may lie outside the text of an accepted draft.

@@ -74,7 +74,7 @@ impl Line {
         translate_record(Set::Ascii, &mut self.body, |byte| bytes[usize::from(byte)]);
     }
 
-    /// Junk in some or all of the places that are worked out. The first line's first two bytes still tell the set.
+    /// Junk in some or all of the places that are worked out. In the first line of an ASCII draft it does not tell EBCDIC.
     pub fn junk(&mut self, random: &mut Random, set: Set, first: bool) {
         let Some(layout) = self.layout().filter(|layout| self.body.len() >= layout.fixed) else {
             return;
@@ -87,10 +87,8 @@ impl Line {
                 place.iter_mut().for_each(|byte| *byte = junk_byte(random, set, style));
             }
         }
-        match (first, set) {
-            (true, Set::Ebcdic) => self.body[..2].copy_from_slice(&[0xF0, 0xF1]),
-            (true, Set::Ascii) if self.body[..2] == [0xF0, 0xF1] => self.body[0] = b'0',
-            _ => {}
+        if first && set == Set::Ascii && self.body[..2] == [0xF0, 0xF1] {
+            self.body[0] = b'0';
         }
     }
 }

@@ -3,7 +3,7 @@
 use std::ffi::{OsStr, OsString};
 
 const GENERAL: &str = "\
-icl: checks X9.100-180 image cash letters, lists what they hold and takes out their pictures
+icl: checks X9.100-180 image cash letters, lists what they hold, takes out their pictures, and makes them out
 
 use:
   icl check [--explain] FILE...
@@ -11,13 +11,15 @@ use:
   icl tree FILE
   icl picture [--force] FILE OFFSET -o OUT
   icl pictures [--force] FILE DIR
+  icl draft [--force] FILE -o DIR
+  icl write [--force] DIR -o FILE
   icl COMMAND --help
   icl --version
 
 FILE is the name of a file, or - for standard input; it has at most 268435456 bytes (256 MiB). Its
 characters are ASCII, or EBCDIC (code page 037) where its bytes 5 and 6 are F0 F1; they are shown as text.
 After -- every word is a name, even one that begins with a dash.
-Exit status: 0 all accepted and done; 1 a file or picture was refused; 2 something could not be
+Exit status: 0 all accepted and done; 1 a file, picture or draft was refused; 2 something could not be
 read or written, or the command was not understood. With NO_COLOR set there are no colours.
 ";
 
@@ -88,6 +90,40 @@ that on any fault none is left behind.
 Exit status: 0 written, 1 refused (told on standard error), 2 something could not be read or written.
 ";
 
+const DRAFT: &str = "\
+icl draft [--force] FILE -o DIR
+
+Writes the values of an accepted file as a text to be read and changed, DIR/letter.json, and its pictures and
+other binary parts as files beside it. icl write makes the same file out of them (of a file in EBCDIC, its
+copy in ASCII). The text is JSON: a list of records in the order of the file, each an object with
+  \"type\"       the two digits of its type, and \"record\", the name of its kind
+  its fields   by their names in the standard, as texts. Blanks that fill a field up are left out (behind
+               the text, or before it in the MICR fields, which are right justified), and so are blank fields
+  its parts    of bytes as {\"file\": NAME}. Pictures are named as icl pictures names them; signatures,
+               certificates and ancillary data end in .signature, .certificate and .ancillary
+  \"blank MICR total\": true    in a bundle control whose MICR total is blank
+What icl write works out is left out: record types, lengths, addendum counts, record numbers, counts, sums.
+All is written under temporary names first and then renamed, so that on any fault nothing is left behind.
+  -o DIR      the folder, made where it is missing
+  --force     overwrite files that are there already; otherwise none is written if one is there
+Exit status: 0 written, 1 refused (told on standard error), 2 something could not be read or written.
+";
+
+const WRITE: &str = "\
+icl write [--force] DIR -o FILE
+
+Makes out a file from DIR/letter.json and the files beside it that it names, as icl draft writes them, changed
+or written by hand. Lengths, counts, record numbers and sums are worked out. The file is in ASCII.
+A text that is shorter than its field is filled up: digits (data type N) with zeros before it, MICR fields with
+blanks before it, all others with blanks behind it. What is not given is blank; \"record\" may be left out.
+What cannot be taken from the text is told with its line and column, and so is what the rules refuse, with
+number, record, field, and the offset that the record would have in the file. Nothing is written then.
+  -o FILE     the file to write, or - for standard output; written to a temporary name and then renamed
+  --force     overwrite FILE where it is there already
+Exit status: 0 written, 1 refused (told on standard error), 2 something could not be read or written, or
+letter.json is not what is asked.
+";
+
 /// The help for a command, or the general one for a word that asks for help or version.
 pub fn of(command: &str) -> Option<&'static str> {
     match command {
@@ -96,6 +132,8 @@ pub fn of(command: &str) -> Option<&'static str> {
         "tree" => Some(TREE),
         "picture" => Some(PICTURE),
         "pictures" => Some(PICTURES),
+        "draft" => Some(DRAFT),
+        "write" => Some(WRITE),
         "--help" | "-h" | "help" | "--version" | "-V" => Some(GENERAL),
         _ => None,
     }

@@ -1,24 +1,31 @@
-//! icl: checks X9.100-180 image cash letters, lists what they hold and takes out their pictures.
+//! icl: checks X9.100-180 image cash letters, lists what they hold, takes out their pictures, and makes them out.
 
 // Imports go one way. This root imports the modules, and no module imports the root; among themselves each imports only those on lines
-// below its own. `x9180/tests/imports.rs` fails if two of them come to import each other.
+// below its own. `x9180/tests/imports.rs` fails where that is not so.
 //
-//     check, rows, tree, pictures    the commands
-//     args, input, store, help
+//     check, rows, tree, pictures, draft, write    the commands
+//     args, input, output, sheet, names, help
+//     store, json
 //     screen
 //     stop
 //     words
 mod args;
 mod check;
+mod draft;
 mod help;
 mod input;
+mod json;
+mod names;
+mod output;
 mod pictures;
 mod rows;
 mod screen;
+mod sheet;
 mod stop;
 mod store;
 mod tree;
 mod words;
+mod write;
 
 use std::ffi::OsString;
 use std::process::ExitCode;
@@ -60,6 +67,8 @@ fn run(mut words: Vec<OsString>) -> Result<u8, Stop> {
         Some("rows") => rows::run(Args::of(words, &["--csv", "--json"], &[])?),
         Some("tree") => tree::run(Args::of(words, &[], &[])?),
         Some("picture") => pictures::one(Args::of(words, &["--force"], &["-o"])?),
+        Some("draft") => draft::run(Args::of(words, &["--force"], &["-o"])?),
+        Some("write") => write::run(Args::of(words, &["--force"], &["-o"])?),
         _ => pictures::all(Args::of(words, &["--force"], &[])?),
     }
 }

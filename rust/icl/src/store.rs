@@ -1,7 +1,7 @@
 //! Files written whole or not at all: first into a hidden folder beside their place, then linked or renamed into it.
 
 use std::fs;
-use std::io::{Error, ErrorKind, Result, Write};
+use std::io::{BufWriter, Error, ErrorKind, Result, Write};
 use std::path::{Path, PathBuf};
 use std::sync::atomic::{AtomicBool, Ordering};
 
@@ -56,6 +56,14 @@ impl Staging {
         interrupt::heed()
     }
 
+    /// Writes a file under its name, still out of sight, as it comes.
+    pub fn fill(&self, name: &Path, fill: impl FnOnce(&mut dyn Write) -> Result<()>) -> Result<()> {
+        let mut file = BufWriter::new(fs::File::create_new(self.folder.join(name))?);
+        fill(&mut Heeding(&mut file))?;
+        file.flush()?;
+        interrupt::heed()
+    }
+
     /// Puts a written file in its place.
     pub fn place(&mut self, name: &Path) -> Result<()> {
         let (from, to) = (self.folder.join(name), self.destination.join(name));
@@ -91,6 +99,20 @@ impl Drop for Staging {
                 let _ = fs::remove_dir(&self.destination);
             }
         }
+    }
+}
+
+/// Writes on, until it is told to stop.
+struct Heeding<'w, Out>(&'w mut Out);
+
+impl<Out: Write> Write for Heeding<'_, Out> {
+    fn write(&mut self, bytes: &[u8]) -> Result<usize> {
+        interrupt::heed()?;
+        self.0.write(bytes)
+    }
+
+    fn flush(&mut self) -> Result<()> {
+        self.0.flush()
     }
 }
 

@@ -8,7 +8,7 @@ const SOUND: &str = "peer/samples/sound-2-checks.x9";
 const DAMAGED: &str = "peer/samples/damaged-06-item-count.x9";
 
 /// The commands that read one file, with the words after its name.
-fn commands(folder: &Folder) -> [(&'static str, String); 6] {
+fn commands(folder: &Folder) -> [(&'static str, String); 7] {
     [
         ("rows", String::new()),
         ("rows --csv", String::new()),
@@ -16,6 +16,7 @@ fn commands(folder: &Folder) -> [(&'static str, String); 6] {
         ("tree", String::new()),
         ("picture", format!(" 0 -o {}", folder.path("out"))),
         ("pictures", format!(" {}", folder.path("out"))),
+        ("draft", format!(" -o {}", folder.path("out"))),
     ]
 }
 
@@ -363,6 +364,12 @@ fn commands_not_understood() {
         ("picture a 5x -o b", "5x is no offset: a decimal number is needed"),
         ("picture a 18446744073709551616 -o b", "18446744073709551616 is no offset: a decimal number is needed"),
         ("pictures a", "DIR is missing"),
+        ("draft -o b", "FILE is missing"),
+        ("draft a", "-o DIR is missing"),
+        ("draft a b -o c", "b is too much"),
+        ("write -o b", "DIR is missing"),
+        ("write a", "-o FILE is missing"),
+        ("write a -o b -o c", "-o was given twice"),
     ] {
         assert_eq!(run(words), (2, String::new(), format!("icl: {complaint} (icl --help tells more)\n")), "{words}");
     }
@@ -373,7 +380,7 @@ fn commands_not_understood() {
 
 #[test]
 fn help_and_version_everywhere() {
-    for command in ["check", "rows", "tree", "picture", "pictures"] {
+    for command in ["check", "rows", "tree", "picture", "pictures", "draft", "write"] {
         for words in [format!("{command} --help"), format!("{command} x --help y")] {
             let (status, output, complaint) = run(&words);
             assert_eq!((status, complaint.as_str()), (0, ""));
@@ -382,7 +389,8 @@ fn help_and_version_everywhere() {
         assert_eq!(run(&format!("{command} --version")), (0, "icl 0.1.0\n".to_string(), String::new()));
     }
     let (status, output, _) = run("--help");
-    assert!(status == 0 && ["check", "rows", "tree", "picture", "pictures"].iter().all(|word| output.contains(word)));
+    let commands = ["check", "rows", "tree", "picture", "pictures", "draft", "write"];
+    assert!(status == 0 && commands.iter().all(|word| output.contains(&format!("  icl {word} "))));
     assert_eq!(run("--version"), (0, "icl 0.1.0\n".to_string(), String::new()));
     assert_eq!(run("-h"), run("--help"));
 }

@@ -64,6 +64,8 @@ pub(crate) struct Before<'f> {
     of_item: OfItem,
     /// A record of a kind that this module cannot add up has come.
     strange: bool,
+    /// The records are a draft's, whose counts and sums are worked out: what stands in their places says nothing.
+    of_draft: bool,
 }
 
 /// Of the newest item: its views, its addenda, and those of each numbered kind.
@@ -87,6 +89,15 @@ impl<'f> Before<'f> {
             let Some(kind) = Kind::of_body(set, body) else { break };
             before.enter(Earlier { ordinal, kind, set, body });
             left = after;
+        }
+        before
+    }
+
+    /// Goes through the records of a draft.
+    pub fn of_draft(set: CharacterSet, records: impl Iterator<Item = (&'static Kind, &'f [u8])>) -> Before<'f> {
+        let mut before = Before { of_draft: true, ..Before::default() };
+        for (ordinal, (kind, body)) in (1..).zip(records) {
+            before.enter(Earlier { ordinal, kind, set, body });
         }
         before
     }
@@ -239,7 +250,9 @@ impl<'f> Before<'f> {
     fn link_of_record(&self, kind: &'static Kind) -> Option<String> {
         // A 61 has no addenda, and no view is demanded of it.
         let item = self.item.filter(|item| !item.is_credit());
-        if let Some(of_addenda) = item.and_then(|item| self.link_of_addenda(kind, item)) {
+        // In a draft as many addenda are stated as come.
+        let stating = item.filter(|_| !self.of_draft);
+        if let Some(of_addenda) = stating.and_then(|item| self.link_of_addenda(kind, item)) {
             return Some(of_addenda);
         }
         let indicator = self.letter?.says(8)?;

@@ -80,6 +80,25 @@ impl CharacterSet {
         bytes.iter().map(|byte| self.character(*byte)).collect()
     }
 
+    /// The byte that stands for a character, one of the 95 of Table 1 (clause 5); `None` for any other.
+    ///
+    /// ```
+    /// use x9180::CharacterSet::{Ascii, Ebcdic};
+    ///
+    /// assert_eq!((Ascii.byte('A'), Ebcdic.byte('A')), (Some(0x41), Some(0xC1)));
+    /// assert_eq!((Ascii.byte('\u{e9}'), Ebcdic.byte('\n')), (None, None));
+    /// ```
+    pub fn byte(self, character: char) -> Option<u8> {
+        let in_ascii = u8::try_from(character).ok().filter(|byte| (b' '..=b'~').contains(byte))?;
+        match self {
+            CharacterSet::Ascii => Some(in_ascii),
+            CharacterSet::Ebcdic => CODE_PAGE_037.iter().find_map(|(first, run)| {
+                let place = run.iter().position(|other| *other == in_ascii)?;
+                first.checked_add(u8::try_from(place).ok()?)
+            }),
+        }
+    }
+
     /// The value of a digit.
     pub(crate) fn digit(self, byte: u8) -> Option<u64> {
         let zero = match self {
@@ -126,6 +145,9 @@ mod tests {
             let mut characters: Vec<char> = (0..=255).filter_map(|byte| set.character(byte)).collect();
             characters.sort();
             assert!(characters.into_iter().eq(' '..='~'), "{set}");
+            for character in ' '..='~' {
+                assert_eq!(set.byte(character).and_then(|byte| set.character(byte)), Some(character), "{set}");
+            }
         }
         assert_eq!((' '..='~').count(), 95);
     }

@@ -150,14 +150,19 @@ fn found_field(words: &mut Words, fault: &Fault<'_>) {
     let bytes = body.get(range).unwrap_or_default();
     words.find(bytes, "", |bytes| shown_field(set, bytes));
     if fault.number == Number::FIELD {
-        let unclipped = kind.number == 52 && (10..=13).contains(&field) && number_in(set, bytes).is_some();
-        words.lines.push(match unclipped {
-            true => "asked: 0000, since field 9, Clipping Origin, is 0".to_string(),
-            false => format!("asked: {}", named.asked()),
-        });
-        words.lines.extend(wrong_check_digit(set, named, bytes));
+        words.lines.extend(asked(set, kind, named, bytes));
         words.lines.extend(without_character(fault, start, bytes));
     }
+}
+
+/// What is asked of a field that holds these bytes, and what is wrong with its check digit.
+pub(crate) fn asked(set: CharacterSet, kind: &Kind, field: &Field, bytes: &[u8]) -> Vec<String> {
+    let unclipped = kind.number == 52 && (10..=13).contains(&field.number) && number_in(set, bytes).is_some();
+    let asked = match unclipped {
+        true => "asked: 0000, since field 9, Clipping Origin, is 0".to_string(),
+        false => format!("asked: {}", field.asked()),
+    };
+    [asked].into_iter().chain(wrong_check_digit(set, field, bytes)).collect()
 }
 
 /// Nine digits where no number of a non-financial institution may stand have been judged by their check digit.
@@ -246,12 +251,17 @@ fn wrong_type(words: &mut Words, fault: &Fault<'_>) {
 impl Words {
     /// Keeps and shows bytes of the file.
     fn find(&mut self, bytes: &[u8], what: &str, show: impl Fn(&[u8]) -> String) {
+        self.keep(&format!("found {what}"), bytes, show);
+    }
+
+    /// Keeps bytes, and shows them behind these words.
+    pub(crate) fn keep(&mut self, what: &str, bytes: &[u8], show: impl Fn(&[u8]) -> String) {
         self.found = bytes.get(..SHOWN).unwrap_or(bytes).to_vec();
         let more = match bytes.len() > SHOWN {
             true => format!(" (the first {SHOWN} of {} bytes)", bytes.len()),
             false => String::new(),
         };
-        self.lines.push(format!("found {what}{}{more}", show(&self.found)));
+        self.lines.push(format!("{what}{}{more}", show(&self.found)));
     }
 }
 

@@ -1,12 +1,23 @@
-//! The calls of include/x9180.h. All unsafe code of the crate stands here. It imports the row that the library fills, and no other
+//! The calls of include/x9180.h. All unsafe code of the crate stands here. It imports the rows that the library fills and reads, and no other
 //! module.
 
+use crate::draft_row::DraftRow;
 use crate::row::Row;
 
 extern "C" {
     fn x9_read(file: *const u8, file_len: usize, table: *mut u64, table_len: usize, answer: *mut u64) -> u64;
     fn x9_picture(file: *const u8, file_len: usize, offset: u64, place: *mut u64) -> u64;
     fn x9_record_in(body: *const u8, body_len: usize, set: u64, answer: *mut u64) -> u64;
+    fn x9_write(
+        text: *const u8,
+        text_len: usize,
+        draft: *const u64,
+        draft_len: usize,
+        out: *mut u8,
+        out_len: usize,
+        answer: *mut u64,
+    ) -> u64;
+    fn x9_draft(file: *const u8, file_len: usize, draft: *mut u64, draft_len: usize, answer: *mut u64) -> u64;
 }
 
 /// Reads a file into rows and gives the twelve numbers of the answer.
@@ -33,5 +44,35 @@ pub(crate) fn record(body: &[u8], set: u64) -> [u64; 2] {
     let mut answer = [0; 2];
     // SAFETY: the body's pointer goes with its own length, and the answer has the two numbers that the call fills.
     unsafe { x9_record_in(body.as_ptr(), body.len(), set, answer.as_mut_ptr()) };
+    answer
+}
+
+/// Writes the file of a draft, a text and its rows, and gives the twelve numbers of the answer.
+pub(crate) fn write(text: &[u8], rows: &[DraftRow], out: &mut [u8]) -> [u64; 12] {
+    let mut answer = [0; 12];
+    let numbers = rows.len() * DraftRow::NUMBERS;
+    // SAFETY: text and buffer go with their own lengths, and the exclusive borrow keeps the buffer apart from what is read. A row is `repr(C)` and
+    // ten u64 long, so the rows are that many numbers at one pointer. The answer has the twelve numbers that the call fills. No pointer of a slice
+    // is null, and the call keeps none.
+    unsafe {
+        x9_write(
+            text.as_ptr(),
+            text.len(),
+            rows.as_ptr().cast(),
+            numbers,
+            out.as_mut_ptr(),
+            out.len(),
+            answer.as_mut_ptr(),
+        )
+    };
+    answer
+}
+
+/// Reads a file into the rows of its draft and gives the twelve numbers of the answer.
+pub(crate) fn draft(file: &[u8], rows: &mut [DraftRow]) -> [u64; 12] {
+    let mut answer = [0; 12];
+    let numbers = rows.len() * DraftRow::NUMBERS;
+    // SAFETY: as in `read`, with rows of ten u64.
+    unsafe { x9_draft(file.as_ptr(), file.len(), rows.as_mut_ptr().cast(), numbers, answer.as_mut_ptr()) };
     answer
 }

@@ -6,7 +6,7 @@ use crate::character_set::CharacterSet;
 use crate::digits::number_in;
 
 /// A kind of record that the standard describes. Those without fields here are named so that a refusal can speak of them.
-#[derive(Debug, PartialEq, Eq)]
+#[derive(PartialEq, Eq)]
 pub struct Kind {
     /// The type number: the record's first two characters.
     pub number: u64,
@@ -130,9 +130,44 @@ impl Kind {
         Kind::of(number_in(set, body.get(..2)?)?)
     }
 
+    /// Whether records of this kind are read and written here.
+    pub fn is_carried(&self) -> bool {
+        !self.fields.is_empty()
+    }
+
     /// The field with this number.
     pub fn field(&self, number: u64) -> Option<&'static Field> {
         self.fields.iter().find(|field| field.number == number)
+    }
+
+    /// The variable fields, which stand behind the fixed part, in their order.
+    pub fn parts(&self) -> impl Iterator<Item = &'static Field> {
+        self.fields.iter().filter(|field| matches!(field.place, Place::SizedBy(_)))
+    }
+
+    /// Whether the writer works the field out (request 4), so that no draft gives it: record types, the lengths of parts, addendum counts,
+    /// record numbers, and what a control record counts and adds up.
+    ///
+    /// ```
+    /// let control = x9180::Kind::of(99).unwrap();
+    /// let given = control.fields.iter().filter(|field| !control.works_out(field.number)).map(|field| field.name);
+    /// assert!(given.eq(["Immediate Origin Contact Name", "Immediate Origin Contact Phone Number"]));
+    /// ```
+    pub fn works_out(&self, number: u64) -> bool {
+        match (self.number, number) {
+            (_, 1) | (25, 12) | (31, 8) | (26 | 28 | 32 | 35, 2) => true,
+            (70, 2..=7) | (90, 2..=5 | 8 | 9) | (99, 2..=5 | 8) => true,
+            _ => self.parts().any(|part| part.place == Place::SizedBy(number)),
+        }
+    }
+
+    /// The most characters or bytes that a field can hold: of a variable field, what the field that sizes it can state.
+    pub fn most(&self, number: u64) -> usize {
+        match self.field(number).map(|field| field.place) {
+            Some(Place::Positions(first, last)) => last + 1 - first,
+            Some(Place::SizedBy(sizing)) => "9".repeat(self.most(sizing)).parse().unwrap_or(usize::MAX),
+            None => 0,
+        }
     }
 
     /// The length of the fixed part; 0 where the table has no fields.
@@ -181,6 +216,13 @@ impl Kind {
             Place::Positions(first, last) => usize::try_from(number_in(set, body.get(first - 1..last)?)?).ok(),
             Place::SizedBy(_) => None,
         }
+    }
+}
+
+impl std::fmt::Debug for Kind {
+    /// As it is displayed: the table behind it would fill a page.
+    fn fmt(&self, f: &mut std::fmt::Formatter<'_>) -> std::fmt::Result {
+        std::fmt::Display::fmt(self, f)
     }
 }
 
@@ -253,6 +295,36 @@ fn listed(forms: &[RoutingForm]) -> String {
 }
 
 impl DataType {
+    /// Whether a character is one of the data type's (clauses 5.1 to 5.3). Where blanks may stand among the digits of NB, NBD and NBQ is another
+    /// matter.
+    pub fn admits(self, character: char) -> bool {
+        let others = match self {
+            DataType::ANS => return matches!(character, ' '..='~'),
+            DataType::A => return character.is_ascii_alphabetic() || character == ' ',
+            DataType::AN => return character.is_ascii_alphanumeric() || character == ' ',
+            DataType::AB => return character == ' ',
+            DataType::Binary => return false,
+            DataType::N => "",
+            DataType::NB => " ",
+            DataType::NBD => " -",
+            DataType::NBQ => " ?",
+            DataType::NBMc => " *",
+            DataType::NBMcd => " *-",
+            DataType::NBMcdo => " *-/",
+            DataType::NBMU => " *-/$#",
+        };
+        character.is_ascii_digit() || others.contains(character)
+    }
+
+    /// The character that fills a field up, and whether it stands before the text (clause 5.3: right justified) or behind it.
+    pub fn fill(self) -> (char, bool) {
+        match self {
+            DataType::N => ('0', true),
+            DataType::NBMc | DataType::NBMcd | DataType::NBMcdo | DataType::NBMU => (' ', true),
+            _ => (' ', false),
+        }
+    }
+
     /// The characters of the data type, in plain words.
     pub fn characters(self) -> &'static str {
         match self {

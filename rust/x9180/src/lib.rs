@@ -1,7 +1,10 @@
-//! The proved reader of X9.100-180 image cash letters (ANS X9.100-180-2006), called safely from Rust.
+//! The proved reader and writer of X9.100-180 image cash letters (ANS X9.100-180-2006), called safely from Rust.
 //!
 //! What is right or wrong in a file is decided by the proved static library `libabi.a` alone (`rt staticlib abi` at the root of the
 //! repository builds it). This crate lends it the bytes, keeps the rows that come back, and says refusals in plain words.
+//!
+//! [`read`] reads a file and [`picture`] finds a picture in it; [`make`] makes a file out from nothing, and [`Draft`] changes one and writes it
+//! again.
 //!
 //! ```
 //! # fn main() -> Result<(), Box<dyn std::error::Error>> {
@@ -20,39 +23,63 @@
 //! The characters of a file are ASCII or EBCDIC ([`CharacterSet`]), which the file itself tells. Rows, totals and pictures come alike from
 //! both; [`Row::text`] gives a field as text from either.
 //!
-//! No call panics, whatever the bytes. The words of a refusal are not proved: they tell what stands in the file at the place that the
-//! proved library names.
+//! No call panics, whatever the bytes. The words of a refusal are not proved: they tell what stands in the file, or in the draft, at the place that
+//! the proved library names.
 #![warn(missing_docs)]
 
 // Imports go one way. This root imports the modules, and no module imports the root; among themselves each imports only those that stand
-// right of it on a line below. `tests/imports.rs` fails if two of them come to import each other.
+// right of it on a line below. `tests/imports.rs` fails where that is not so, and if two of them come to import each other.
 //
+//     make → make_items → make_addenda → entry → given → fit → value → kinds → digits → character_set
+//     make → make_items → make_view → entry → given → fit → value
+//     make → draft → given → fit → value
+//     make → draft → given → fit → misfit → kinds
+//     make → entry → misfit
+//     make → draft → explain_draft → explain → more_bytes → refusal → kinds → digits → character_set
+//     draft → explain_draft → explain → before → shown → character_set
+//     draft → ffi → draft_row → kinds
+//     draft → room
+//     explain_draft → draft_row
 //     explain → before → sums
-//     explain → before → shown → character_set
-//     explain → refusal → kinds → digits → character_set
-//     explain → more_bytes → refusal
 //     before → kinds → digits → character_set
 //     ffi → row → kinds → digits → character_set
 //     reading → row → kinds → digits → character_set
 mod before;
 mod character_set;
 mod digits;
+mod draft;
+mod draft_row;
+mod entry;
 mod explain;
+mod explain_draft;
 mod ffi;
+mod fit;
+mod given;
 mod kinds;
+pub mod make;
+mod make_addenda;
+mod make_items;
+mod make_view;
+mod misfit;
 mod more_bytes;
 mod reading;
 mod refusal;
+mod room;
 mod row;
 mod shown;
 mod sums;
+mod value;
 
 pub use character_set::CharacterSet;
+pub use draft::Draft;
+pub use given::Record;
 pub use kinds::{DataType, Field, Form, Kind, Place, RoutingForm, Usage, KINDS};
+pub use misfit::Misfit;
 pub use more_bytes::LIMIT;
 pub use reading::{Bundle, Content, Item, ItemKind, Letter, Reading, Totals, View};
 pub use refusal::{Number, Refusal};
 pub use row::Row;
+pub use value::{Date, Time, Value};
 
 /// Reads a whole file.
 ///
@@ -78,20 +105,10 @@ pub fn read(file: &[u8]) -> Result<Reading, Refusal> {
                 return Reading::of(file, rows, totals).ok_or_else(no_memory);
             }
             // The first call, with no rows, tells how many are needed; the second has them.
-            Number::ROOM if rows.is_empty() && room(&mut rows, record) => {}
+            Number::ROOM if rows.is_empty() && room::room(&mut rows, record) => {}
             refused => return Err(explain::reading(file, refused, record, field, offset)),
         }
     }
-}
-
-/// Makes room for rows; false where the memory cannot be had.
-fn room(rows: &mut Vec<Row>, needed: u64) -> bool {
-    let Ok(needed) = usize::try_from(needed) else { return false };
-    let had = rows.try_reserve_exact(needed).is_ok();
-    if had {
-        rows.resize(needed, Row::default());
-    }
-    had
 }
 
 /// The picture in the Image View Data Record (type 52) whose four-byte length stands at an offset: the caller's own bytes. The record is

@@ -1,6 +1,7 @@
-//! Why a file or a picture was refused, in numbers and in plain words.
+//! Why a file, a picture or a draft was refused, in numbers and in plain words.
 //!
-//! The form of a refusal only: `explain` finds the words and fills it in, so this module imports the kinds and nothing above them.
+//! The form of a refusal only: `explain` and `explain_draft` find the words and fill it in, so this module imports the kinds and nothing above
+//! them.
 
 use crate::kinds::{Field, Kind};
 
@@ -28,7 +29,7 @@ impl Number {
 const NUMBERS: [(&str, &str); 12] = [
     ("ACCEPTED", "all rules hold"),
     ("SIZE", "the file has no byte, or more than 268435456"),
-    ("ROOM", "all rules hold, but there is not memory enough for a row for each record"),
+    ("ROOM", "all rules hold, but there is not memory enough"),
     ("CUT", "the file ends before the record does"),
     ("LENGTH", "the length is wrong for the record"),
     ("TYPE", "the record's first two characters name no type that is read here"),
@@ -111,8 +112,8 @@ impl Refusal {
         self.number
     }
 
-    /// The record at fault, from 1. For `ROOM` the rows needed. 0 for `SIZE`, and from [`picture`](crate::picture) and
-    /// [`record`](crate::record), which count no records.
+    /// The record at fault, from 1, of the file or of the draft. For `ROOM` the rows needed, or the bytes of the file that a draft would make. 0
+    /// for `SIZE`, and from [`picture`](crate::picture) and [`record`](crate::record), which count no records.
     pub fn record(&self) -> u64 {
         self.record
     }
@@ -122,7 +123,7 @@ impl Refusal {
         self.field
     }
 
-    /// The offset of the record's length field; 0 from [`record`](crate::record).
+    /// The offset of the record's length field; 0 from [`record`](crate::record). Of a draft, the one that it would have in the file.
     pub fn offset(&self) -> u64 {
         self.offset
     }
@@ -138,15 +139,16 @@ impl Refusal {
     }
 
     /// The bytes found at the fault, the first 64 of them where there are more: the field's, or those that should be a length or a
-    /// type. Never a picture's. They are as they stand in the file; [`CharacterSet::text`](crate::CharacterSet::text) translates them.
+    /// type. Never a picture's. They are as they stand in the file, or in the draft, where what is worked out is none;
+    /// [`CharacterSet::text`](crate::CharacterSet::text) translates them.
     pub fn found(&self) -> &[u8] {
         &self.words.found
     }
 
     /// How many of the file's first bytes decide the refusal: every file within the limit that begins with them is refused with the same
     /// numbers, whatever follows (request 7). They end with the record at fault; for `AFTER` with the first byte behind the file, for `CUT`
-    /// with a length that leads past the limit. `None` where more bytes might change the answer, for `SIZE`, for `ROOM`, and from
-    /// [`picture`](crate::picture) and [`record`](crate::record).
+    /// with a length that leads past the limit. `None` where more bytes might change the answer, for `SIZE`, for `ROOM`, from
+    /// [`picture`](crate::picture) and [`record`](crate::record), and of a draft.
     ///
     /// ```
     /// # fn main() -> Result<(), std::io::Error> {
@@ -164,7 +166,7 @@ impl Refusal {
     }
 
     /// Whether bytes that follow could mend a refused file, in plain words. `None` from [`picture`](crate::picture) and
-    /// [`record`](crate::record), but for `SIZE`.
+    /// [`record`](crate::record), but for `SIZE`, and of a draft.
     ///
     /// ```
     /// let refusal = x9180::read(&[0, 0, 0, 0x50]).unwrap_err();

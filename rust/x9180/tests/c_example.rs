@@ -1,19 +1,23 @@
-//! The C example, compiled and run on the samples with pictures, in ASCII and EBCDIC: every line worked out by hand.
+//! The C examples, compiled and run: the reader on the samples with pictures, in ASCII and EBCDIC, every line worked out by hand; the writer beside the
+//! makers of this package.
 
 use std::path::{Path, PathBuf};
 use std::process::Command;
+
+use x9180::make::{Bundle, Check, Contents, File, FileType, Letter, Side, View};
+use x9180::{Date, Time};
 
 fn root() -> PathBuf {
     Path::new(env!("CARGO_MANIFEST_DIR")).join("../..")
 }
 
-/// Compiles the example against the library that this package is linked with.
-fn compiled(folder: &Path) -> PathBuf {
+/// Compiles an example against the library that this package is linked with.
+fn compiled(folder: &Path, name: &str) -> PathBuf {
     let library = std::env::var_os("X9180_LIB_DIR").map_or_else(|| root().join("target/staticlib"), PathBuf::from);
-    let program = folder.join("read");
+    let program = folder.join(name);
     let status = Command::new(std::env::var("CC").unwrap_or("cc".to_string()))
         .args(["-std=c99", "-Wall", "-Wextra", "-Werror", "-pedantic", "-I"])
-        .args([root().join("include"), root().join("examples/read.c"), library.join("libabi.a")])
+        .args([root().join("include"), root().join(format!("examples/{name}.c")), library.join("libabi.a")])
         .arg("-o")
         .arg(&program)
         .status();
@@ -26,7 +30,7 @@ fn compiled(folder: &Path) -> PathBuf {
 fn prints_the_place_of_every_picture() {
     let folder = std::env::temp_dir().join(format!("x9180-example-{}", std::process::id()));
     std::fs::create_dir(&folder).unwrap();
-    let program = compiled(&folder);
+    let program = compiled(&folder, "read");
     let run = |file: &str| {
         let output = Command::new(&program).arg(root().join(file)).output().unwrap();
         (output.status.code(), String::from_utf8(output.stdout).unwrap())
@@ -66,4 +70,42 @@ letter 2 credit 1: picture of 178 bytes at 7521
     // It prints no characters of a file, so that the set makes no difference (request 5).
     assert_eq!(checks_in_ebcdic, checks);
     assert_eq!(refused_in_ebcdic, (Some(1), "refused 9 record 7 field 4 offset 563\n".to_string()));
+}
+
+/// The same letter by name: a check of 123.45 with a picture of either side.
+fn letter() -> Vec<u8> {
+    let (bank, today, now) = ("123456780", Date::new(2024, 1, 16), Time::new(10, 30));
+    let check = Check::new(bank, 12_345, "000000000000001")
+        .micr_valid_indicator("1")
+        .bofd_indicator("Y")
+        .view(View::new(Side::Front, bank, today, b"the picture of its front"))
+        .view(View::new(Side::Back, bank, today, b"the picture of its back"));
+    let bundle = Bundle::new("01", bank, bank, today).bundle_id("B1").cycle_number("01").item(check);
+    let letter = Letter::new("01", bank, bank, today, today, now, Contents::Images)
+        .cash_letter_id("L1")
+        .ece_institution_name("SMALL BANK")
+        .settlement_date(today)
+        .bundle(bundle);
+    let file = File::new(FileType::Test, bank, bank, today, now)
+        .immediate_destination_name("RECEIVING BANK")
+        .immediate_origin_name("SMALL BANK")
+        .immediate_origin_contact_name("OPERATIONS")
+        .letter(letter);
+    file.write().unwrap()
+}
+
+#[test]
+fn makes_out_the_letter_that_is_made_by_name() {
+    let folder = std::env::temp_dir().join(format!("x9180-example-write-{}", std::process::id()));
+    std::fs::create_dir(&folder).unwrap();
+    let out = folder.join("made.x9");
+    let output = Command::new(compiled(&folder, "write")).arg(&out).output().unwrap();
+    let written = std::fs::read(&out).unwrap();
+    std::fs::remove_dir_all(&folder).unwrap();
+
+    // 01, 10, 20, 25, two 50s, 70 and 99 take 84 bytes each, the 90 takes 89, a 52 takes 143 and its picture: 8 x 84 + 89 + 2 x 143 + 24 + 23.
+    let lines = "made out: 11 records, 1094 bytes\n\
+                 accepted records 11 letters 1 bundles 1 items 1 views 2 debit 12345\n";
+    assert_eq!((output.status.code(), String::from_utf8(output.stdout).unwrap().as_str()), (Some(0), lines));
+    assert_eq!(written, letter());
 }

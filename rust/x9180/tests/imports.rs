@@ -111,6 +111,49 @@ fn imports_go_one_way() {
     }
 }
 
+/// The lines of the diagram in a package's root.
+fn diagram(root: &str) -> Vec<&str> {
+    let lines: Vec<&str> = root.lines().filter_map(|line| line.strip_prefix("//     ")).collect();
+    assert!(!lines.is_empty());
+    lines
+}
+
+/// In `lib.rs` each module imports only those that stand right of it on a line, and each arrow is an import.
+#[test]
+fn the_diagram_of_this_package_is_true() {
+    let sources = sources("src");
+    let imports = imports(&sources);
+    let lines: Vec<Vec<&str>> = diagram(&sources[ROOT]).into_iter().map(|line| line.split(" → ").collect()).collect();
+    let stands_right_of = |other: &str, name: &str| {
+        let mut places = lines.iter().map(|line| [name, other].map(|name| line.iter().position(|word| *word == name)));
+        places.any(|place| matches!(place, [Some(left), Some(right)] if left < right))
+    };
+    for (name, others) in imports.iter().filter(|(name, _)| *name != ROOT) {
+        for other in others {
+            assert!(stands_right_of(other, name), "{name} imports {other}");
+        }
+    }
+    for pair in lines.iter().flat_map(|line| line.windows(2)) {
+        assert!(imports[pair[0]].contains(pair[1]), "{pair:?}");
+    }
+}
+
+/// In `main.rs` of `icl` each module imports only those on lines below its own.
+#[test]
+fn the_diagram_of_icl_is_true() {
+    let sources = sources("../icl/src");
+    let levels: Vec<Vec<&str>> = diagram(&sources[ROOT])
+        .into_iter()
+        .map(|line| line.split("  ").next().unwrap_or_default().split(", ").collect())
+        .collect();
+    let level = |name: &str| levels.iter().position(|names| names.contains(&name)).ok_or(name.to_string());
+    for (name, others) in imports(&sources).iter().filter(|(name, _)| *name != ROOT) {
+        for other in others {
+            assert!(level(name).unwrap() < level(other).unwrap(), "{name} imports {other}");
+        }
+    }
+}
+
 /// The names of those that go round in these modules beside a root.
 fn found(modules: &[(&str, &str)]) -> Vec<String> {
     let all = modules.iter().chain(&[(ROOT, "mod a;\nmod b;\nmod c;\n")]);

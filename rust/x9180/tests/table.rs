@@ -1,6 +1,9 @@
 //! The table of kinds beside the fields' list of the record tests, which was made from the standard on its own.
 
-use x9180::{Form, Kind, Place, Usage, KINDS};
+use peer_reader::charset::{Set, Text};
+use peer_reader::judge::of_type;
+use peer_reader::layout::Type;
+use x9180::{DataType, Form, Kind, Place, Usage, KINDS};
 
 #[test]
 fn every_field_of_the_list_stands_in_the_table() {
@@ -77,4 +80,54 @@ fn words_of_routing_fields() {
         assert_eq!(asked(kind, field), format!("{forms}, {canadian}, {others}, {mark}"));
     }
     assert_eq!(asked(61, 5), format!("{forms} or {canadian}, unless it holds a can't-read mark *"));
+}
+
+/// Request 4: what a draft does not give, beside field 1 of every record.
+#[test]
+fn worked_out_fields() {
+    for kind in KINDS.iter().filter(|kind| kind.is_carried()) {
+        let expected: &[u64] = match kind.number {
+            27 | 34 => &[1, 6, 7, 8, 9, 10, 11],
+            52 => &[1, 15, 16, 17, 18, 19, 20, 21],
+            25 => &[1, 12],
+            31 => &[1, 8],
+            26 | 28 | 32 | 35 => &[1, 2],
+            70 => &[1, 2, 3, 4, 5, 6, 7],
+            90 => &[1, 2, 3, 4, 5, 8, 9],
+            99 => &[1, 2, 3, 4, 5, 8],
+            _ => &[1],
+        };
+        let worked_out = kind.fields.iter().map(|field| field.number).filter(|field| kind.works_out(*field));
+        assert!(worked_out.eq(expected.iter().copied()), "{kind}");
+    }
+    let most = |kind, field| Kind::of(kind).unwrap().most(field);
+    assert_eq!([(25, 6), (25, 15), (27, 13), (27, 14), (27, 18)].map(|(k, f)| most(k, f)), [10, 0, 9_999, 99, 99_999]);
+    assert_eq!([(52, 22), (52, 23), (52, 27)].map(|(k, f)| most(k, f)), [9_999, 99_999, 9_999_999]);
+}
+
+/// The characters of each data type beside those of the independent reader.
+#[test]
+fn characters_of_the_data_types() {
+    let types = [
+        (DataType::A, Type::Alphabetic),
+        (DataType::AB, Type::AllBlank),
+        (DataType::AN, Type::Alphanumeric),
+        (DataType::ANS, Type::AlphanumericSpecial),
+        (DataType::N, Type::Numeric),
+        (DataType::NB, Type::NumericBlank),
+        (DataType::NBD, Type::NumericBlankDash),
+        (DataType::NBQ, Type::NumericBlankQuestion),
+        (DataType::NBMc, Type::MicrCantRead),
+        (DataType::NBMcd, Type::MicrDash),
+        (DataType::NBMcdo, Type::MicrOnUs),
+        (DataType::NBMU, Type::MicrUnparsed),
+    ];
+    for (ours, theirs) in types {
+        for byte in 0..=255 {
+            let admitted = of_type(theirs, Text::new(Set::Ascii, &[byte]));
+            assert_eq!(ours.admits(char::from(byte)), admitted, "{ours:?} {byte:02X}");
+        }
+        assert!(!ours.admits('\u{30a}') && !ours.admits('\u{ff11}'));
+    }
+    assert!((0..=255).all(|byte| !DataType::Binary.admits(char::from(byte))));
 }

@@ -6,7 +6,7 @@ use lib.ListN.{length}
 use Rattle.frame.specs.Frames.{frameAt}
 use Rattle.frame.proofs.Laws.{whole-start, whole-within}
 use Rattle.judge.specs.Alone.{typeOf}
-use Rattle.passes.proofs.Passes.{Fill, fill-first, fill-room, fill-on, fill-cut, fill-end, place-roomy, moves-stopped}
+use Rattle.passes.proofs.Passes.{Fill, fill-first, fill-room, fill-on, fill-cut, fill-end, place-moves, moves-stopped}
 use borrow.Author.Needs.{needs}
 use Rattle.passes.proofs.fill.Statement.{statement}
 use Rattle.passes.proofs.fill.Tie as tie
@@ -51,10 +51,10 @@ type-of-requires : tie.Need-type-of-requires Inv-loop μ-loop
 type-of-requires c κs = search needs
 
 moved-requires : tie.Need-moved-requires Inv-loop μ-loop
-moved-requires c κs = place-roomy (c .before .before .before .before .before .before .before .before .before .before .set-of .result) (now (c .before .before .before .before .before .before .before .before .before .before .before .before .before .args .file)) (c .before .before .before .before .before .before .before .before .loop .at) (c .before .before .before .before .before .before .before .before .loop .s) (c .before .before .before .before .before .before .before .before .loop .inv .place)
+moved-requires c κs = place-moves (c .before .before .before .before .before .before .before .before .before .before .set-of .result) (now (c .before .before .before .before .before .before .before .before .before .before .before .before .before .args .file)) (c .before .before .before .before .before .before .before .before .loop .at) (c .before .before .before .before .before .before .before .before .loop .s) (c .before .before .before .before .before .before .before .before .loop .inv .place)
 
 put-row-requires : tie.Need-put-row-requires Inv-loop μ-loop
-put-row-requires c κs = (fill-room (c .before .before .before .before .before .before .before .before .before .before .before .before .set-of .result) (now (c .before .before .before .before .before .before .before .before .before .before .before .before .before .before .before .args .file)) (now (c .before .before .before .before .before .before .before .before .before .before .before .before .before .before .before .args .table)) (c .before .before .before .before .before .before .before .before .before .before .loop .at) (c .before .before .before .before .before .before .before .before .before .before .loop .s) (c .before .before .before .before .before .before .before .before .before .before .loop .base) (c .before .before .before .before .before .before .before .before .before .before .loop .table) (c .before .before .before .before .before .before .before .before .before .before .loop .inv) (c .before .before .before .before .before .before .before .before .before .loop-test .taken) _ _ (c .before .before .type-of .result) (ap (frameAt (now (c .before .before .before .before .before .before .before .before .before .before .before .before .before .before .before .args .file))) (sym (c .before .before .before .before .before .before .before .before .at .ensures)) ∙ sym (c .before .before .before .before .before .before .before .frame .ensures) ∙ c .before .before .before .before .before .start2 .given .1) (ap (typeOf (c .before .before .before .before .before .before .before .before .before .before .before .before .set-of .result)) (sym (c .before .before .before .part-of .ensures)) ∙ sym (c .before .before .type-of .ensures)), moves-stopped (c .before .before .before .before .before .before .before .before .before .before .before .before .set-of .result) (now (c .before .before .before .before .before .before .before .before .before .before .before .before .before .before .before .args .file)) (c .before .before .before .before .before .before .before .before .before .before .loop .at) (c .before .before .before .before .before .before .before .before .before .before .loop .s) (c .before .before .before .before .before .before .before .before .before .before .loop .inv .place) (c .before .before .type-of .result) (c .before .moved .result) (c .before .moved .ensures))
+put-row-requires c κs = (fill-room (c .before .before .before .before .before .before .before .before .before .before .before .before .set-of .result) (now (c .before .before .before .before .before .before .before .before .before .before .before .before .before .before .before .args .file)) (now (c .before .before .before .before .before .before .before .before .before .before .before .before .before .before .before .args .table)) (c .before .before .before .before .before .before .before .before .before .before .loop .at) (c .before .before .before .before .before .before .before .before .before .before .loop .s) (c .before .before .before .before .before .before .before .before .before .before .loop .base) (c .before .before .before .before .before .before .before .before .before .before .loop .table) (c .before .before .before .before .before .before .before .before .before .before .loop .inv) (c .before .before .before .before .before .before .before .before .before .loop-test .taken) _ _ (c .before .before .type-of .result) (ap (frameAt (now (c .before .before .before .before .before .before .before .before .before .before .before .before .before .before .before .args .file))) (sym (c .before .before .before .before .before .before .before .before .at .ensures)) ∙ sym (c .before .before .before .before .before .before .before .frame .ensures) ∙ c .before .before .before .before .before .start2 .given .1) (ap (typeOf (c .before .before .before .before .before .before .before .before .before .before .before .before .set-of .result)) (sym (c .before .before .before .part-of .ensures)) ∙ sym (c .before .before .type-of .ensures)), moves-stopped (c .before .before .before .before .before .before .before .before .before .before .before .before .set-of .result) (now (c .before .before .before .before .before .before .before .before .before .before .before .before .before .before .before .args .file)) (c .before .before .before .before .before .before .before .before .before .before .loop .at) (c .before .before .before .before .before .before .before .before .before .before .loop .s) (c .before .before .type-of .result) (c .before .moved .result) (c .before .moved .ensures))
 
 add-base : tie.Need-add-base Inv-loop μ-loop
 add-base c = let g = fill-room (c .before .before .before .before .before .before .before .before .before .before .before .before .before .before .before .set-of .result) (now (c .before .before .before .before .before .before .before .before .before .before .before .before .before .before .before .before .before .before .args .file)) (now (c .before .before .before .before .before .before .before .before .before .before .before .before .before .before .before .before .before .before .args .table)) (c .before .before .before .before .before .before .before .before .before .before .before .before .before .loop .at) (c .before .before .before .before .before .before .before .before .before .before .before .before .before .loop .s) (c .before .before .before .before .before .before .before .before .before .before .before .before .before .loop .base) (c .before .before .before .before .before .before .before .before .before .before .before .before .before .loop .table) (c .before .before .before .before .before .before .before .before .before .before .before .before .before .loop .inv) (c .before .before .before .before .before .before .before .before .before .before .before .before .loop-test .taken) _ _ (c .before .before .before .before .before .type-of .result) (ap (frameAt (now (c .before .before .before .before .before .before .before .before .before .before .before .before .before .before .before .before .before .before .args .file))) (sym (c .before .before .before .before .before .before .before .before .before .before .before .at .ensures)) ∙ sym (c .before .before .before .before .before .before .before .before .before .before .frame .ensures) ∙ c .before .before .before .before .before .before .before .before .start2 .given .1) (ap (typeOf (c .before .before .before .before .before .before .before .before .before .before .before .before .before .before .before .set-of .result)) (sym (c .before .before .before .before .before .before .part-of .ensures)) ∙ sym (c .before .before .before .before .before .type-of .ensures)) in omega (arith, g, c .before .before .before .before .before .before .before .before .before .before .before .before .before .loop .inv .long, c .before .before .before .before .before .before .before .before .before .before .before .before .before .before .before .before .before .before .good)

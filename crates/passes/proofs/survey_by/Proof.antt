@@ -5,7 +5,7 @@ use native.Mathlib.Omega.{arith}
 use lib.ListN.{length}
 use borrow.Author.Tests.{lt-leb, le-leb}
 use Rattle.passes.specs.Reading.{surveyed}
-use Rattle.passes.proofs.Passes.{Survey, survey-first, survey-on, survey-stop, survey-end, counted-end, place-roomy, place-stopped, on-within}
+use Rattle.passes.proofs.Passes.{Survey, survey-first, survey-on, survey-stop, survey-end, counted-end, place-roomy, place-moves, on-within}
 use borrow.Author.Needs.{needs}
 use Rattle.passes.proofs.survey_by.Statement.{statement}
 use Rattle.passes.proofs.survey_by.Tie as tie
@@ -50,7 +50,7 @@ enum-known-kind : tie.Need-enum-known-kind Inv-loop μ-loop
 enum-known-kind c = search needs
 
 moved-requires : tie.Need-moved-requires Inv-loop μ-loop
-moved-requires c κs = place-roomy (c .before .before .before .before .before .before .before .set-of .result) (now (c .before .before .before .before .before .before .before .before .before .before .before .before .args .file)) (c .before .before .before .before .before .loop .at) (c .before .before .before .before .before .loop .s) (c .before .before .before .before .before .loop .inv .place)
+moved-requires c κs = place-moves (c .before .before .before .before .before .before .before .set-of .result) (now (c .before .before .before .before .before .before .before .before .before .before .before .before .args .file)) (c .before .before .before .before .before .loop .at) (c .before .before .before .before .before .loop .s) (c .before .before .before .before .before .loop .inv .place)
 
 add-at : tie.Need-add-at Inv-loop μ-loop
 add-at c = let w = on-within (c .before .before .before .before .before .before .before .before .set-of .result) (now (c .before .before .before .before .before .before .before .before .before .before .before .before .before .args .file)) (c .before .before .before .before .before .before .loop .s) (c .before .before .before .before .before .before .loop .at) _ _ (sym (c .before .before .before .before .record-at .ensures) ∙ c .before .before .kind .given .1) in omega (arith, w, c .before .before .before .before .before .before .loop .inv .place .limit)
@@ -65,7 +65,7 @@ loop-again : tie.Need-loop-again Inv-loop μ-loop
 loop-again c = survey-on (c .before .before .before .before .before .before .before .before .set-of .result) (now (c .before .before .before .before .before .before .before .before .before .before .before .before .before .args .file)) (c .before .before .before .before .before .before .loop .at) (c .before .before .before .before .before .before .loop .s) (c .before .before .before .before .before .before .loop .inv) (c .before .before .before .before .before .loop-test .taken) _ _ (c .moved .result) (sym (c .before .before .before .before .record-at .ensures) ∙ c .before .before .kind .given .1) (c .moved .ensures)
 
 ended-at-requires : tie.Need-ended-at-requires Inv-loop μ-loop
-ended-at-requires c κs = (place-roomy (c .before .before .before .set-of .result) (now (c .before .before .before .before .before .before .before .before .args .file)) (c .before .loop .at) (c .before .loop .s) (c .before .loop .inv .place), place-stopped (c .before .before .before .set-of .result) (now (c .before .before .before .before .before .before .before .before .args .file)) (c .before .loop .at) (c .before .loop .s) (c .before .loop .inv .place))
+ended-at-requires c κs = place-moves (c .before .before .before .set-of .result) (now (c .before .before .before .before .before .before .before .before .args .file)) (c .before .loop .at) (c .before .loop .s) (c .before .loop .inv .place)
 
 returns-4 : tie.Need-returns-4 Inv-loop μ-loop
 unfolding surveyed

@@ -8,16 +8,16 @@ changes-much-requires : tie.Need-changes-much-requires
 changes-much-requires c κs = search needs
 
 moved-in-full-requires : tie.Need-moved-in-full-requires
-moved-in-full-requires c κs = search needs
+moved-in-full-requires c κs = c .before .before .before .pre .0
 
 returns : tie.Need-returns
 returns c = search needs
 
 moved-a-little-requires : tie.Need-moved-a-little-requires
-moved-a-little-requires c κs = (c .before .before .before .pre, sym (c .before .changes-much .ensures) ∙ c .if1 .left)
+moved-a-little-requires c κs = (c .before .before .before .pre .0, c .before .before .before .pre .1, sym (c .before .changes-much .ensures) ∙ c .if1 .left)
 
 returns-2 : tie.Need-returns-2
-returns-2 c = λ past n e. c .moved-a-little .ensures (c .before .before .before .before .args .set) (now (c .before .before .before .before .args .file)) past (c .before .before .before .before .args .offset) n e
+returns-2 c = c .moved-a-little .ensures (c .before .before .before .before .args .set) (now (c .before .before .before .before .args .file)) (c .before .before .before .before .args .offset)
 
 pub moved-spec : {M : Type 1} → statement M
 moved-spec =

@@ -1,7 +1,6 @@
-use mathlib.Core.Path.{_∙_, ap}
 use native.Mathlib.Omega.{arith}
 use Rattle.standing.proofs.Laws.{one-roomy}
-use Rattle.standing.proofs.Little.{movedALittle, little-moves}
+use Rattle.standing.proofs.Little.{little-moves}
 use borrow.Author.Needs.{needs}
 use Rattle.standing.proofs.moved_a_little.Statement.{statement}
 use Rattle.standing.proofs.moved_a_little.Tie as tie
@@ -31,9 +30,9 @@ since-requires-3 : tie.Need-since-requires-3
 since-requires-3 c κs = (one-roomy (c .one-if3 .ensures .1), c .before .before .before .before .before .before .before .pre .0 .endorser)
 
 returns : tie.Need-returns
-returns c = λ set file past offset n e.
+returns c = λ set file offset.
     rw (c .before .before .before .before .since .ensures, c .before .before .since2 .ensures, c .since3 .ensures, c .before .before .before .before .before .one-if .ensures .0, c .before .before .before .one-if2 .ensures .0, c .before .one-if3 .ensures .0, c .before .before .before .before .before .before .is-addendum .ensures)
-    (ap (movedALittle (c .before .before .before .before .before .before .before .before .args .kind)) e ∙ little-moves set file past (c .before .before .before .before .before .before .before .before .args .kind) offset n (c .before .before .before .before .before .before .before .before .pre .1))
+    (little-moves set file _ (c .before .before .before .before .before .before .before .before .args .kind) offset (c .before .before .before .before .before .before .before .before .pre .1) (c .before .before .before .before .before .before .before .before .pre .2))
 
 pub moved-a-little-spec : {M : Type 1} → statement M
 moved-a-little-spec =

@@ -1,18 +1,13 @@
 use Prim.Native.Nat.{ℕ, _+_}
-use mathlib.Core.Bool.{Bool, true, false, _||_, cond}
+use mathlib.Core.Bool.{false, cond}
 use mathlib.Core.Path.{refl, _∙_, ap}
 use native.Mathlib.Nat.{lt-of-le-of-lt}
-use native.Mathlib.Numerals.{add-one}
 use native.Mathlib.Omega.{arith}
 use lib.Dec.{eqb}
-use lib.ListN.{length}
-use denote.Ref.{now}
-use Rattle.measure.specs.Measures.{records, items, cents}
+use Rattle.measure.specs.Measures.{items, cents, capped}
 use Rattle.measure.specs.declared.Sums.{Sums}
-use Rattle.order.specs.MayFollow.{isCheckOrReturn, isItem}
-use Rattle.standing.specs.History.{one, indicatorIn, signatureIn}
-use Rattle.standing.specs.Standing.{standing}
-use Rattle.standing.specs.declared.Standing.{Standing}
+use Rattle.standing.specs.History.{one}
+use Rattle.standing.specs.Standing.{onward}
 use Rattle.standing.proofs.Laws.{one-roomy, since-moves, newest-moves, sums-move, assembled}
 use borrow.Author.Needs.{needs}
 use Rattle.standing.proofs.moved_in_full.Statement.{statement}
@@ -78,8 +73,8 @@ since-requires-7 c κs = (c .before .before .before .before .before .before .bef
 since-requires-8 : tie.Need-since-requires-8
 since-requires-8 c κs = (c .before .before .before .before .before .before .before .before .before .before .before .before .before .before .before .before .before .before .before .before .pre .bundle, c .before .before .before .before .before .before .before .before .before .before .before .before .before .before .before .before .before .added-at .ensures .1)
 
-since-requires-9 : tie.Need-since-requires-9
-since-requires-9 c κs = (lt-of-le-of-lt (c .before .before .before .before .before .before .before .before .before .before .before .before .before .before .before .before .before .micr-at .ensures .1) (c .before .before .before .before .before .before .before .before .before .before .before .before .before .before .before .before .before .before .added-at .ensures .1 .debit), c .before .before .before .before .before .before .before .before .before .before .before .before .before .before .before .before .before .before .before .before .before .pre .micr)
+cents-since-requires : tie.Need-cents-since-requires
+cents-since-requires c κs = (lt-of-le-of-lt (c .before .before .before .before .before .before .before .before .before .before .before .before .before .before .before .before .before .micr-at .ensures .1) (c .before .before .before .before .before .before .before .before .before .before .before .before .before .before .before .before .before .before .added-at .ensures .1 .debit), c .before .before .before .before .before .before .before .before .before .before .before .before .before .before .before .before .before .before .before .before .before .pre .micr)
 
 is-addendum-requires : tie.Need-is-addendum-requires
 is-addendum-requires c κs = search needs
@@ -87,26 +82,26 @@ is-addendum-requires c κs = search needs
 one-if-requires-6 : tie.Need-one-if-requires-6
 one-if-requires-6 c κs = search needs
 
-since-requires-10 : tie.Need-since-requires-10
-since-requires-10 c κs = (one-roomy (c .one-if6 .ensures .1), c .before .before .before .before .before .before .before .before .before .before .before .before .before .before .before .before .before .before .before .before .before .before .before .before .pre .addenda)
+since-requires-9 : tie.Need-since-requires-9
+since-requires-9 c κs = (one-roomy (c .one-if6 .ensures .1), c .before .before .before .before .before .before .before .before .before .before .before .before .before .before .before .before .before .before .before .before .before .before .before .before .pre .addenda)
 
 one-if-requires-7 : tie.Need-one-if-requires-7
 one-if-requires-7 c κs = search needs
 
-since-requires-11 : tie.Need-since-requires-11
-since-requires-11 c κs = (one-roomy (c .one-if7 .ensures .1), c .before .before .before .before .before .before .before .before .before .before .before .before .before .before .before .before .before .before .before .before .before .before .before .before .before .before .pre .bofd)
+since-requires-10 : tie.Need-since-requires-10
+since-requires-10 c κs = (one-roomy (c .one-if7 .ensures .1), c .before .before .before .before .before .before .before .before .before .before .before .before .before .before .before .before .before .before .before .before .before .before .before .before .before .before .pre .bofd)
 
 one-if-requires-8 : tie.Need-one-if-requires-8
 one-if-requires-8 c κs = search needs
 
-since-requires-12 : tie.Need-since-requires-12
-since-requires-12 c κs = (one-roomy (c .one-if8 .ensures .1), c .before .before .before .before .before .before .before .before .before .before .before .before .before .before .before .before .before .before .before .before .before .before .before .before .before .before .before .before .pre .endorser)
+since-requires-11 : tie.Need-since-requires-11
+since-requires-11 c κs = (one-roomy (c .one-if8 .ensures .1), c .before .before .before .before .before .before .before .before .before .before .before .before .before .before .before .before .before .before .before .before .before .before .before .before .before .before .before .before .pre .endorser)
 
 one-if-requires-9 : tie.Need-one-if-requires-9
 one-if-requires-9 c κs = search needs
 
-since-requires-13 : tie.Need-since-requires-13
-since-requires-13 c κs = (one-roomy (c .one-if9 .ensures .1), c .before .before .before .before .before .before .before .before .before .before .before .before .before .before .before .before .before .before .before .before .before .before .before .before .before .before .before .before .before .before .pre .shown)
+since-requires-12 : tie.Need-since-requires-12
+since-requires-12 c κs = (one-roomy (c .one-if9 .ensures .1), c .before .before .before .before .before .before .before .before .before .before .before .before .before .before .before .before .before .before .before .before .before .before .before .before .before .before .before .before .before .before .pre .shown)
 
 stated-at-requires : tie.Need-stated-at-requires
 stated-at-requires c κs = search needs
@@ -130,32 +125,32 @@ signature-after-requires : tie.Need-signature-after-requires
 signature-after-requires c κs = search needs
 
 returns : tie.Need-returns
-unfolding standing
-returns c = λ past n e. assembled
+unfolding onward
+returns c = assembled
     refl
-    (c .before .before .before .before .before .before .before .before .before .before .before .before .before .before .before .before .before .before .before .before .before .before .before .before .before .before .before .before .before .before .before .before .before .inside-after .ensures ∙ ap (λ (o : Bool). cond (eqb (c .before .before .before .before .before .before .before .before .before .before .before .before .before .before .before .before .before .before .before .before .before .before .before .before .before .before .before .before .before .before .before .before .before .before .before .before .before .before .args .kind) 20) true (cond (eqb (c .before .before .before .before .before .before .before .before .before .before .before .before .before .before .before .before .before .before .before .before .before .before .before .before .before .before .before .before .before .before .before .before .before .before .before .before .before .before .args .kind) 70) false o)) (ap (λ (t : Standing). t .inside) e))
-    (c .before .before .before .before .before .before .before .before .before .before .before .before .before .before .before .before .before .before .before .before .before .before .before .before .before .before .before .before .before .before .before .before .present-after .ensures ∙ ap (λ (o : ℕ). cond (eqb (c .before .before .before .before .before .before .before .before .before .before .before .before .before .before .before .before .before .before .before .before .before .before .before .before .before .before .before .before .before .before .before .before .before .before .before .before .before .before .args .kind) 20) 0 (cond (isCheckOrReturn (c .before .before .before .before .before .before .before .before .before .before .before .before .before .before .before .before .before .before .before .before .before .before .before .before .before .before .before .before .before .before .before .before .before .before .before .before .before .before .args .kind)) (c .before .before .before .before .before .before .before .before .before .before .before .before .before .before .before .before .before .before .before .before .before .before .before .before .before .before .before .before .before .before .before .before .before .before .before .before .before .before .args .kind) o)) (ap (λ (t : Standing). t .present) e))
-    (c .before .before .before .before .before .before .before .before .before .before .before .before .before .before .before .before .before .before .before .before .before .before .before .before .before .before .before .before .before .before .before .holder-after .ensures ∙ ap (λ (o : ℕ). cond (eqb (c .before .before .before .before .before .before .before .before .before .before .before .before .before .before .before .before .before .before .before .before .before .before .before .before .before .before .before .before .before .before .before .before .before .before .before .before .before .before .args .kind) 10 || (eqb (c .before .before .before .before .before .before .before .before .before .before .before .before .before .before .before .before .before .before .before .before .before .before .before .before .before .before .before .before .before .before .before .before .before .before .before .before .before .before .args .kind) 20 || eqb (c .before .before .before .before .before .before .before .before .before .before .before .before .before .before .before .before .before .before .before .before .before .before .before .before .before .before .before .before .before .before .before .before .before .before .before .before .before .before .args .kind) 70)) 0 (cond (isItem (c .before .before .before .before .before .before .before .before .before .before .before .before .before .before .before .before .before .before .before .before .before .before .before .before .before .before .before .before .before .before .before .before .before .before .before .before .before .before .args .kind)) (c .before .before .before .before .before .before .before .before .before .before .before .before .before .before .before .before .before .before .before .before .before .before .before .before .before .before .before .before .before .before .before .before .before .before .before .before .before .before .args .kind) o)) (ap (λ (t : Standing). t .holder) e))
-    (ap (λ (t : Standing). records (t .records .0 + 1)) e ∙ ap records (add-one (length past)))
-    (since-moves (c .before .before .before .before .before .before .before .before .before .before .before .before .before .before .before .before .before .before .before .before .before .before .before .before .before .before .before .before .since .ensures) (refl {a = false}) (c .before .before .before .before .before .before .before .before .before .before .before .before .before .before .before .before .before .before .before .before .before .before .before .before .before .before .before .before .before .one-if .ensures .0) (ap (λ (t : Standing). t .letters) e))
-    (since-moves (c .before .before .before .before .before .before .before .before .before .before .before .before .before .before .before .before .before .before .before .before .before .before .before .before .before .before .since2 .ensures) (refl {a = false}) (c .before .before .before .before .before .before .before .before .before .before .before .before .before .before .before .before .before .before .before .before .before .before .before .before .before .before .before .one-if2 .ensures .0) (ap (λ (t : Standing). t .bundles) e))
-    (since-moves (c .before .before .before .before .before .before .before .before .before .before .before .before .before .before .before .before .before .before .before .before .before .before .before .before .since3 .ensures) (refl {a = eqb (c .before .before .before .before .before .before .before .before .before .before .before .before .before .before .before .before .before .before .before .before .before .before .before .before .before .before .before .before .before .before .before .before .before .before .before .before .before .before .args .kind) 10}) (c .before .before .before .before .before .before .before .before .before .before .before .before .before .before .before .before .before .before .before .before .before .before .before .before .before .one-if3 .ensures .0) (ap (λ (t : Standing). t .opened) e))
-    (ap items (since-moves (c .before .before .before .before .before .before .before .before .before .before .before .before .before .before .before .before .before .before .before .before .before .before .since4 .ensures) (refl {a = false}) (c .before .before .before .before .before .before .before .before .before .before .before .before .before .before .before .before .before .before .before .before .before .before .before .one-if4 .ensures .0 ∙ ap one (c .before .before .before .before .before .before .before .before .before .before .before .before .before .before .before .before .before .before .before .before .before .before .before .before .before .before .before .before .before .before .before .before .before .before .before .before .is-item .ensures)) (ap (λ (t : Standing). t .items .0) e)))
-    (since-moves (c .before .before .before .before .before .before .before .before .before .before .before .before .before .before .before .before .before .before .before .before .since5 .ensures) (refl {a = eqb (c .before .before .before .before .before .before .before .before .before .before .before .before .before .before .before .before .before .before .before .before .before .before .before .before .before .before .before .before .before .before .before .before .before .before .before .before .before .before .args .kind) 20}) (c .before .before .before .before .before .before .before .before .before .before .before .before .before .before .before .before .before .before .before .before .before .one-if5 .ensures .0 ∙ ap one (c .before .before .before .before .before .before .before .before .before .before .before .before .before .before .before .before .before .before .before .before .before .before .before .before .before .before .before .before .before .before .before .before .before .before .before .before .is-item .ensures)) (ap (λ (t : Standing). t .ordinal) e))
-    (sums-move false _ (c .before .before .before .before .before .before .before .before .before .before .before .before .before .before .before .before .before .before .before .since6 .ensures) (c .before .before .before .before .before .before .before .before .before .before .before .before .before .before .before .before .before .before .before .before .before .before .before .before .before .before .before .before .before .before .before .before .before .before .before .added-at .ensures .0) (ap (λ (t : Standing). t .whole) e))
-    (sums-move (eqb (c .before .before .before .before .before .before .before .before .before .before .before .before .before .before .before .before .before .before .before .before .before .before .before .before .before .before .before .before .before .before .before .before .before .before .before .before .before .before .args .kind) 10) _ (c .before .before .before .before .before .before .before .before .before .before .before .before .before .before .before .before .before .before .since7 .ensures) (c .before .before .before .before .before .before .before .before .before .before .before .before .before .before .before .before .before .before .before .before .before .before .before .before .before .before .before .before .before .before .before .before .before .before .before .added-at .ensures .0) (ap (λ (t : Standing). t .letter) e))
-    (sums-move (eqb (c .before .before .before .before .before .before .before .before .before .before .before .before .before .before .before .before .before .before .before .before .before .before .before .before .before .before .before .before .before .before .before .before .before .before .before .before .before .before .args .kind) 20) _ (c .before .before .before .before .before .before .before .before .before .before .before .before .before .before .before .before .before .since8 .ensures) (c .before .before .before .before .before .before .before .before .before .before .before .before .before .before .before .before .before .before .before .before .before .before .before .before .before .before .before .before .before .before .before .before .before .before .before .added-at .ensures .0) (ap (λ (t : Standing). t .bundle) e))
-    (ap cents (since-moves (c .before .before .before .before .before .before .before .before .before .before .before .before .before .before .before .before .since9 .ensures) (refl {a = eqb (c .before .before .before .before .before .before .before .before .before .before .before .before .before .before .before .before .before .before .before .before .before .before .before .before .before .before .before .before .before .before .before .before .before .before .before .before .before .before .args .kind) 20}) (c .before .before .before .before .before .before .before .before .before .before .before .before .before .before .before .before .before .before .before .before .before .before .before .before .before .before .before .before .before .before .before .before .before .before .micr-at .ensures .0) (ap (λ (t : Standing). t .micr .0) e)))
-    (since-moves (c .before .before .before .before .before .before .before .before .before .before .before .before .before .since10 .ensures) (c .before .before .before .before .before .before .before .before .before .before .before .before .before .before .before .before .before .before .before .before .before .before .before .before .before .before .before .before .before .before .before .before .before .before .before .before .is-item .ensures) (c .before .before .before .before .before .before .before .before .before .before .before .before .before .before .one-if6 .ensures .0 ∙ ap one (c .before .before .before .before .before .before .before .before .before .before .before .before .before .before .before .is-addendum .ensures)) (ap (λ (t : Standing). t .addenda) e))
-    (since-moves (c .before .before .before .before .before .before .before .before .before .before .before .since11 .ensures) (c .before .before .before .before .before .before .before .before .before .before .before .before .before .before .before .before .before .before .before .before .before .before .before .before .before .before .before .before .before .before .before .before .before .before .before .before .is-item .ensures) (c .before .before .before .before .before .before .before .before .before .before .before .before .one-if7 .ensures .0) (ap (λ (t : Standing). t .bofd) e))
-    (since-moves (c .before .before .before .before .before .before .before .before .before .since12 .ensures) (c .before .before .before .before .before .before .before .before .before .before .before .before .before .before .before .before .before .before .before .before .before .before .before .before .before .before .before .before .before .before .before .before .before .before .before .before .is-item .ensures) (c .before .before .before .before .before .before .before .before .before .before .one-if8 .ensures .0) (ap (λ (t : Standing). t .endorser) e))
-    (since-moves (c .before .before .before .before .before .before .before .since13 .ensures) (c .before .before .before .before .before .before .before .before .before .before .before .before .before .before .before .before .before .before .before .before .before .before .before .before .before .before .before .before .before .before .before .before .before .before .before .before .is-item .ensures) (c .before .before .before .before .before .before .before .before .one-if9 .ensures .0) (ap (λ (t : Standing). t .shown) e))
-    (newest-moves (c .before .before .before .before .before .newest .ensures) (c .before .before .before .before .before .before .before .before .before .before .before .before .before .before .before .before .before .before .before .before .before .before .before .before .before .before .before .before .before .before .before .before .before .before .before .before .is-item .ensures) (c .before .before .before .before .before .before .stated-at .ensures) (ap (λ (t : Standing). t .stated) e))
-    (newest-moves (c .before .before .before .before .newest2 .ensures) (c .before .before .before .before .before .before .before .before .before .before .before .before .before .before .before .before .before .before .before .before .before .before .before .before .before .before .before .before .before .before .before .before .before .before .before .before .is-item .ensures) (refl {a = c .before .before .before .before .before .before .before .before .before .before .before .before .before .before .before .before .before .before .before .before .before .before .before .before .before .before .before .before .before .before .before .before .before .before .before .before .before .before .args .offset}) (ap (λ (t : Standing). t .item) e))
-    (newest-moves (c .before .before .before .newest3 .ensures) (refl {a = eqb (c .before .before .before .before .before .before .before .before .before .before .before .before .before .before .before .before .before .before .before .before .before .before .before .before .before .before .before .before .before .before .before .before .before .before .before .before .before .before .args .kind) 20}) (refl {a = c .before .before .before .before .before .before .before .before .before .before .before .before .before .before .before .before .before .before .before .before .before .before .before .before .before .before .before .before .before .before .before .before .before .before .before .before .before .before .args .offset}) (ap (λ (t : Standing). t .header) e))
-    (newest-moves (c .before .before .newest4 .ensures) (refl {a = eqb (c .before .before .before .before .before .before .before .before .before .before .before .before .before .before .before .before .before .before .before .before .before .before .before .before .before .before .before .before .before .before .before .before .before .before .before .before .before .before .args .kind) 10}) (refl {a = c .before .before .before .before .before .before .before .before .before .before .before .before .before .before .before .before .before .before .before .before .before .before .before .before .before .before .before .before .before .before .before .before .before .before .before .before .before .before .args .offset}) (ap (λ (t : Standing). t .heading) e))
-    (newest-moves (c .before .indicator-after .ensures) (refl {a = eqb (c .before .before .before .before .before .before .before .before .before .before .before .before .before .before .before .before .before .before .before .before .before .before .before .before .before .before .before .before .before .before .before .before .before .before .before .before .before .before .args .kind) 10}) (refl {a = indicatorIn (c .before .before .before .before .before .before .before .before .before .before .before .before .before .before .before .before .before .before .before .before .before .before .before .before .before .before .before .before .before .before .before .before .before .before .before .before .before .before .args .set) (now (c .before .before .before .before .before .before .before .before .before .before .before .before .before .before .before .before .before .before .before .before .before .before .before .before .before .before .before .before .before .before .before .before .before .before .before .before .before .before .args .file)) (c .before .before .before .before .before .before .before .before .before .before .before .before .before .before .before .before .before .before .before .before .before .before .before .before .before .before .before .before .before .before .before .before .before .before .before .before .before .before .args .offset)}) (ap (λ (t : Standing). t .indicator) e))
-    (newest-moves (c .signature-after .ensures) (refl {a = eqb (c .before .before .before .before .before .before .before .before .before .before .before .before .before .before .before .before .before .before .before .before .before .before .before .before .before .before .before .before .before .before .before .before .before .before .before .before .before .before .args .kind) 50}) (refl {a = signatureIn (c .before .before .before .before .before .before .before .before .before .before .before .before .before .before .before .before .before .before .before .before .before .before .before .before .before .before .before .before .before .before .before .before .before .before .before .before .before .before .args .set) (now (c .before .before .before .before .before .before .before .before .before .before .before .before .before .before .before .before .before .before .before .before .before .before .before .before .before .before .before .before .before .before .before .before .before .before .before .before .before .before .args .file)) (c .before .before .before .before .before .before .before .before .before .before .before .before .before .before .before .before .before .before .before .before .before .before .before .before .before .before .before .before .before .before .before .before .before .before .before .before .before .before .args .offset)}) (ap (λ (t : Standing). t .signature) e))
+    (c .before .before .before .before .before .before .before .before .before .before .before .before .before .before .before .before .before .before .before .before .before .before .before .before .before .before .before .before .before .before .before .before .before .inside-after .ensures)
+    (c .before .before .before .before .before .before .before .before .before .before .before .before .before .before .before .before .before .before .before .before .before .before .before .before .before .before .before .before .before .before .before .before .present-after .ensures)
+    (c .before .before .before .before .before .before .before .before .before .before .before .before .before .before .before .before .before .before .before .before .before .before .before .before .before .before .before .before .before .before .before .holder-after .ensures)
+    refl
+    (since-moves (c .before .before .before .before .before .before .before .before .before .before .before .before .before .before .before .before .before .before .before .before .before .before .before .before .before .before .before .before .before .before .before .before .before .before .before .before .before .before .args .s .letters) (c .before .before .before .before .before .before .before .before .before .before .before .before .before .before .before .before .before .before .before .before .before .before .before .before .before .before .before .before .since .ensures) (refl {a = false}) (c .before .before .before .before .before .before .before .before .before .before .before .before .before .before .before .before .before .before .before .before .before .before .before .before .before .before .before .before .before .one-if .ensures .0))
+    (since-moves (c .before .before .before .before .before .before .before .before .before .before .before .before .before .before .before .before .before .before .before .before .before .before .before .before .before .before .before .before .before .before .before .before .before .before .before .before .before .before .args .s .bundles) (c .before .before .before .before .before .before .before .before .before .before .before .before .before .before .before .before .before .before .before .before .before .before .before .before .before .before .since2 .ensures) (refl {a = false}) (c .before .before .before .before .before .before .before .before .before .before .before .before .before .before .before .before .before .before .before .before .before .before .before .before .before .before .before .one-if2 .ensures .0))
+    (since-moves (c .before .before .before .before .before .before .before .before .before .before .before .before .before .before .before .before .before .before .before .before .before .before .before .before .before .before .before .before .before .before .before .before .before .before .before .before .before .before .args .s .opened) (c .before .before .before .before .before .before .before .before .before .before .before .before .before .before .before .before .before .before .before .before .before .before .before .before .since3 .ensures) (refl {a = eqb (c .before .before .before .before .before .before .before .before .before .before .before .before .before .before .before .before .before .before .before .before .before .before .before .before .before .before .before .before .before .before .before .before .before .before .before .before .before .before .args .kind) 10}) (c .before .before .before .before .before .before .before .before .before .before .before .before .before .before .before .before .before .before .before .before .before .before .before .before .before .one-if3 .ensures .0))
+    (ap items (since-moves (c .before .before .before .before .before .before .before .before .before .before .before .before .before .before .before .before .before .before .before .before .before .before .before .before .before .before .before .before .before .before .before .before .before .before .before .before .before .before .args .s .items .0) (c .before .before .before .before .before .before .before .before .before .before .before .before .before .before .before .before .before .before .before .before .before .before .since4 .ensures) (refl {a = false}) (c .before .before .before .before .before .before .before .before .before .before .before .before .before .before .before .before .before .before .before .before .before .before .before .one-if4 .ensures .0 ∙ ap one (c .before .before .before .before .before .before .before .before .before .before .before .before .before .before .before .before .before .before .before .before .before .before .before .before .before .before .before .before .before .before .before .before .before .before .before .before .is-item .ensures))))
+    (since-moves (c .before .before .before .before .before .before .before .before .before .before .before .before .before .before .before .before .before .before .before .before .before .before .before .before .before .before .before .before .before .before .before .before .before .before .before .before .before .before .args .s .ordinal) (c .before .before .before .before .before .before .before .before .before .before .before .before .before .before .before .before .before .before .before .before .since5 .ensures) (refl {a = eqb (c .before .before .before .before .before .before .before .before .before .before .before .before .before .before .before .before .before .before .before .before .before .before .before .before .before .before .before .before .before .before .before .before .before .before .before .before .before .before .args .kind) 20}) (c .before .before .before .before .before .before .before .before .before .before .before .before .before .before .before .before .before .before .before .before .before .one-if5 .ensures .0 ∙ ap one (c .before .before .before .before .before .before .before .before .before .before .before .before .before .before .before .before .before .before .before .before .before .before .before .before .before .before .before .before .before .before .before .before .before .before .before .before .is-item .ensures)))
+    (sums-move false (c .before .before .before .before .before .before .before .before .before .before .before .before .before .before .before .before .before .before .before .before .before .before .before .before .before .before .before .before .before .before .before .before .before .before .before .before .before .before .args .s .whole) (c .before .before .before .before .before .before .before .before .before .before .before .before .before .before .before .before .before .before .before .since6 .ensures) (c .before .before .before .before .before .before .before .before .before .before .before .before .before .before .before .before .before .before .before .before .before .before .before .before .before .before .before .before .before .before .before .before .before .before .before .added-at .ensures .0))
+    (sums-move (eqb (c .before .before .before .before .before .before .before .before .before .before .before .before .before .before .before .before .before .before .before .before .before .before .before .before .before .before .before .before .before .before .before .before .before .before .before .before .before .before .args .kind) 10) (c .before .before .before .before .before .before .before .before .before .before .before .before .before .before .before .before .before .before .before .before .before .before .before .before .before .before .before .before .before .before .before .before .before .before .before .before .before .before .args .s .letter) (c .before .before .before .before .before .before .before .before .before .before .before .before .before .before .before .before .before .before .since7 .ensures) (c .before .before .before .before .before .before .before .before .before .before .before .before .before .before .before .before .before .before .before .before .before .before .before .before .before .before .before .before .before .before .before .before .before .before .before .added-at .ensures .0))
+    (sums-move (eqb (c .before .before .before .before .before .before .before .before .before .before .before .before .before .before .before .before .before .before .before .before .before .before .before .before .before .before .before .before .before .before .before .before .before .before .before .before .before .before .args .kind) 20) (c .before .before .before .before .before .before .before .before .before .before .before .before .before .before .before .before .before .before .before .before .before .before .before .before .before .before .before .before .before .before .before .before .before .before .before .before .before .before .args .s .bundle) (c .before .before .before .before .before .before .before .before .before .before .before .before .before .before .before .before .before .since8 .ensures) (c .before .before .before .before .before .before .before .before .before .before .before .before .before .before .before .before .before .before .before .before .before .before .before .before .before .before .before .before .before .before .before .before .before .before .before .added-at .ensures .0))
+    (c .before .before .before .before .before .before .before .before .before .before .before .before .before .before .before .before .cents-since .ensures ∙ ap (λ (m : ℕ). cents (capped (cond (eqb (c .before .before .before .before .before .before .before .before .before .before .before .before .before .before .before .before .before .before .before .before .before .before .before .before .before .before .before .before .before .before .before .before .before .before .before .before .before .before .args .kind) 20) 0 (m + c .before .before .before .before .before .before .before .before .before .before .before .before .before .before .before .before .before .before .before .before .before .before .before .before .before .before .before .before .before .before .before .before .before .before .before .before .before .before .args .s .micr .0)))) (c .before .before .before .before .before .before .before .before .before .before .before .before .before .before .before .before .before .before .before .before .before .before .before .before .before .before .before .before .before .before .before .before .before .before .micr-at .ensures .0))
+    (since-moves (c .before .before .before .before .before .before .before .before .before .before .before .before .before .before .before .before .before .before .before .before .before .before .before .before .before .before .before .before .before .before .before .before .before .before .before .before .before .before .args .s .addenda) (c .before .before .before .before .before .before .before .before .before .before .before .before .before .since9 .ensures) (c .before .before .before .before .before .before .before .before .before .before .before .before .before .before .before .before .before .before .before .before .before .before .before .before .before .before .before .before .before .before .before .before .before .before .before .before .is-item .ensures) (c .before .before .before .before .before .before .before .before .before .before .before .before .before .before .one-if6 .ensures .0 ∙ ap one (c .before .before .before .before .before .before .before .before .before .before .before .before .before .before .before .is-addendum .ensures)))
+    (since-moves (c .before .before .before .before .before .before .before .before .before .before .before .before .before .before .before .before .before .before .before .before .before .before .before .before .before .before .before .before .before .before .before .before .before .before .before .before .before .before .args .s .bofd) (c .before .before .before .before .before .before .before .before .before .before .before .since10 .ensures) (c .before .before .before .before .before .before .before .before .before .before .before .before .before .before .before .before .before .before .before .before .before .before .before .before .before .before .before .before .before .before .before .before .before .before .before .before .is-item .ensures) (c .before .before .before .before .before .before .before .before .before .before .before .before .one-if7 .ensures .0))
+    (since-moves (c .before .before .before .before .before .before .before .before .before .before .before .before .before .before .before .before .before .before .before .before .before .before .before .before .before .before .before .before .before .before .before .before .before .before .before .before .before .before .args .s .endorser) (c .before .before .before .before .before .before .before .before .before .since11 .ensures) (c .before .before .before .before .before .before .before .before .before .before .before .before .before .before .before .before .before .before .before .before .before .before .before .before .before .before .before .before .before .before .before .before .before .before .before .before .is-item .ensures) (c .before .before .before .before .before .before .before .before .before .before .one-if8 .ensures .0))
+    (since-moves (c .before .before .before .before .before .before .before .before .before .before .before .before .before .before .before .before .before .before .before .before .before .before .before .before .before .before .before .before .before .before .before .before .before .before .before .before .before .before .args .s .shown) (c .before .before .before .before .before .before .before .since12 .ensures) (c .before .before .before .before .before .before .before .before .before .before .before .before .before .before .before .before .before .before .before .before .before .before .before .before .before .before .before .before .before .before .before .before .before .before .before .before .is-item .ensures) (c .before .before .before .before .before .before .before .before .one-if9 .ensures .0))
+    (newest-moves (c .before .before .before .before .before .before .before .before .before .before .before .before .before .before .before .before .before .before .before .before .before .before .before .before .before .before .before .before .before .before .before .before .before .before .before .before .before .before .args .s .stated) (c .before .before .before .before .before .newest .ensures) (c .before .before .before .before .before .before .before .before .before .before .before .before .before .before .before .before .before .before .before .before .before .before .before .before .before .before .before .before .before .before .before .before .before .before .before .before .is-item .ensures) (c .before .before .before .before .before .before .stated-at .ensures))
+    (newest-moves (c .before .before .before .before .before .before .before .before .before .before .before .before .before .before .before .before .before .before .before .before .before .before .before .before .before .before .before .before .before .before .before .before .before .before .before .before .before .before .args .s .item) (c .before .before .before .before .newest2 .ensures) (c .before .before .before .before .before .before .before .before .before .before .before .before .before .before .before .before .before .before .before .before .before .before .before .before .before .before .before .before .before .before .before .before .before .before .before .before .is-item .ensures) (refl {a = c .before .before .before .before .before .before .before .before .before .before .before .before .before .before .before .before .before .before .before .before .before .before .before .before .before .before .before .before .before .before .before .before .before .before .before .before .before .before .args .offset}))
+    (c .before .before .before .newest3 .ensures)
+    (c .before .before .newest4 .ensures)
+    (c .before .indicator-after .ensures)
+    (c .signature-after .ensures)
 
 pub moved-in-full-spec : {M : Type 1} → statement M
 moved-in-full-spec =
@@ -181,16 +176,16 @@ moved-in-full-spec =
     since-requires-6
     since-requires-7
     since-requires-8
-    since-requires-9
+    cents-since-requires
     is-addendum-requires
     one-if-requires-6
-    since-requires-10
+    since-requires-9
     one-if-requires-7
-    since-requires-11
+    since-requires-10
     one-if-requires-8
-    since-requires-12
+    since-requires-11
     one-if-requires-9
-    since-requires-13
+    since-requires-12
     stated-at-requires
     newest-requires
     newest-requires-2

@@ -1,0 +1,2 @@
+pub mod CappedOutcome
+pub mod JudgedRow
