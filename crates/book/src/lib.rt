@@ -138,14 +138,14 @@ fn is_book(book: &[u64]) -> bool
 }
 
 // Whether a file number stands in one of so many rows.
-fn is_taken(book: &[u64], claimed: u64, file_number: u64) -> bool
+fn is_taken(book: &[u64], claimed: u64, number: u64) -> bool
     requires { ⌜ claimed ≤ rowsThere (now book) ⌝ }
-    ensures { λ r. ⌜ r ≡ isTaken file_number (entriesFrom (now (book .entry)) claimed 17) ⌝ }
+    ensures { λ r. ⌜ r ≡ isTaken number (entriesFrom (now (book .entry)) claimed 17) ⌝ }
 {
     let mut at: usize = 17;
     let mut rows = claimed;
     while 0 < rows {
-        if book[at + 2] == file_number {
+        if book[at + 2] == number {
             return true;
         }
         at += 9;
@@ -155,14 +155,14 @@ fn is_taken(book: &[u64], claimed: u64, file_number: u64) -> bool
 }
 
 // The first of so many rows that has the entry number.
-fn first_numbered(book: &[u64], claimed: u64, entry_number: u64) -> Finding
+fn first_numbered(book: &[u64], claimed: u64, number: u64) -> Finding
     requires { ⌜ claimed ≤ rowsThere (now book) ⌝ }
-    ensures { λ r. ⌜ r ≡ finding (entriesFrom (now (book .entry)) claimed 17) entry_number ⌝ }
+    ensures { λ r. ⌜ r ≡ finding (entriesFrom (now (book .entry)) claimed 17) number ⌝ }
 {
     let mut at: usize = 17;
     let mut rows = claimed;
     while 0 < rows {
-        if book[at + 1] == entry_number {
+        if book[at + 1] == number {
             return Finding::Found(entry_at(book, at));
         }
         at += 9;
@@ -172,13 +172,13 @@ fn first_numbered(book: &[u64], claimed: u64, entry_number: u64) -> Finding
 }
 
 // Looking up an entry: any table gets its answer.
-pub fn find(book: &[u64], entry_number: u64) -> Finding
-    ensures { λ r. ⌜ r ≡ findAnswer (now (book .entry)) entry_number ⌝ }
+pub fn find(book: &[u64], number: u64) -> Finding
+    ensures { λ r. ⌜ r ≡ findAnswer (now (book .entry)) number ⌝ }
 {
     if !is_book(book) {
         return Finding::Refused(Fault::Book);
     }
-    first_numbered(book, number_at(book, 0), entry_number)
+    first_numbered(book, number_at(book, 0), number)
 }
 
 // The running totals, which stand in the head.
@@ -217,15 +217,15 @@ fn put_row(book: &mut [u64], at: usize, e: Entry)
 }
 
 // A row for each cash letter of an accepted file, from a place on, numbered on from a number.
-fn put_letters(file: &[u8], file_number: u64, last: u64, book: &mut [u64], base: usize)
+fn put_letters(file: &[u8], number: u64, last: u64, book: &mut [u64], base: usize)
     requires { ⌜ (length (now file) ≤ 268_435_456) × (base + 9 * length (lettersOf (now file)) ≤ length (now book)) × (last + length (lettersOf (now file)) < 0x1_0000_0000_0000_0000) ⌝ }
-    ensures { λ _. ⌜ now (book .exit) ≡ sets (now (book .entry)) base (rowsOf (entriesOn last file_number (lettersOf (now (file .entry))))) ⌝ }
+    ensures { λ _. ⌜ now (book .exit) ≡ sets (now (book .entry)) base (rowsOf (entriesOn last number (lettersOf (now (file .entry))))) ⌝ }
 {
     let set = text::set_of(file);
     let mut s = Standing::start();
     let mut at: usize = 0;
     let mut place = base;
-    let mut number = last;
+    let mut given = last;
     while at < file.len() {
         match Cursor::at(at).frame(file) {
             Frame::Cut => {
@@ -240,10 +240,10 @@ fn put_letters(file: &[u8], file_number: u64, last: u64, book: &mut [u64], base:
                         bundles: s.opened,
                         sums,
                     };
-                    number += 1;
+                    given += 1;
                     let e = Entry {
-                        number,
-                        file: file_number,
+                        number: given,
+                        file: number,
                         figures,
                     };
                     put_row(book, place, e);
@@ -281,22 +281,22 @@ fn raise_head(book: &mut [u64], letters: u64, added: Figures)
 // A file that the reader accepts with the row table that is lent, so many rows for so many records.
 fn enter_accepted(
     file: &[u8],
-    file_number: u64,
+    number: u64,
     totals: Totals,
     table: &mut [u64],
     book: &mut [u64],
 ) -> Entering
     requires { ⌜ (isBook (now book) ≡ true) × (surveyed (now file) ≡ Accepted totals) × (length (rowsOfFile (now file)) ≡ 7 * totals .records .0) ⌝ }
-    ensures answer { λ r. ⌜ r ≡ enterAnswer (now (file .entry)) file_number (length (now (table .entry))) (now (book .entry)) ⌝ }
+    ensures answer { λ r. ⌜ r ≡ enterAnswer (now (file .entry)) number (length (now (table .entry))) (now (book .entry)) ⌝ }
     ensures rows { λ r. ⌜ now (table .exit) ≡ rowsAfter (now (file .entry)) (now (table .entry)) r ⌝ }
-    ensures book { λ r. ⌜ now (book .exit) ≡ bookAfter (now (file .entry)) file_number (now (book .entry)) r ⌝ }
+    ensures book { λ r. ⌜ now (book .exit) ≡ bookAfter (now (file .entry)) number (now (book .entry)) r ⌝ }
 {
     let needed = totals.records.0;
     if (table.len() as u64) / 7 < needed {
         return Entering::Refused(Fault::Room, needed, 0);
     }
     let claimed = number_at(book, 0);
-    if is_taken(book, claimed, file_number) {
+    if is_taken(book, claimed, number) {
         return Entering::Refused(Fault::Duplicate, 0, 0);
     }
     let letters = totals.letters;
@@ -310,16 +310,16 @@ fn enter_accepted(
     }
     let last = number_at(book, 1);
     passes::fill(file, table);
-    put_letters(file, file_number, last, book, 17 + 9 * (claimed as usize));
+    put_letters(file, number, last, book, 17 + 9 * (claimed as usize));
     raise_head(book, letters, added);
     Entering::Entered(last + 1, totals)
 }
 
-// Entering a file: its letters join the book, and its rows fill the row table, or nothing changes. Any file, table and book get their answer.
-pub fn enter(file: &[u8], file_number: u64, table: &mut [u64], book: &mut [u64]) -> Entering
-    ensures answer { λ r. ⌜ r ≡ enterAnswer (now (file .entry)) file_number (length (now (table .entry))) (now (book .entry)) ⌝ }
+// Entering a file under the caller's number for it: its letters join the book, and its rows fill the row table, or nothing changes. Any file, table and book get their answer.
+pub fn enter(file: &[u8], number: u64, table: &mut [u64], book: &mut [u64]) -> Entering
+    ensures answer { λ r. ⌜ r ≡ enterAnswer (now (file .entry)) number (length (now (table .entry))) (now (book .entry)) ⌝ }
     ensures rows { λ r. ⌜ now (table .exit) ≡ rowsAfter (now (file .entry)) (now (table .entry)) r ⌝ }
-    ensures book { λ r. ⌜ now (book .exit) ≡ bookAfter (now (file .entry)) file_number (now (book .entry)) r ⌝ }
+    ensures book { λ r. ⌜ now (book .exit) ≡ bookAfter (now (file .entry)) number (now (book .entry)) r ⌝ }
     ensures own { λ _. ⌜ LettersOwn (now (file .entry)) ⌝ }
 {
     if !is_book(book) {
@@ -327,6 +327,6 @@ pub fn enter(file: &[u8], file_number: u64, table: &mut [u64], book: &mut [u64])
     }
     match passes::survey(file) {
         Answer::Refused(fault, place, offset) => Entering::Refused(fault, place, offset),
-        Answer::Accepted(totals) => enter_accepted(file, file_number, totals, table, book),
+        Answer::Accepted(totals) => enter_accepted(file, number, totals, table, book),
     }
 }

@@ -118,21 +118,10 @@ impl Figures {
     }
 }
 
-// Running totals are updated where they stand.
-pub fn add(totals: &mut Figures, more: Figures)
-    requires { ⌜ fits (plus (now totals) more) ≡ true ⌝ }
-    ensures { λ _. ⌜ now (totals .exit) ≡ plus (now (totals .entry)) more ⌝ }
-{
-    let before = *totals;
-    *totals = before.with(more);
-}
-
 // For callers that hold the totals by value.
 pub fn raised(totals: Figures, more: Figures) -> Figures
     requires { ⌜ fits (plus totals more) ≡ true ⌝ }
     ensures { λ r. ⌜ r ≡ plus totals more ⌝ }
 {
-    let mut running = totals;
-    add(&mut running, more);
-    running
+    totals.with(more)
 }
