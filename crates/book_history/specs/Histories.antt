@@ -53,15 +53,15 @@ plainThen b (find n) = b
 plainThen b totals = b
 
 -- one call after the other
-pub replies : List ℕ → List Call → List Reply
+abbrev pub replies : List ℕ → List Call → List Reply
 replies book [] = []
 replies book (c ∷ cs) = reply book c ∷ replies (bookThen book c) cs
 
-pub plainReplies : PlainList → List Call → List Reply
+abbrev pub plainReplies : PlainList → List Call → List Reply
 plainReplies b [] = []
 plainReplies b (c ∷ cs) = plainReply b c ∷ plainReplies (plainThen b c) cs
 
-pub plainAfter : PlainList → List Call → PlainList
+abbrev pub plainAfter : PlainList → List Call → PlainList
 plainAfter b [] = b
 plainAfter b (c ∷ cs) = plainAfter (plainThen b c) cs
 
