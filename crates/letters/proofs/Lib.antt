@@ -1,0 +1,4 @@
+pub mod Steps
+pub mod OfRecords
+pub mod WithinLetter
+pub mod LettersAgree
