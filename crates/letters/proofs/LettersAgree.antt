@@ -12,10 +12,10 @@ use Rattle.file_as_records.specs.Framed.{Body}
 use Rattle.file_as_records.proofs.Figures.{sumSince, count, is, debitAs, creditAs, openedIn}
 use Rattle.file_as_records.proofs.Held.{over, sumsOver}
 use Rattle.arrangement.specs.Tree.{CashLetter, File}
-use Rattle.arrangement.specs.Written.{contentsThen, letterThen, lettersThen, records}
+use Rattle.arrangement.specs.Written.{letterThen, lettersThen, records}
 use Rattle.arrangement.specs.Sound.{All, SoundLetter, Sound}
 use Rattle.arrangement.specs.TypesInPlace.{OfType, TypedLetter, Typed}
-use Rattle.arrangement.proofs.After.{afterContents, afterLetter, afterLetters}
+use Rattle.arrangement.proofs.After.{afterContents, afterLetter}
 use Rattle.arrangement.proofs.Counting.{adding}
 use Rattle.arrangement.proofs.Levels.{debitOne, creditOne, letter-figures}
 use Rattle.arrangement.proofs.Quiet.{Quiet, quiet-step}
