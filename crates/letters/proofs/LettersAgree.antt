@@ -5,7 +5,7 @@ use mathlib.Core.Path.{_≡_, refl, ap, ap₂, _∙_}
 use mathlib.Core.List.{List, [], _∷_, map}
 use Rattle.text.specs.declared.character_set.CharacterSet.{CharacterSet}
 use Rattle.layout.specs.Layouts.{cashLetterControl}
-use Rattle.measure.specs.Measures.{capped, cappedSums}
+use Rattle.measure.specs.Measures.{cappedSums}
 use Rattle.figures.specs.declared.Figures.{Figures}
 use Rattle.figures.specs.Figures.{figures}
 use Rattle.file_as_records.specs.Framed.{Body}
