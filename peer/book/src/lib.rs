@@ -5,6 +5,7 @@ pub mod call;
 pub mod files;
 pub mod generate;
 pub mod grow;
+pub mod later;
 pub mod layout;
 pub mod list;
 pub mod opinion;

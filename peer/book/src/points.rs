@@ -7,11 +7,12 @@ use peer_reader::descent::Row;
 
 use crate::call::{Call, History, Kind, Outcome, KINDS};
 use crate::files::{read_number, short_tables, REFUSALS};
+use crate::later::{self, GROWN, LATER};
 use crate::layout::{
-    head, row_start, rows_there, ACCEPTED, BOOK, CLAIMED, DUPLICATE, FIGURES, FILE_NUMBER, FULL, HEAD, LAST, MARK,
-    NOENTRY, NUMBER, ROOM, SIX, TOTALS, WIDTH, WRITTEN_MARK,
+    head, row_start, rows_there, Figures, ACCEPTED, BOOK, CLAIMED, DUPLICATE, FIGURES, FILE_NUMBER, FULL, HEAD, LAST,
+    MARK, NOENTRY, NUMBER, ROOM, SIX, TOTALS, WIDTH, WRITTEN_MARK,
 };
-use crate::paper::Paper;
+use crate::paper::{sums, Paper};
 use crate::put::Seen;
 use crate::tamper::{ordered_pairs, CAUSES, CAUSE_LAST, CAUSE_ROWS, SHORT};
 
@@ -87,10 +88,7 @@ impl Tally {
 
     /// Notes what a whole history shows.
     pub fn note_history(&mut self, history: &History, outcomes: &[Outcome]) {
-        if is_grown(history) {
-            self.meet(grown(history, outcomes));
-            self.meet(later(history, outcomes));
-        }
+        self.meet(later::shown(history, outcomes));
     }
 
     /// The points of a whole run that were not met.
@@ -115,7 +113,7 @@ impl Tally {
 }
 
 /// The points of the names that hold.
-fn named<const COUNT: usize>(
+pub fn named<const COUNT: usize>(
     names: [&'static str; COUNT],
     holds: [bool; COUNT],
     point: impl Fn(&'static str) -> Point,
@@ -337,13 +335,13 @@ fn grown_to(look: &Looked, place: usize, more: u128) -> u128 {
     u128::from(look.head(place)) + more
 }
 
-/// What each of the causes of FULL is about: how much there is before, how much comes, and how much there may be.
-fn measured(look: &Looked, cause: usize, letters: &[crate::layout::Figures]) -> (u128, u128) {
+/// What a cause of FULL is about: how much there would be with these letters, and how much there may be.
+fn measured(look: &Looked, cause: usize, letters: &[Figures]) -> (u128, u128) {
     let most = u128::from(u64::MAX);
     match cause {
         CAUSE_ROWS => (look.rows.len() as u128 + letters.len() as u128, look.there as u128),
         CAUSE_LAST => (grown_to(look, LAST, letters.len() as u128), most),
-        _ => (grown_to(look, TOTALS + cause - 1, crate::paper::sums(letters)[cause - 1]), most),
+        _ => (grown_to(look, TOTALS + cause - 1, sums(letters)[cause - 1]), most),
     }
 }
 
@@ -531,98 +529,6 @@ fn totals(look: &Looked) -> Vec<Point> {
     let brim = (0..SIX).filter(|figure| rows > 1 && look.head(TOTALS + figure) == u64::MAX);
     points.extend(brim.map(Point::Brim));
     points
-}
-
-/// A history on an empty book.
-fn is_grown(history: &History) -> bool {
-    history.book.iter().take(TOTALS + SIX).all(|number| *number == 0)
-}
-
-const GROWN: [&str; 8] = [
-    "no whole head",
-    "a head and no row",
-    "one row",
-    "100 rows or more",
-    "zeros",
-    "something where nothing is looked at",
-    "50 calls or more",
-    "40 entries or more",
-];
-
-fn grown(history: &History, outcomes: &[Outcome]) -> Vec<Point> {
-    let (length, rows) = (history.book.len(), rows_there(history.book.len()));
-    let entries = outcomes.iter().zip(&history.calls).filter(|(outcome, call)| entered_by(outcome, call));
-    let letters: u64 = entries.map(|(outcome, _)| outcome.answer[5]).sum();
-    let zeros = history.book.iter().all(|number| *number == 0);
-    let holds = [
-        length < HEAD,
-        (HEAD..HEAD + WIDTH).contains(&length),
-        rows == 1,
-        rows >= 100,
-        zeros && rows > 0,
-        !zeros && rows > 0,
-        history.calls.len() >= 50,
-        letters >= 40,
-    ];
-    named(GROWN, holds, Point::Grown)
-}
-
-fn entered_by(outcome: &Outcome, call: &Call) -> bool {
-    call.kind() == Kind::Enter && outcome.returned == ACCEPTED
-}
-
-const LATER: [&str; 9] = [
-    "a number refused as FULL, entered",
-    "a number refused by the reader, entered",
-    "a number refused for ROOM, entered",
-    "FULL, and fewer letters entered",
-    "an entry found the same after more files",
-    "totals after two files",
-    "a file entered under two numbers",
-    "DUPLICATE for the same file",
-    "DUPLICATE for another file",
-];
-
-/// What a call shows that comes after others.
-fn later(history: &History, outcomes: &[Outcome]) -> Vec<Point> {
-    let enters: Vec<(usize, usize, u64, u64)> = history
-        .calls
-        .iter()
-        .enumerate()
-        .filter_map(|(at, call)| match *call {
-            Call::Enter { paper, file_number, .. } => Some((at, paper, file_number, outcomes[at].returned)),
-            _ => None,
-        })
-        .collect();
-    let pair = |holds: &dyn Fn((usize, u64, u64), (usize, u64, u64)) -> bool| {
-        enters.iter().any(|(at, paper, file_number, number)| {
-            let before = enters.iter().filter(|earlier| earlier.0 < *at);
-            before.into_iter().any(|earlier| holds((earlier.1, earlier.2, earlier.3), (*paper, *file_number, *number)))
-        })
-    };
-    let letters = |paper: usize| history.papers[paper].letters.len();
-    let refused_before =
-        |why: &dyn Fn(u64) -> bool| pair(&|one, two| why(one.2) && two.2 == ACCEPTED && one.1 == two.1);
-    let same_entry = history.calls.iter().enumerate().any(|(at, call)| {
-        let Call::Find { .. } = call else { return false };
-        let more = |from: usize| enters.iter().any(|enter| enter.0 > from && enter.0 < at && enter.3 == ACCEPTED);
-        outcomes[at].returned == ACCEPTED
-            && (0..at).any(|from| history.calls[from] == *call && outcomes[from] == outcomes[at] && more(from))
-    });
-    let totals_at = history.calls.iter().rposition(|call| *call == Call::Totals).unwrap_or(0);
-    let files = enters.iter().filter(|enter| enter.0 < totals_at && enter.3 == ACCEPTED).count();
-    let holds = [
-        refused_before(&|number| number == FULL),
-        refused_before(&|number| REFUSALS.contains(&number)),
-        refused_before(&|number| number == ROOM),
-        pair(&|one, two| one.2 == FULL && two.2 == ACCEPTED && letters(two.0) < letters(one.0)),
-        same_entry,
-        files >= 2,
-        pair(&|one, two| one.2 == ACCEPTED && two.2 == ACCEPTED && one.0 == two.0),
-        pair(&|one, two| one.2 == ACCEPTED && two.2 == DUPLICATE && one.1 == two.1 && one.0 == two.0),
-        pair(&|one, two| one.2 == ACCEPTED && two.2 == DUPLICATE && one.1 == two.1 && one.0 != two.0),
-    ];
-    named(LATER, holds, Point::Later)
 }
 
 /// The numbers that each call can give.

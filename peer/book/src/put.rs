@@ -79,7 +79,7 @@ fn one_call(
     side: &dyn Side,
     history: &History,
     call: &Call,
-    book: &mut Vec<u64>,
+    book: &mut [u64],
     random: &mut Random,
 ) -> Result<Outcome, String> {
     let start = random.draw();

@@ -61,7 +61,7 @@ pub fn split(random: &mut Random, sum: u64, count: usize) -> Vec<u64> {
         let part = match random.below(3) {
             0 => left / 2,
             1 => left.min(random.below(1000) as u64),
-            _ => (u128::from(random.draw()) * (u128::from(left) + 1) >> 64) as u64,
+            _ => ((u128::from(random.draw()) * (u128::from(left) + 1)) >> 64) as u64,
         };
         parts.push(part);
         left -= part;

@@ -260,7 +260,7 @@ pub fn duplicate(random: &mut Random, turn: usize) -> History {
     let row = if rows == 1 { 0 } else { of_three(random, rows, turn % 4) };
     let number = [0, u64::MAX, 1 + random.draw() % 1_000_000][turn / 4 % 3];
     sheet.rows[row][FILE_NUMBER] = number;
-    sheet.rows[row][MARK] = if turn / 12 % 2 == 0 { 1 } else { another(random, 1) };
+    sheet.rows[row][MARK] = if (turn / 12).is_multiple_of(2) { 1 } else { another(random, 1) };
     let paper = sound_paper(random, (1, 2));
     entering(random, "duplicate", &sheet, sheet.lay(), paper, Some(number))
 }
@@ -311,9 +311,10 @@ pub fn find(random: &mut Random, turn: usize) -> History {
     let row = if rows == 1 { 0 } else { of_three(random, rows, turn % 4) };
     let number = [0, u64::MAX, 1_000 + random.draw() % 1_000_000][turn / 4 % 3];
     sheet.rows[row][NUMBER] = number;
-    sheet.rows[row][MARK] = if turn / 12 % 2 == 0 { 1 } else { another(random, 1) };
-    if row + 1 < rows && turn / 12 % 3 > 0 {
-        let second = [row + 1, rows - 1][turn / 12 % 3 - 1];
+    sheet.rows[row][MARK] = if (turn / 12).is_multiple_of(2) { 1 } else { another(random, 1) };
+    if row + 1 < rows {
+        // Alone, or again in the next row, or in the last.
+        let second = [row, row + 1, rows - 1][turn / 12 % 3];
         sheet.rows[second][NUMBER] = number;
     }
     finding(random, "find", &sheet, number)
@@ -323,7 +324,7 @@ pub fn find(random: &mut Random, turn: usize) -> History {
 pub const ABSENT: usize = 8;
 
 pub fn not_found(random: &mut Random, turn: usize) -> History {
-    let rows = if turn % ABSENT == 0 { (0, 0) } else { (2, 5) };
+    let rows = if turn.is_multiple_of(ABSENT) { (0, 0) } else { (2, 5) };
     let mut sheet = sound_sheet(random, rows);
     sheet.number_plainly();
     let number = match turn % ABSENT {

@@ -205,8 +205,7 @@ impl Wrong {
         let by_reader = (read, read > 0 && read != ROOM);
         let for_room = (read, read == ROOM);
         let duplicate = (DUPLICATE, self.is_duplicate(book, file_number));
-        let full = (FULL, read == ROOM || read == 0).0;
-        let full = (full, (read == ROOM || read == 0) && self.is_full(paper, book));
+        let full = (FULL, (read == ROOM || read == ACCEPTED) && self.is_full(paper, book));
         let order = match self.0 {
             Slip::ReaderBeforeBook => [by_reader, no_book, for_room, duplicate, full],
             Slip::RoomBeforeBook => [for_room, no_book, by_reader, duplicate, full],
@@ -316,8 +315,9 @@ impl Side for Wrong {
             _ => (0..claimed).find(having),
         };
         let mut answer = [0; FIND_ANSWER];
+        let absent_first = self.is(Slip::FindBeforeBook) && found.is_none();
         match found {
-            _ if !self.is_book(book) && !(self.is(Slip::FindBeforeBook) && found.is_none()) => answer[0] = BOOK,
+            _ if !absent_first && !self.is_book(book) => answer[0] = BOOK,
             None => answer[0] = NOENTRY,
             Some(row) => (1..WIDTH).for_each(|column| answer[column] = self.cell(book, row, column)),
         }
