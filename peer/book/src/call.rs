@@ -2,7 +2,6 @@
 //! Requests 8 to 10 come in here: an owner is one more field of a call, withdrawal and tidy-up are two more calls, the second list is one more
 //! thing lent.
 
-use crate::layout::{ENTER_ANSWER, FIND_ANSWER, TOTALS_ANSWER};
 use crate::paper::Paper;
 use crate::{opinion, table};
 
@@ -102,18 +101,15 @@ pub struct Independent;
 
 impl Side for Independent {
     fn enter(&self, paper: &Paper, file_number: u64, lent: Lent) -> Result<Outcome, String> {
-        let answer: [u64; ENTER_ANSWER] = table::enter(paper, file_number, lent.rows, lent.book);
-        Ok(Outcome::of(&answer))
+        Ok(Outcome::of(&table::enter(paper, file_number, lent.rows, lent.book)))
     }
 
     fn find(&self, entry_number: u64, lent: Lent) -> Result<Outcome, String> {
-        let found: [u64; FIND_ANSWER] = table::find(lent.book, entry_number);
-        Ok(Outcome::of(&found))
+        Ok(Outcome::of(&table::find(lent.book, entry_number)))
     }
 
     fn totals(&self, lent: Lent) -> Result<Outcome, String> {
-        let totals: [u64; TOTALS_ANSWER] = table::totals(lent.book);
-        Ok(Outcome::of(&totals))
+        Ok(Outcome::of(&table::totals(lent.book)))
     }
 }
 

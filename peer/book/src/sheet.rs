@@ -3,7 +3,7 @@
 
 use peer_reader::random::Random;
 
-use crate::layout::{row_start, CLAIMED, FIGURES, FILE_NUMBER, HEAD, LAST, MARK, NUMBER, SIX, TOTALS, WIDTH};
+use crate::layout::{row_start, CLAIMED, FIGURES, FILE_NUMBER, HEAD, LAST, NUMBER, SIX, TOTALS, WIDTH};
 
 pub type Row = [u64; WIDTH];
 
@@ -159,11 +159,6 @@ impl Sheet {
             row[FILE_NUMBER] = at as u64 + 101;
         }
         self.last = self.rows.len() as u64;
-    }
-
-    /// Every row's [0], claimed or not, as entering writes it.
-    pub fn mark_plainly(&mut self) {
-        self.rows.iter_mut().for_each(|row| row[MARK] = 1);
     }
 
     /// A file number that no row has, claimed or not.

@@ -10,6 +10,7 @@ use peer_book::points::{demanded, Tally};
 use peer_book::put::put;
 use peer_book::sheet::junk;
 use peer_reader::descent::{split_record, Number};
+use peer_reader::make::{encode, sound, Wish};
 use peer_reader::random::Random;
 use peer_reader::{ebcdic, stream};
 
@@ -42,6 +43,38 @@ fn the_seed_and_the_index_give_the_history_again() {
         assert_eq!((&one.book, &one.calls), (&two.book, &two.calls));
         let bytes = |history: &History| history.papers.iter().map(|paper| paper.bytes.clone()).collect::<Vec<_>>();
         assert_eq!(bytes(&one), bytes(&two));
+    }
+}
+
+/// Every number of two small tables made some others, and every length of them.
+#[test]
+fn both_opinions_agree_on_a_sweep() {
+    let paper = Paper::new(encode(&sound(&mut Random::new(3), &Wish { letters: (2, 2), ..Wish::any() })));
+    let rows = 7 * paper.reading.rows.len();
+    let mut calls = vec![Call::Totals];
+    calls.extend([0, 1, 2, 3, 6].map(|entry_number| Call::Find { entry_number }));
+    calls.extend([0, 6, 7].map(|file_number| Call::Enter { paper: 0, file_number, rows }));
+    let full = [2, 2, 1, 2, 3, 4, 5, u64::MAX, 0, 0, 0, 0, 0, 0, 0, 0, 0];
+    let entries = [1, 1, 6, 1, 1, 1, 1, 1, 1, 1, 2, 6, 0, 1, 2, 3, 4, u64::MAX - 1];
+    let one = [&full[..], &entries[..], &[0; 20]].concat();
+    let mut tables: Vec<Vec<u64>> = (0..=one.len()).map(|length| one[..length].to_vec()).collect();
+    for table in [one, vec![0; 38]] {
+        for place in 0..table.len() {
+            for number in [0, 1, 2, 3, 4, 7, 1 << 32, 1 << 63, u64::MAX - 1, u64::MAX, table[place].wrapping_sub(1)] {
+                let mut other = table.clone();
+                other[place] = number;
+                tables.push(other);
+            }
+        }
+    }
+    let papers = vec![paper];
+    for book in tables {
+        for call in &calls {
+            let calls = vec![*call, Call::Totals];
+            let history = History { shape: "sweep", papers: papers.clone(), book: book.clone(), changed: None, calls };
+            let outcome = put(&SecondOpinion, &history, &mut Random::new(4), |_| {});
+            assert!(outcome.is_ok(), "{call:?} on {book:?}: {outcome:?}");
+        }
     }
 }
 
@@ -201,7 +234,7 @@ fn bodies(file: &[u8]) -> Vec<&[u8]> {
     bodies
 }
 
-/// Both ways of counting, the totals of the file, and of ASCII files what each 90 states (clause 34: fields 2, 3, 8 at 3-8, 9-16, 62-63 and so on).
+/// Both ways of counting, the totals of the file, and of ASCII files what each 90 states (clause 34).
 #[test]
 fn letters_are_counted_alike_in_both_ways() {
     let mut letters = 0;
