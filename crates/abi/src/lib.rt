@@ -1,16 +1,21 @@
 // The calls for C and Rust (include/x9180.h).
+use book::Entering;
+use book::Finding;
+use book::Tally;
 use draft::Outcome;
 use passes::Answer;
 use passes::Fault;
 use passes::Totals;
 use text::CharacterSet;
 ghost use mathlib.Core.Path.{_≡_};
+ghost use mathlib.Core.List.{[], _∷_, _++_};
 ghost use Rattle.text.specs.declared.character_set.CharacterSet.the-variants.{Ascii};
 ghost use Prim.Native.Nat.{ℕ};
 ghost use Rattle.passes.specs.Answers.{numberOf, numbersOf};
 ghost use Rattle.passes.specs.declared.Answer.the-variants.{Accepted, Refused};
-ghost use Rattle.abi.specs.Filled.{setNumbered};
-ghost use Rattle.abi.specs.Outcomes.{Reading, Writing, Drafting, Picturing, Judging};
+ghost use Rattle.book.specs.declared.Entering.the-variants.{Entered};
+ghost use Rattle.abi.specs.Filled.{setNumbered, enteringNumbers};
+ghost use Rattle.abi.specs.Outcomes.{Reading, Writing, Drafting, Picturing, Judging, Booking, LookingUp, Tallying};
 
 // The numbers of an acceptance, where the file has so many bytes, and of a refusal.
 fn fill_accepted(bytes: u64, totals: Totals, answer: &mut [u64; 12])
@@ -149,4 +154,118 @@ pub extern "C" fn x9_record_in(body: &[u8], set: u64, answer: &mut [u64; 2]) -> 
     ensures { λ r. ⌜ Judging (setNumbered set) (now (body .entry)) r (now (answer .exit)) ⌝ }
 {
     judge_in(set_numbered(set), body, answer)
+}
+
+// The same with the first entry number given behind them.
+fn fill_entered(bytes: u64, totals: Totals, first: u64, answer: &mut [u64; 13])
+    ensures { λ _. ⌜ now (answer .exit) ≡ enteringNumbers bytes (Entered first totals) ⌝ }
+{
+    let mut numbers: [u64; 12] = [0; 12];
+    fill_accepted(bytes, totals, &mut numbers);
+    put_twelve(&numbers, first, answer);
+}
+
+fn put_twelve(numbers: &[u64; 12], last: u64, answer: &mut [u64; 13])
+    ensures { λ _. ⌜ now (answer .exit) ≡ now (numbers .entry) ++ (last ∷ []) ⌝ }
+{
+    *answer = [
+        numbers[0],
+        numbers[1],
+        numbers[2],
+        numbers[3],
+        numbers[4],
+        numbers[5],
+        numbers[6],
+        numbers[7],
+        numbers[8],
+        numbers[9],
+        numbers[10],
+        numbers[11],
+        last,
+    ];
+}
+
+// Entering a file into a day book: the number, in `table` its rows, in `book` its letters, and in `answer` the numbers of the reading and the first
+// entry number given.
+#[no_mangle]
+pub extern "C" fn x9_book_enter(
+    file: &[u8],
+    number: u64,
+    table: &mut [u64],
+    book: &mut [u64],
+    answer: &mut [u64; 13],
+) -> u64
+    ensures { λ r. ⌜ Booking (now (file .entry)) number (now (table .entry)) (now (book .entry)) r (now (table .exit)) (now (book .exit)) (now (answer .exit)) ⌝ }
+{
+    let bytes = file.len() as u64;
+    match book::enter(file, number, table, book) {
+        Entering::Entered(first, totals) => {
+            fill_entered(bytes, totals, first, answer);
+            0
+        }
+        Entering::Refused(fault, place, offset) => {
+            let mut numbers: [u64; 12] = [0; 12];
+            let refused = fill_refused(fault, place, offset, &mut numbers);
+            put_twelve(&numbers, 0, answer);
+            refused
+        }
+    }
+}
+
+// Looking up an entry of a day book: the number, and in `found` number, entry number, file number, and the letter's figures.
+#[no_mangle]
+pub extern "C" fn x9_book_find(book: &[u64], number: u64, found: &mut [u64; 9]) -> u64
+    ensures { λ r. ⌜ LookingUp (now (book .entry)) number r (now (found .exit)) ⌝ }
+{
+    match book::find(book, number) {
+        Finding::Found(e) => {
+            let figures = e.figures;
+            let sums = figures.sums;
+            *found = [
+                0,
+                e.number,
+                e.file,
+                figures.bundles,
+                sums.debits.0,
+                sums.credits.0,
+                sums.views.0,
+                sums.debit.0,
+                sums.credit.0,
+            ];
+            0
+        }
+        Finding::Refused(fault) => {
+            let refused = fault.number();
+            *found = [refused, 0, 0, 0, 0, 0, 0, 0, 0];
+            refused
+        }
+    }
+}
+
+// The running totals of a day book: the number, and in `totals` number, entries, and the six figures.
+#[no_mangle]
+pub extern "C" fn x9_book_totals(book: &[u64], totals: &mut [u64; 8]) -> u64
+    ensures { λ r. ⌜ Tallying (now (book .entry)) r (now (totals .exit)) ⌝ }
+{
+    match book::totals(book) {
+        Tally::Totals(entries, figures) => {
+            let sums = figures.sums;
+            *totals = [
+                0,
+                entries,
+                figures.bundles,
+                sums.debits.0,
+                sums.credits.0,
+                sums.views.0,
+                sums.debit.0,
+                sums.credit.0,
+            ];
+            0
+        }
+        Tally::Refused(fault) => {
+            let refused = fault.number();
+            *totals = [refused, 0, 0, 0, 0, 0, 0, 0];
+            refused
+        }
+    }
 }
