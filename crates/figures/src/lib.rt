@@ -1,5 +1,5 @@
-// The six figures of a cash letter, and the running totals that add them up. The totals are updated where they stand, by `add`, a thin operation over
-// the update by value, `with`.
+// The six figures of a cash letter, and the running totals that add them up. The totals are updated where they stand, by `add` and `take`, thin
+// operations over the updates by value, `with` and `without`.
 use measure::Cents;
 use measure::Items;
 use measure::Sums;
@@ -118,10 +118,39 @@ impl Figures {
     }
 }
 
+// Running totals are updated where they stand.
+pub fn add(totals: &mut Figures, more: Figures)
+    requires { ⌜ fits (plus (now totals) more) ≡ true ⌝ }
+    ensures { λ _. ⌜ now (totals .exit) ≡ plus (now (totals .entry)) more ⌝ }
+{
+    let before = *totals;
+    *totals = before.with(more);
+}
+
 // For callers that hold the totals by value.
 pub fn raised(totals: Figures, more: Figures) -> Figures
     requires { ⌜ fits (plus totals more) ≡ true ⌝ }
     ensures { λ r. ⌜ r ≡ plus totals more ⌝ }
 {
-    totals.with(more)
+    let mut running = totals;
+    add(&mut running, more);
+    running
+}
+
+// The mirror image, for figures that leave the totals again.
+pub fn take(totals: &mut Figures, less: Figures)
+    requires { ⌜ covers (now totals) less ≡ true ⌝ }
+    ensures { λ _. ⌜ now (totals .exit) ≡ minus (now (totals .entry)) less ⌝ }
+{
+    let before = *totals;
+    *totals = before.without(less);
+}
+
+pub fn lowered(totals: Figures, less: Figures) -> Figures
+    requires { ⌜ covers totals less ≡ true ⌝ }
+    ensures { λ r. ⌜ r ≡ minus totals less ⌝ }
+{
+    let mut running = totals;
+    take(&mut running, less);
+    running
 }
