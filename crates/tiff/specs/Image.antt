@@ -34,7 +34,7 @@ typeSize kind = getD (0 ∷ 1 ∷ 1 ∷ 2 ∷ 4 ∷ 8 ∷ 1 ∷ 1 ∷ 2 ∷ 4 �
 unfoldable pub valueInside : List ℕ → Entry → Bool
 valueInside image e = leb (e .count * typeSize (e .kind)) 4 || leb (e .value + e .count * typeSize (e .kind)) (length image)
 
-pub valuesInside : List ℕ → List Entry → Bool
+abbrev pub valuesInside : List ℕ → List Entry → Bool
 valuesInside image [] = true
 valuesInside image (e ∷ es) = valueInside image e && valuesInside image es
 
@@ -42,7 +42,7 @@ valuesInside image (e ∷ es) = valueInside image e && valuesInside image es
 abbrev pub absent : Entry
 absent = record { tag = 0; kind = 0; count = 0; value = 0 }
 
-pub firstWith : ℕ → List Entry → Entry
+abbrev pub firstWith : ℕ → List Entry → Entry
 firstWith tag [] = absent
 firstWith tag (e ∷ es) = cond (eqb (e .tag) tag) e (firstWith tag es)
 
@@ -64,15 +64,15 @@ unfoldable pub isInside : List ℕ → Bool
 isInside image = directoryInside image && valuesInside image (entriesOf image) && stripInside image (entriesOf image)
 
 -- "All entries in an IFD .. shall be sorted in ascending order by Tag": the tags that are not above the one before them
-pub notAbove : ℕ → List Entry → List ℕ
+abbrev pub notAbove : ℕ → List Entry → List ℕ
 notAbove before [] = []
 notAbove before (e ∷ es) = cond (ltb before (e .tag)) (notAbove (e .tag) es) (e .tag ∷ notAbove (e .tag) es)
 
-pub disordered : List Entry → List ℕ
+abbrev pub disordered : List Entry → List ℕ
 disordered [] = []
 disordered (e ∷ es) = notAbove (e .tag) es
 
 -- the lowest of some tags; 65,536, which is no tag, where there is none
-pub lowest : List ℕ → ℕ
+abbrev pub lowest : List ℕ → ℕ
 lowest [] = 0x1_0000
 lowest (tag ∷ tags) = min tag (lowest tags)
