@@ -19,7 +19,7 @@ entryAt image at =
     record { tag = shortAt image at; kind = shortAt image (at + 2); count = longAt image (at + 4); value = longAt image (at + 8) }
 
 -- entries one behind the other, so many from a place on
-pub entriesFrom : List ℕ → ℕ → ℕ → List Entry
+abbrev pub entriesFrom : List ℕ → ℕ → ℕ → List Entry
 entriesFrom image zero at = []
 entriesFrom image (suc n) at = entryAt image at ∷ entriesFrom image n (at + 12)
 
