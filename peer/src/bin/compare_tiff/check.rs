@@ -1,9 +1,9 @@
-//! One image put to both sides, the sweep over one, and the shrinking of one on which the sides differ.
+//! Counts, the sweep over an image, and the shrinking of one on which the sides differ.
 
-use peer_tiff::judge::{examine, Verdict, ACCEPTED};
+use peer_tiff::judge::{Verdict, ACCEPTED};
 
-use proved::amid::{amid, within};
-use proved::{abi, Difference};
+use proved::images::differs;
+use proved::Difference;
 
 /// Larger images are neither swept over nor made smaller.
 pub const SMALL: usize = 1_000;
@@ -37,23 +37,6 @@ impl Counts {
             "{} images ({} accepted), {} bytes, {} more by sweeps",
             self.images, self.accepted, self.bytes, self.swept
         )
-    }
-}
-
-/// What stands before and behind an image, by its length: zeros, and bytes that a tag, a type or an offset may be read from.
-const AROUND: [u8; 4] = [0x00, 0x01, 0x2A, 0xFF];
-
-/// How the two sides differ on an image, if they do.
-pub fn differs(image: &[u8]) -> Option<Difference> {
-    let Verdict { number, tag, why } = examine(image);
-    let expected = [number, u64::from(tag)];
-    let image_amid = amid(image, AROUND[image.len() % AROUND.len()]);
-    match abi::tiff(within(&image_amid)) {
-        Ok((returned, answer)) if returned == number && answer == expected => None,
-        Ok((returned, answer)) => Some(format!(
-            "\n  proved      returns {returned}, answer {answer:?}\n  independent answer {expected:?} ({why:?})"
-        )),
-        Err(words) => Some(words),
     }
 }
 

@@ -9,9 +9,10 @@ use std::process::ExitCode;
 use peer_tiff::generate;
 use peer_tiff::points::{note, Tally};
 
+use proved::images::differs;
 use proved::run::{on_threads, Case, Found, Options, Outcome, Program};
 
-use check::{differs, shrink, sweep, Counts, SMALL};
+use check::{shrink, sweep, Counts, SMALL};
 
 const PROGRAM: Program =
     Program { name: "compare_tiff", things: "images", whole_run: 50_000, flags: &[], side: "judge" };
