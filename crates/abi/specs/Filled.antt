@@ -7,6 +7,7 @@ use Rattle.text.specs.declared.character_set.CharacterSet.{CharacterSet}
 use Rattle.text.specs.declared.character_set.CharacterSet.the-variants.{Ascii, Ebcdic}
 use Rattle.judge.specs.declared.Judged.{Judged}
 use Rattle.picture.specs.declared.Found.{Found}
+use Rattle.tiff.specs.declared.Tags.{Tags}
 use Rattle.passes.specs.Answers.{numberOf, numbersOf}
 use Rattle.draft.specs.declared.Outcome.{Outcome}
 use Rattle.draft.specs.declared.Outcome.the-variants.{Written, Refused}
@@ -20,6 +21,7 @@ use Rattle.book.specs.declared.Entering.the-variants as entering
 use Rattle.book.specs.declared.Finding.the-variants as finding
 use Rattle.book.specs.declared.Tally.the-variants as tally
 use Rattle.figures.specs.Figures as figures
+use Rattle.tiff.specs.Judged as tiff
 
 -- the set that a number tells: 1 is EBCDIC, any other ASCII
 abbrev pub setNumbered : ℕ → CharacterSet
@@ -32,6 +34,10 @@ placeOf found = picture.numberOf found ∷ picture.fieldOf found ∷ picture.sta
 -- x9_record: number, field
 abbrev pub judgementOf : Judged → List ℕ
 judgementOf judged = alone.numberOf judged ∷ alone.fieldOf judged ∷ []
+
+-- x9_tiff: number, tag
+abbrev pub taggingOf : Tags → List ℕ
+taggingOf tags = tiff.numberOf tags ∷ tiff.tagOf tags ∷ []
 
 -- x9_write: "0, records, 0, bytes written, then the totals as x9_read has them", or number, record, field, offset
 abbrev pub outcomeNumber : Outcome → ℕ

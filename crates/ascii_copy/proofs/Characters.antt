@@ -17,6 +17,7 @@ use Rattle.text.specs.Characters.{isAlphabetic, isBlank, isNumeric, isQuestiona
 use Rattle.text.specs.Capitals.{capital}
 use Rattle.text.specs.DataTypes.{admits, isMark}
 use Rattle.text.specs.Number.{digit}
+use Rattle.ascii_copy.specs.AsciiCopy.{translated, copiedAs}
 use Rattle.ascii_copy.specs.CodePage037.{Run, codePage037, among, counterpart}
 
 pub and-left : (a b : Bool) → a && b ≡ true → a ≡ true
@@ -184,6 +185,22 @@ isCharacters NBMc = true
 isCharacters NBMcd = true
 isCharacters NBMcdo = true
 isCharacters NBMU = true
+
+-- fields of such a type are translated
+pub copied-as : (t : DataType) (xs : List ℕ) → isCharacters t ≡ true → copiedAs t xs ≡ translated xs
+copied-as AB xs e = refl
+copied-as A xs e = refl
+copied-as AN xs e = refl
+copied-as ANS xs e = refl
+copied-as Binary xs e = cc
+copied-as N xs e = refl
+copied-as NB xs e = refl
+copied-as NBD xs e = refl
+copied-as NBQ xs e = refl
+copied-as NBMc xs e = refl
+copied-as NBMcd xs e = refl
+copied-as NBMcdo xs e = refl
+copied-as NBMU xs e = refl
 
 -- any character that such a type admits is one of the 95
 abbrev oneOf95 : DataType → ℕ → Bool

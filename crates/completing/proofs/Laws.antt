@@ -99,10 +99,10 @@ module _ (set : CharacterSet) (text rows : List ℕ) (addenda : ℕ) (s : Standi
   InShape ls = map sizeOf (given ls) ≡ givenSizes ls
 
   -- a line in front of the others
-  record Turn (l : Line) (ls : List Line) : Type 0 where
-    is : together (l ∷ ls) ≡ ownOf l ++ together ls
-    long : length (ownOf l) ≡ l .size
-    shape : InShape ls
+  pub record Turn (l : Line) (ls : List Line) : Type 0 where
+    pub is : together (l ∷ ls) ≡ ownOf l ++ together ls
+    pub long : length (ownOf l) ≡ l .size
+    pub shape : InShape ls
 
   turn : (l : Line) (ls : List Line) → InShape (l ∷ ls) → Turn l ls
   unfolding fixedPart
@@ -131,7 +131,7 @@ module _ (set : CharacterSet) (text rows : List ℕ) (addenda : ℕ) (s : Standi
   unfolding valuesOfRow valuesAt
   all-in-shape = shaped-row set text rows .fields
 
-  all-long : length wholeOf ≡ layoutOf (getD rows 0 0) .fixedLength
+  pub all-long : length wholeOf ≡ layoutOf (getD rows 0 0) .fixedLength
   unfolding valuesOfRow valuesAt
   all-long = fixed-long (valuesOfRow set text rows) addenda s (shaped-row set text rows)
 
@@ -140,8 +140,18 @@ module _ (set : CharacterSet) (text rows : List ℕ) (addenda : ℕ) (s : Standi
     abbrev pub linesAt : ℕ → List Line
     linesAt i = linesFrom i (take (end - i) (drop i own))
 
-    next : (i : ℕ) → end ≤ length own → i < end → linesAt i ≡ lineOf i (getD own i 0) ∷ linesAt (i + 1)
+    pub next : (i : ℕ) → end ≤ length own → i < end → linesAt i ≡ lineOf i (getD own i 0) ∷ linesAt (i + 1)
     next i long h = let e : end - i ≡ suc (end - (i + 1)) = omega arith in rw (rest own i (omega arith), e)
+
+    -- they are all the lines to begin with
+    module _ (owned : Owned (layoutOf (getD rows 0 0)) own) (to : end ≡ fieldsIn (getD own 0 0) + 1 - partsIn (getD own 0 0)) where
+      pub first-lines : linesAt 1 ≡ layoutOf (getD rows 0 0) .lines
+      first-lines =
+          let count : end - 1 ≡ linesIn (getD own 0 0) = omega (arith, parts-in-fields own rows owned) in
+          rw count (ap (λ (b : Block). b .lines) (owned .means))
+
+      pub first-whole : together (linesAt 1) ≡ wholeOf
+      first-whole = ap together first-lines ∙ all
 
     -- what is left of them behind what has been set down gives the whole
     pub record Left (out₀ : List ℕ) (at : ℕ) (out : List ℕ) (place i : ℕ) : Type 0 where
@@ -154,15 +164,12 @@ module _ (set : CharacterSet) (text rows : List ℕ) (addenda : ℕ) (s : Standi
     pub left-all : Owned (layoutOf (getD rows 0 0)) own → end ≡ fieldsIn (getD own 0 0) + 1 - partsIn (getD own 0 0)
         → (out : List ℕ) (at : ℕ) → at + layoutOf (getD rows 0 0) .fixedLength ≤ length out → Left out at out at 1
     left-all owned to out at h =
-        let count : end - 1 ≡ linesIn (getD own 0 0) = omega (arith, parts-in-fields own rows owned) in
-        let lines : linesAt 1 ≡ layoutOf (getD rows 0 0) .lines = rw count (ap (λ (b : Block). b .lines) (owned .means)) in
-        let same : together (linesAt 1) ≡ wholeOf = ap together lines ∙ all in
         record {
           numbers = omega (arith, left-first own rows owned _ _ refl refl 0 .long);
           long = refl;
-          room = rw (same, all-long) h;
-          shape = rw lines all-in-shape;
-          onward = ap (sets out at) same;
+          room = rw (first-whole owned to, all-long) h;
+          shape = rw (first-lines owned to) all-in-shape;
+          onward = ap (sets out at) (first-whole owned to);
         }
 
     module _ {out₀ out : List ℕ} {at place i : ℕ} (left : Left out₀ at out place i) where
@@ -171,13 +178,13 @@ module _ (set : CharacterSet) (text rows : List ℕ) (addenda : ℕ) (s : Standi
       left-none h = let e : end - i ≡ 0 = omega arith in rw e at (left .onward)
 
       module _ (inside : i < end) where
-        abbrev this : Line
+        abbrev pub this : Line
         this = lineOf i (getD own i 0)
 
-        one : Turn this (linesAt (i + 1))
+        pub one : Turn this (linesAt (i + 1))
         one = turn this (linesAt (i + 1)) (rw (next i (left .numbers) inside) at (left .shape))
 
-        both : together (linesAt i) ≡ ownOf this ++ together (linesAt (i + 1))
+        pub both : together (linesAt i) ≡ ownOf this ++ together (linesAt (i + 1))
         both = rw (next i (left .numbers) inside) (one .is)
 
         roomy : place + (this .size + length (together (linesAt (i + 1)))) ≤ length out₀

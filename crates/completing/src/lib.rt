@@ -164,6 +164,64 @@ fn put_line<'a>(
     )
 }
 
+// The fixed part, field by field: the way that serves every text.
+fn put_lines<'a>(
+    set: CharacterSet,
+    own: &'a [u64],
+    text: &[u8],
+    rows: &'a [u64],
+    addenda: u64,
+    s: Standing,
+    out: &mut [u8],
+    at: usize,
+)
+    requires { ⌜ Owned (layoutOf (getD (now rows) 0 0)) (now own) × (10 ≤ length (now rows)) × Roomy s × (at + layoutOf (getD (now rows) 0 0) .fixedLength ≤ length (now out)) ⌝ }
+    ensures { λ _. ⌜ now (out .exit) ≡ sets (now (out .entry)) at (fixedPart (valuesOfRow set (now (text .entry)) (now (rows .entry))) addenda s (layoutOf (getD (now (rows .entry)) 0 0) .lines) (valuesOfRow set (now (text .entry)) (now (rows .entry)) .fields)) ⌝ }
+{
+    let header = own[0];
+    let end = layout::fields_in(header) + 1 - layout::parts_in(header);
+    let mut place = at;
+    let mut i = 1;
+    while i < end {
+        let packed = own[i];
+        put_line(set, own, packed, text, rows, addenda, s, out, place);
+        place += (packed / 0x100_0000_0000 % 0x100) as usize;
+        i += 1;
+    }
+}
+
+// The fixed part where the text has all of it: all of it at once, as characters, for none of its fields is Binary, and over it the fields that are
+// worked out. What is given stands then, and its field is told by one test and passed over.
+fn put_over<'a>(
+    set: CharacterSet,
+    own: &'a [u64],
+    text: &[u8],
+    rows: &'a [u64],
+    addenda: u64,
+    s: Standing,
+    out: &mut [u8],
+    at: usize,
+)
+    requires { ⌜ Owned (layoutOf (getD (now rows) 0 0)) (now own) × (10 ≤ length (now rows)) × Roomy s × (at + layoutOf (getD (now rows) 0 0) .fixedLength ≤ length (now out)) × (getD (now rows) 1 0 + layoutOf (getD (now rows) 0 0) .fixedLength ≤ length (now text)) ⌝ }
+    ensures { λ _. ⌜ now (out .exit) ≡ sets (now (out .entry)) at (fixedPart (valuesOfRow set (now (text .entry)) (now (rows .entry))) addenda s (layoutOf (getD (now (rows .entry)) 0 0) .lines) (valuesOfRow set (now (text .entry)) (now (rows .entry)) .fields)) ⌝ }
+{
+    let header = own[0];
+    let end = layout::fields_in(header) + 1 - layout::parts_in(header);
+    let start = rows[1] as usize;
+    let fixed = layout::length_in(header);
+    put_piece(set, DataType::N, text, start, 0, fixed, out, at);
+    let mut place = at;
+    let mut i = 1;
+    while i < end {
+        let packed = own[i];
+        if packed / 0x2_0000_0000 % 0x80 != 0 {
+            put_line(set, own, packed, text, rows, addenda, s, out, place);
+        }
+        place += (packed / 0x100_0000_0000 % 0x100) as usize;
+        i += 1;
+    }
+}
+
 // The fixed part, from a place on, and how long it is.
 pub fn complete<'a>(
     set: CharacterSet,
@@ -178,15 +236,12 @@ pub fn complete<'a>(
     requires { ⌜ Owned (layoutOf (getD (now rows) 0 0)) (now own) × (10 ≤ length (now rows)) × Roomy s × (at + layoutOf (getD (now rows) 0 0) .fixedLength ≤ length (now out)) ⌝ }
     ensures { λ r. ⌜ (now (out .exit) ≡ sets (now (out .entry)) at (fixedPart (valuesOfRow set (now (text .entry)) (now (rows .entry))) addenda s (layoutOf (getD (now (rows .entry)) 0 0) .lines) (valuesOfRow set (now (text .entry)) (now (rows .entry)) .fields))) × (r ≡ layoutOf (getD (now (rows .entry)) 0 0) .fixedLength) ⌝ }
 {
-    let header = own[0];
-    let end = layout::fields_in(header) + 1 - layout::parts_in(header);
-    let mut place = at;
-    let mut i = 1;
-    while i < end {
-        let packed = own[i];
-        put_line(set, own, packed, text, rows, addenda, s, out, place);
-        place += (packed / 0x100_0000_0000 % 0x100) as usize;
-        i += 1;
+    let fixed = layout::length_in(own[0]);
+    let start = rows[1] as usize;
+    if draft_rows::lies_within(text, start, 0, fixed) {
+        put_over(set, own, text, rows, addenda, s, out, at);
+        return fixed;
     }
-    layout::length_in(header)
+    put_lines(set, own, text, rows, addenda, s, out, at);
+    fixed
 }

@@ -2,12 +2,12 @@
 use mathlib.Core.Path.{_≡_, refl, sym, _∙_, ap, ap₂}
 use mathlib.Core.Bool.{Bool, true, false, _&&_, _||_, not, cond}
 use mathlib.Core.List.{List, [], _∷_}
-use Prim.Native.Nat.{ℕ, suc, _+_, _-_, _≤_, _<_, min}
+use Prim.Native.Nat.{ℕ, suc, _+_, _-_, _/_, _%_, _≤_, _<_, min}
 use native.Mathlib.Nat.{add-zero, add-assoc}
 use native.Mathlib.Omega.{arith}
-use borrow.Author.Tests.{ne-eqb, eqb-true, eqb-false, leb-true, leb-false, lt-leb}
+use borrow.Author.Tests.{ne-eqb, eqb-true, eqb-false, leb-true, leb-false, le-leb, lt-leb}
 use lib.Dec.{leb, eqb}
-use lib.ListN.{length, getD, take, drop}
+use lib.ListN.{length, getD, take, drop, length-take, length-drop}
 use lib.Seq.{drop-drop, getD-take, getD-drop}
 use Rattle.text.specs.declared.character_set.CharacterSet.{CharacterSet}
 use Rattle.text.specs.declared.character_set.CharacterSet.the-variants.{Ascii, Ebcdic}
@@ -17,8 +17,9 @@ use Rattle.text.proofs.Laws.{rest}
 use Rattle.frame.specs.Frames.{part}
 use Rattle.decimal.specs.Digits.{fits}
 use Rattle.layout.specs.Layout.{Line, Layout, Sized, sizedParts}
-use Rattle.layout.specs.Packing.{Block, lineOf, linesFrom, liesWithin, sizedOf, sizedFrom, longIn, fieldsIn, partsIn, linesIn}
+use Rattle.layout.specs.Packing.{Block, originOf, lineOf, linesFrom, liesWithin, sizedOf, sizedFrom, longIn, fieldsIn, partsIn, linesIn}
 use Rattle.judge.proofs.Dispatch.{whole, lines-within}
+use Rattle.judge.proofs.Laws.{both-true, lies, line-within}
 use Rattle.ascii_copy.proofs.Fields.{as-alike}
 use Rattle.draft.specs.Owned.{Owned}
 use Rattle.draft.specs.Values.{Piece, here, missing, isGiven, inAscii, piece, fieldsGiven, partsGiven, layoutOf, valuesAt, valuesOfRow}
@@ -60,6 +61,17 @@ module _ (set : CharacterSet) (text : List ℕ) (t : DataType) (start size : ℕ
 
 pub lies-in : (n start size : ℕ) → eqb size 0 || leb (start + size) n ≡ true → (size ≡ 0 → ⊥) → start + size ≤ n
 lies-in n start size e some = leb-true (start + size) n (rw (ne-eqb size 0 some) at e)
+
+-- what lies within a stretch that lies in the text lies in it too
+pub lies-too : (n start long place size : ℕ) → place + size ≤ long → eqb long 0 || leb (start + 0 + long) n ≡ true
+    → eqb size 0 || leb (start + place + size) n ≡ true
+lies-too n start long place size h e = by (eqb size 0) refl
+  where
+    by : (b : Bool) → eqb size 0 ≡ b → b || leb (start + place + size) n ≡ true
+    by true q = refl
+    by false q =
+        let some = eqb-false size 0 q in
+        le-leb (start + place + size) n (omega (arith, lies-in n (start + 0) long e (λ z. some (omega arith))))
 
 -- a place that stops at 2^64 - 1: a text is no longer, so that no part lies there, but for one of size 0
 pub stopped : (set : CharacterSet) (text : List ℕ) (t : DataType) (start place far size : ℕ) → length text ≤ 0xFFFF_FFFF_FFFF_FFFF
@@ -176,6 +188,25 @@ module _ (own text rows : List ℕ) (addenda end : ℕ) where
 
       pub lines-on : ((set : CharacterSet) → lineFits set text rows addenda (lineOf i (getD own i 0)) ≡ true) → LinesLeft (i + 1)
       lines-on e = record { long = left .long; gives = λ set. rw (e set) at (turn set) }
+
+      -- where the whole fixed part lies in the text, a line that is given can be had
+      pub line-here : (owned : Owned (layoutOf (getD rows 0 0)) own) → end ≡ fieldsIn (getD own 0 0) + 1 - partsIn (getD own 0 0) → 1 ≤ i
+          → {long : ℕ} → long ≡ longIn (getD own 0 0) → {here : Bool} → here ≡ (eqb long 0 || leb (getD rows 1 0 + 0 + long) (length text))
+          → here && eqb (getD own i 0 / 0x2_0000_0000 % 0x80) 0 ≡ true → (set : CharacterSet)
+          → lineFits set text rows addenda (lineOf i (getD own i 0)) ≡ true
+      line-here owned to some {long} is {here} told e set =
+          let both = both-true here (eqb (getD own i 0 / 0x2_0000_0000 % 0x80) 0) e in
+          let l = lineOf i (getD own i 0) in
+          let given : isGiven (l .origin) ≡ true = ap (λ (n : ℕ). isGiven (originOf n)) (eqb-true (getD own i 0 / 0x2_0000_0000 % 0x80) 0 (both .1)) in
+          let lines = lines-within Ascii own end (fieldsIn (getD own 0 0) + 1) (owned .some) (owned .whole) refl to in
+          let at : 1 + (i - 1) ≡ i = omega arith in
+          let same : getD (take (end - 1) (drop 1 own)) (i - 1) 0 ≡ getD own i 0 =
+          getD-take (end - 1) (drop 1 own) (i - 1) 0 (omega arith) ∙ getD-drop 1 own (i - 1) 0 ∙ ap (λ (n : ℕ). getD own n 0) at in
+          let among : i - 1 < length (take (end - 1) (drop 1 own)) = simp (length-take, length-drop) (omega (arith, left .long)) in
+          let within : l .first - 1 + l .size ≤ long =
+          rw is (lies (longIn (getD own 0 0)) (getD own i 0) (rw same at (line-within (take (end - 1) (drop 1 own)) (longIn (getD own 0 0)) (i - 1) lines among))) in
+          sym (given-fits set text rows addenda l given)
+          ∙ lies-too (length text) (getD rows 1 0) long (l .first - 1) (l .size) within (sym told ∙ both .0)
 
 -- the parts from a place on, with the row's sizes beside them
 module _ (own rows : List ℕ) (parts end : ℕ) where

@@ -49,10 +49,14 @@ fn first_unfit<'a>(own: &'a [u64], text: &'a [u8], rows: &'a [u64], addenda: u64
 {
     let header = own[0];
     let end = layout::fields_in(header) + 1 - layout::parts_in(header);
+    let all_here = draft_rows::lies_within(text, rows[1] as usize, 0, layout::length_in(header));
     let mut i = 1;
     while i < end {
-        if !line_fits(own, own[i], text, rows, addenda) {
-            return i;
+        let packed = own[i];
+        if !(all_here & (packed / 0x2_0000_0000 % 0x80 == 0)) {
+            if !line_fits(own, packed, text, rows, addenda) {
+                return i;
+            }
         }
         i += 1;
     }

@@ -10,7 +10,6 @@ use lib.Seq.{drop-drop}
 use borrow.Author.Tests.{leb-true, eqb-true}
 use Rattle.text.specs.declared.character_set.CharacterSet.the-variants.{Ascii, Ebcdic}
 use Rattle.text.specs.declared.data_types.DataType.{DataType}
-use Rattle.text.specs.declared.data_types.DataType.the-variants.{AB, A, AN, ANS, Binary, N, NB, NBD, NBQ, NBMc, NBMcd, NBMcdo, NBMU}
 use Rattle.text.specs.Characters.{isBlank}
 use Rattle.text.specs.DataTypes.{every}
 use Rattle.frame.specs.Frames.{part}
@@ -19,27 +18,11 @@ use Rattle.layout.specs.Layouts.{layouts, bundleControl}
 use Rattle.judge.specs.Alone.{typeOf, statedSize}
 use Rattle.judge.proofs.Laws.{both-true}
 use Rattle.ascii_copy.specs.AsciiCopy.{translated, copiedAs, copiedParts, copiedBody}
-use Rattle.ascii_copy.proofs.Characters.{isCharacters, blank-alike}
+use Rattle.ascii_copy.proofs.Characters.{isCharacters, copied-as, blank-alike}
 use Rattle.ascii_copy.proofs.Fields.{every-alike, number-alike, take-translated, drop-translated}
 use Rattle.ascii_copy.proofs.Records.{length-copied, field-copied, type-copied, apart, halves, other-copied}
 use Rattle.file_as_records.specs.Framed.{Body, fieldOf}
 use Rattle.draft.specs.Values.{Piece, isGiven, layoutAmong, layoutOf, unknownRecord, piece, fieldsGiven, partsGiven, valuesAt, valuesOfBody}
-
--- a data type of characters
-copied-as : (t : DataType) (xs : List ℕ) → isCharacters t ≡ true → copiedAs t xs ≡ translated xs
-copied-as AB xs e = refl
-copied-as A xs e = refl
-copied-as AN xs e = refl
-copied-as ANS xs e = refl
-copied-as Binary xs e = cc
-copied-as N xs e = refl
-copied-as NB xs e = refl
-copied-as NBD xs e = refl
-copied-as NBQ xs e = refl
-copied-as NBMc xs e = refl
-copied-as NBMcd xs e = refl
-copied-as NBMcdo xs e = refl
-copied-as NBMU xs e = refl
 
 -- computed of the layouts: each line, and each field that states a size, is characters in front; so are the parts of any record but a 52
 abbrev inFront : List Line → Bool
