@@ -1,7 +1,7 @@
 -- The figures of a file's cash letters are those of the letters of its arrangement; an accepted file has as many of them as letters, and they come
 -- to its totals. Assumes nothing.
 use Prim.Native.Nat.{ℕ, _≤_}
-use mathlib.Core.Path.{_≡_, ap, _∙_, subst}
+use mathlib.Core.Path.{_≡_, refl, ap, _∙_, subst}
 use mathlib.Core.List.{List, [], _∷_, map}
 use lib.ListN.{length, length-map}
 use Rattle.text.specs.CharacterSet.{setOf}
@@ -10,8 +10,7 @@ use Rattle.measure.specs.Measures.{sums}
 use Rattle.passes.specs.declared.Totals.{Totals}
 use Rattle.passes.specs.declared.Answer.the-variants.{Accepted}
 use Rattle.passes.specs.Reading.{surveyed}
-use Rattle.figures.specs.declared.Figures.{Figures}
-use Rattle.figures.specs.Figures.{figures, noFigures, plus}
+use Rattle.figures.specs.Figures.{figures, plus, allOf}
 use Rattle.file_as_records.proofs.LengthFields.{Bytes}
 use Rattle.arrangement.specs.Tree.{CashLetter}
 use Rattle.arrangement.specs.Sound.{total, ofLetter, debits, debitCents, credits, creditCents, viewCount, bundleCount}
@@ -30,24 +29,20 @@ letters-own file x a =
     letters-of-records file (records x) (a .size) (a .bytes) (sound-good (setOf file) x (a .sound))
     ∙ letters-of (setOf file) x (sound-typed (setOf file) x (a .sound)) (a .sound)
 
--- What adds figures up by the two lines of `allOf`, which does not unfold here.
-pub record AddsUp (all : List Figures → Figures) : Type 0 where
-  pub none : all [] ≡ noFigures
-  pub more : (f : Figures) (fs : List Figures) → all (f ∷ fs) ≡ plus f (all fs)
-
-come-to : (set : CharacterSet) (all : List Figures → Figures) → AddsUp all → (ls : List CashLetter)
-    → all (map (figuresOf set) ls)
+come-to : (set : CharacterSet) (ls : List CashLetter)
+    → allOf (map (figuresOf set) ls)
     ≡ figures (total bundleCount ls)
     (sums (total (ofLetter (debits set)) ls) (total (ofLetter (debitCents set)) ls) (total (ofLetter (credits set)) ls)
     (total (ofLetter (creditCents set)) ls) (total (ofLetter viewCount) ls))
-come-to set all adds [] = adds .none
-come-to set all adds (l ∷ ls) = adds .more (figuresOf set l) (map (figuresOf set) ls) ∙ ap (plus (figuresOf set l)) (come-to set all adds ls)
+unfolding allOf
+come-to set [] = refl
+come-to set (l ∷ ls) = ap (plus (figuresOf set l)) (come-to set ls)
 
 -- the letters of an accepted file with these totals
 pub record AcceptedLetters (file : List ℕ) (t : Totals) : Type 0 where
   pub count : length (lettersOf file) ≡ t .letters
   pub some : 1 ≤ t .letters
-  pub sum : (all : List Figures → Figures) → AddsUp all → all (lettersOf file) ≡ figures (t .bundles) (t .sums)
+  pub sum : allOf (lettersOf file) ≡ figures (t .bundles) (t .sums)
 
 pub accepted-letters : (file : List ℕ) (t : Totals) → Bytes file → surveyed file ≡ Accepted t → AcceptedLetters file t
 accepted-letters file t b e =
@@ -59,5 +54,5 @@ accepted-letters file t b e =
     (record {
       count = ap length own ∙ length-map (x .letters) (figuresOf set);
       some = a .sound .filled;
-      sum = λ all adds. ap all own ∙ come-to set all adds (x .letters);
+      sum = ap allOf own ∙ come-to set (x .letters);
     })
