@@ -28,17 +28,17 @@ abbrev pub entry : ℕ → ℕ → Figures → Entry
 entry n m f = record { number = n; file = m; figures = f }
 
 -- the running totals: the sums over the entries
-abbrev pub totalsOf : List Entry → Figures
+unfoldable pub totalsOf : List Entry → Figures
 totalsOf [] = noFigures
 totalsOf (e ∷ es) = plus (e .figures) (totalsOf es)
 
 -- "DUPLICATE (12) for a file number already entered"
-abbrev pub isTaken : ℕ → List Entry → Bool
+unfoldable pub isTaken : ℕ → List Entry → Bool
 isTaken m [] = false
 isTaken m (e ∷ es) = eqb (e .file) m || isTaken m es
 
 -- "A file enters its letters in their order, numbered on from the last number given" (point 36)
-abbrev pub entriesOn : ℕ → ℕ → List Figures → List Entry
+unfoldable pub entriesOn : ℕ → ℕ → List Figures → List Entry
 entriesOn last m [] = []
 entriesOn last m (f ∷ fs) = entry (last + 1) m f ∷ entriesOn (last + 1) m fs
 
@@ -62,7 +62,7 @@ afterEntering b m letters (Entered first t) =
     record { entries = b .entries ++ entriesOn (b .last) m letters; last = b .last + length letters; rows = b .rows }
 
 -- "looking up an entry number gives the first row with it, as entered"; "NOENTRY (15) for a number not found"
-abbrev pub finding : List Entry → ℕ → Finding
+unfoldable pub finding : List Entry → ℕ → Finding
 finding [] n = findings.Refused NoEntry
 finding (e ∷ es) n = cond (eqb (e .number) n) (findings.Found e) (finding es n)
 

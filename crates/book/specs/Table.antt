@@ -33,11 +33,11 @@ abbrev pub rowOf : Entry → List ℕ
 rowOf e = 1 ∷ e .number ∷ e .file ∷ numbersOf (e .figures)
 
 -- rows one behind the other, so many from a place on; and entries written so
-abbrev pub entriesFrom : List ℕ → ℕ → ℕ → List Entry
+unfoldable pub entriesFrom : List ℕ → ℕ → ℕ → List Entry
 entriesFrom book zero at = []
 entriesFrom book (suc n) at = entryAt book at ∷ entriesFrom book n (at + 9)
 
-abbrev pub rowsOf : List Entry → List ℕ
+unfoldable pub rowsOf : List Entry → List ℕ
 rowsOf [] = []
 rowsOf (e ∷ es) = rowOf e ++ rowsOf es
 

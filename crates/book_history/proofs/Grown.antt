@@ -65,6 +65,7 @@ plus-apart a b c =
     figures-eq (plus (plus a b) c) (plus a (plus b c)) (add-assoc _ _ _) (add-assoc _ _ _) (add-assoc _ _ _) (add-assoc _ _ _) (add-assoc _ _ _) (add-assoc _ _ _)
 
 pub totals-apart : (es fs : List Entry) → totalsOf (es ++ fs) ≡ plus (totalsOf es) (totalsOf fs)
+unfolding totalsOf
 totals-apart [] fs = sym (none-plus (totalsOf fs))
 totals-apart (e ∷ es) fs = ap (λ (f : Figures). plus (e .figures) f) (totals-apart es fs) ∙ sym (plus-apart (e .figures) (totalsOf es) (totalsOf fs))
 

@@ -39,6 +39,7 @@ entry-alike t u at h =
     )
 
 pub entries-alike : (t u : List ℕ) (n at : ℕ) → Alike t u at (at + 9 * n) → entriesFrom t n at ≡ entriesFrom u n at
+unfolding entriesFrom
 entries-alike t u zero at h = refl
 entries-alike t u (suc n) at h =
     rw (entry-alike t u at (λ k a b. h k a (omega arith)), entries-alike t u n (at + 9) (λ k a b. h k (omega arith) (omega arith)))
@@ -51,6 +52,7 @@ one-row-further : (k n : ℕ) → k + 9 + 9 * n ≡ k + 9 * suc n
 one-row-further k n = omega arith
 
 pub entries-apart : (t : List ℕ) (m n at : ℕ) → entriesFrom t (m + n) at ≡ entriesFrom t m at ++ entriesFrom t n (at + 9 * m)
+unfolding entriesFrom
 entries-apart t zero n at = rw (zero-add n) (ap (λ (k : ℕ). entriesFrom t n k) (sym (no-row at)))
 entries-apart t (suc m) n at =
     rw (suc-add m n)
@@ -58,10 +60,12 @@ entries-apart t (suc m) n at =
     (entries-apart t m n (at + 9) ∙ ap (λ (k : ℕ). entriesFrom t m (at + 9) ++ entriesFrom t n k) (one-row-further at m)))
 
 pub entries-count : (t : List ℕ) (n at : ℕ) → length (entriesFrom t n at) ≡ n
+unfolding entriesFrom
 entries-count t zero at = refl
 entries-count t (suc n) at = ap suc (entries-count t n (at + 9))
 
 pub rows-length : (es : List Entry) → length (rowsOf es) ≡ 9 * length es
+unfolding rowsOf
 rows-length [] = refl
 rows-length (e ∷ es) = let h = rows-length es in omega (arith, length-append (rowOf e) (rowsOf es))
 
@@ -96,6 +100,7 @@ entry-back t i e h =
         (omega (arith, length-sets t i (1 ∷ e .number ∷ e .file ∷ [])))
 
 pub entries-back : (es : List Entry) (t : List ℕ) (i : ℕ) → i + 9 * length es ≤ length t → entriesFrom (sets t i (rowsOf es)) (length es) i ≡ es
+unfolding entriesFrom rowsOf
 entries-back [] t i h = refl
 entries-back (e ∷ es) t i h =
     rw (stored-apart (rowOf e) (rowsOf es) t i)

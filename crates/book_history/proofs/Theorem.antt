@@ -68,6 +68,7 @@ rows-free b letters e =
     leb-true (length (b .entries) + length letters) (b .rows) (rows .0)
 
 numbered : (last m : ℕ) (letters : List Figures) → length (entriesOn last m letters) ≡ length letters
+unfolding entriesOn
 numbered last m [] = refl
 numbered last m (f ∷ fs) = ap suc (numbered (last + 1) m fs)
 
@@ -137,10 +138,11 @@ unfolding figuresAt
 no-figures n = simp (zeros n)
 
 no-entries : (n : ℕ) → entriesOf (times n 0) ≡ []
-unfolding entriesOf
+unfolding entriesOf entriesFrom
 no-entries n = ap (λ (k : ℕ). entriesFrom (times n 0) k 17) (zeros n 0)
 
 empty-holds : (n : ℕ) → Holds (times n 0) (emptyList ((n - 17) / 9))
+unfolding totalsOf
 empty-holds n =
     record {
       good = record { claim = omega (arith, zeros n 0); summed = no-figures n ∙ ap totalsOf (sym (no-entries n)) };
@@ -149,6 +151,7 @@ empty-holds n =
 
 -- entries are only ever added behind those that are there, so what is found once is found again
 found-again : (es fs : List Entry) (m : ℕ) (e : Entry) → finding es m ≡ Found e → finding (es ++ fs) m ≡ Found e
+unfolding finding
 found-again [] fs m e h = absurd (let z : _≡_ {A = ℕ} 0 1 = cc in omega arith)
 found-again (x ∷ es) fs m e h = by-test (eqb (x .number) m) (found-again es fs m e) h
   where

@@ -5,8 +5,9 @@ use mathlib.Core.Bool.{Bool, true, false, _&&_, cond}
 use mathlib.Core.Path.{_≡_, refl, sym, ap, _∙_}
 use lib.Dec.{leb, eqb}
 use borrow.Author.Tests.{leb-true, leb-false, le-leb, lt-leb, eqb-true, eq-eqb, ne-eqb, eqb-false}
+use Rattle.measure.specs.Measures.{sums}
 use Rattle.figures.specs.declared.Figures.{Figures}
-use Rattle.figures.specs.Figures.{plus, minus, same, covers, most, fits}
+use Rattle.figures.specs.Figures.{figures, plus, minus, same, covers, most, fits}
 
 both : (p q : Bool) → p && q ≡ true → (p ≡ true) × (q ≡ true)
 both true q e = (refl, e)
@@ -42,6 +43,22 @@ pub fitting : (a : Figures) → fits a ≡ true → Covered most a
 unfolding fits
 fitting a e = covered most a e
 
+pub same-true : (a b : Figures) → same a b ≡ true → a ≡ b
+unfolding same
+same-true a b e =
+    let u = both _ (eqb (a .sums .credit .0) (b .sums .credit .0)) e in
+    let v = both _ (eqb (a .sums .debit .0) (b .sums .debit .0)) (u .0) in
+    let w = both _ (eqb (a .sums .views .0) (b .sums .views .0)) (v .0) in
+    let x = both _ (eqb (a .sums .credits .0) (b .sums .credits .0)) (w .0) in
+    let y = both (eqb (a .bundles) (b .bundles)) (eqb (a .sums .debits .0) (b .sums .debits .0)) (x .0) in
+    let bundles = eqb-true (a .bundles) (b .bundles) (y .0) in
+    let debits = eqb-true (a .sums .debits .0) (b .sums .debits .0) (y .1) in
+    let credits = eqb-true (a .sums .credits .0) (b .sums .credits .0) (x .1) in
+    let views = eqb-true (a .sums .views .0) (b .sums .views .0) (w .1) in
+    let debit = eqb-true (a .sums .debit .0) (b .sums .debit .0) (v .1) in
+    let credit = eqb-true (a .sums .credit .0) (b .sums .credit .0) (u .1) in
+    λ i. figures (bundles i) (sums (debits i) (debit i) (credits i) (credit i) (views i))
+
 -- taking a row's figures away: what is left is the rest exactly where the whole was the row and the rest
 one-step : (l a b : ℕ) → eqb l (a + b) ≡ leb a l && eqb (l - a) b
 one-step l a b = by-order (leb a l) refl
@@ -73,10 +90,10 @@ same-step l a b =
     rw (one-step (l .bundles), one-step (l .sums .debits .0), one-step (l .sums .credits .0), one-step (l .sums .views .0), one-step (l .sums .debit .0), one-step (l .sums .credit .0))
     (six (leb (a .bundles) (l .bundles)) (leb (a .sums .debits .0) (l .sums .debits .0)) (leb (a .sums .credits .0) (l .sums .credits .0)) (leb (a .sums .views .0) (l .sums .views .0)) (leb (a .sums .debit .0) (l .sums .debit .0)) (leb (a .sums .credit .0) (l .sums .credit .0)) (eqb (l .bundles - a .bundles) (b .bundles)) (eqb (l .sums .debits .0 - a .sums .debits .0) (b .sums .debits .0)) (eqb (l .sums .credits .0 - a .sums .credits .0) (b .sums .credits .0)) (eqb (l .sums .views .0 - a .sums .views .0) (b .sums .views .0)) (eqb (l .sums .debit .0 - a .sums .debit .0) (b .sums .debit .0)) (eqb (l .sums .credit .0 - a .sums .credit .0) (b .sums .credit .0)))
 
--- a sum fits 64 bits where the one leaves room for the other
-pub room : (a b : ℕ) → a ≤ 0xFFFF_FFFF_FFFF_FFFF → leb (a + b) 0xFFFF_FFFF_FFFF_FFFF ≡ leb b (0xFFFF_FFFF_FFFF_FFFF - a)
-room a b h = by-order (leb b (0xFFFF_FFFF_FFFF_FFFF - a)) refl
+-- a sum keeps within a limit where the one leaves room for the other
+pub room : (limit a b : ℕ) → a ≤ limit → leb (a + b) limit ≡ leb b (limit - a)
+room limit a b h = by-order (leb b (limit - a)) refl
   where
-    by-order : (t : Bool) → leb b (0xFFFF_FFFF_FFFF_FFFF - a) ≡ t → leb (a + b) 0xFFFF_FFFF_FFFF_FFFF ≡ t
-    by-order true e = le-leb (a + b) 0xFFFF_FFFF_FFFF_FFFF (omega (arith, leb-true b (0xFFFF_FFFF_FFFF_FFFF - a) e))
-    by-order false e = lt-leb (a + b) 0xFFFF_FFFF_FFFF_FFFF (omega (arith, leb-false b (0xFFFF_FFFF_FFFF_FFFF - a) e))
+    by-order : (t : Bool) → leb b (limit - a) ≡ t → leb (a + b) limit ≡ t
+    by-order true e = le-leb (a + b) limit (omega (arith, leb-true b (limit - a) e))
+    by-order false e = lt-leb (a + b) limit (omega (arith, leb-false b (limit - a) e))

@@ -19,7 +19,7 @@ abbrev pub plus : Figures → Figures → Figures
 plus a b = figures (a .bundles + b .bundles) (together (a .sums) (b .sums))
 
 -- many, added up
-abbrev pub allOf : List Figures → Figures
+unfoldable pub allOf : List Figures → Figures
 allOf [] = noFigures
 allOf (f ∷ fs) = plus f (allOf fs)
 

@@ -34,6 +34,7 @@ come-to : (set : CharacterSet) (ls : List CashLetter)
     ≡ figures (total bundleCount ls)
     (sums (total (ofLetter (debits set)) ls) (total (ofLetter (debitCents set)) ls) (total (ofLetter (credits set)) ls)
     (total (ofLetter (creditCents set)) ls) (total (ofLetter viewCount) ls))
+unfolding allOf
 come-to set [] = refl
 come-to set (l ∷ ls) = ap (plus (figuresOf set l)) (come-to set ls)
 

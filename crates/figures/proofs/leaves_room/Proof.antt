@@ -13,7 +13,7 @@ sub-result c = search needs
 
 -- src/lib.rt:18:1
 returns : tie.Need-returns
-returns c = sym (room (c .args .a) (c .args .b) (omega arith))
+returns c = sym (room 0xFFFF_FFFF_FFFF_FFFF (c .args .a) (c .args .b) (omega arith))
 
 pub leaves-room-spec : {M : Type 1} → statement M
 leaves-room-spec = tie.close (tie.spec sub-result returns)
