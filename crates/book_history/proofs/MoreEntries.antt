@@ -29,7 +29,7 @@ head-kept book =
     rw (set-getD book 0 0, set-getD book 1 0, set-getD book 2 0, set-getD book 3 0, set-getD book 4 0, set-getD book 5 0, set-getD book 6 0, set-getD book 7 0)
 
 nothing-more : (book : List ℕ) → withEntries book [] ≡ book
-unfolding withEntries
+unfolding withEntries rowsOf totalsOf
 nothing-more book =
     (λ i. sets book 0 (add-zero (rowsClaimed book) i ∷ add-zero (lastNumber book) i ∷ numbersOf (plus-none (runningTotals book) i)))
     ∙ head-kept book
