@@ -9,7 +9,8 @@ use lib.ListN.{length, getD, set, drop}
 use lib.Seq.{sets, length-sets, getD-set-other}
 use borrow.Author.Tests.{leb-true, le-leb, lt-leb}
 use Rattle.frame.specs.Unless.{unless}
-use Rattle.passes.specs.declared.Fault.the-variants.{Room, Duplicate, Full}
+use Rattle.passes.specs.declared.Fault.{Fault}
+use Rattle.passes.specs.declared.Fault.the-variants.{Room, Duplicate, Full, Book}
 use Rattle.passes.specs.declared.Totals.{Totals}
 use Rattle.passes.specs.declared.Answer.{Answer}
 use Rattle.passes.specs.declared.Answer.the-variants.{Accepted}
@@ -25,6 +26,7 @@ use Rattle.book.specs.PlainList.{totalsOf, isTaken, entriesOn, hasRoom, 
 use Rattle.book.specs.Table.{rowsClaimed, lastNumber, runningTotals, rowsThere, rowsOf, entriesOf, plainListOf, isBook, withEntries}
 use Rattle.book.specs.Calls.{enterAnswer}
 use Rattle.book.proofs.Laws.{Sound, sound}
+use Rattle.passes.specs.declared.Answer.the-variants as answers
 use Rattle.passes.specs.Rows as rows
 
 entries-count : (last m : ℕ) (fs : List Figures) → length (entriesOn last m fs) ≡ length fs
@@ -140,3 +142,14 @@ module _ (file book : List ℕ) (m : ℕ) (t : Totals) (a : AcceptedLetters file
   book-raised after r =
       rw (entries-count (lastNumber book) m (lettersOf file), entries-sum (lastNumber book) m (lettersOf file), a .count, a .sum)
       (r ∙ rw (claimed-kept, last-kept, sums-kept, w))
+
+-- a book that is none, and a file that the reader refuses
+module _ (file table book : List ℕ) (m : ℕ) where
+  pub no-book : isBook book ≡ false → Refused Book 0 0 ≡ enterAnswer file m (length table) book
+  unfolding enterAnswer
+  no-book b = rw b
+
+  pub refused : (fault : Fault) (place offset : ℕ) → isBook book ≡ true → surveyed file ≡ answers.Refused fault place offset
+      → Refused fault place offset ≡ enterAnswer file m (length table) book
+  unfolding enterAnswer answerOf entering
+  refused fault place offset b e = rw (b, e)

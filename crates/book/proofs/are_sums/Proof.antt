@@ -11,12 +11,6 @@ use Rattle.book.proofs.Laws.{Walk, sums-none, sums-short, sums-behind}
 use borrow.Author.Needs.{needs}
 use Rattle.book.proofs.are_sums.Statement.{statement}
 use Rattle.book.proofs.are_sums.Tie as tie
-use Rattle.book.proofs.are_sums.Reads as reads
-use Rattle.book.proofs.are_sums.Lts as lts
-use Rattle.book.proofs.figures_at.Reads as figures-at-reads
-use Rattle.figures.proofs.Figures.are_none.Reads as are-none-reads
-use Rattle.figures.proofs.Figures.holds.Reads as holds-reads
-use Rattle.figures.proofs.Figures.without.Reads as without-reads
 
 abbrev Inv-loop : tie.InvT-loop
 Inv-loop book claimed left₀ at₀ rows₀ left at rows =
@@ -26,55 +20,42 @@ Inv-loop book claimed left₀ at₀ rows₀ left at rows =
 abbrev μ-loop : tie.MeasureT-loop
 μ-loop book claimed left₀ at₀ rows₀ left at rows = rows
 
--- src/lib.rt:115:9
 figures-at-requires : tie.Need-figures-at-requires Inv-loop μ-loop
 figures-at-requires c κs = search needs
 
--- src/lib.rt:118:5
 loop-holds : tie.Need-loop-holds Inv-loop μ-loop
 loop-holds c = (ap (λ (f : Figures). same f (totalsOf (entriesFrom (now (c .before .before .args .book)) (c .before .before .args .claimed) 17))) (c .figures-at .ensures), search needs)
 
--- src/lib.rt:119:36
 add-figures-at : tie.Need-add-figures-at Inv-loop μ-loop
 add-figures-at c = search needs
 
--- src/lib.rt:119:13
 figures-at-requires-2 : tie.Need-figures-at-requires-2 Inv-loop μ-loop
 figures-at-requires-2 c κs = search needs
 
--- src/lib.rt:120:13
 holds-requires : tie.Need-holds-requires Inv-loop μ-loop
 holds-requires c κs = search needs
 
--- src/lib.rt:121:13
 returns : tie.Need-returns Inv-loop μ-loop
 returns c = sym (sums-short (now (c .before .before .before .before .before .before .before .args .book)) (c .before .before .before .before .loop .at) (c .before .before .before .before .loop .rows) (c .before .before .before .before .loop .left) (c .before .before .before .loop-test .taken) (ap (covers (c .before .before .before .before .loop .left)) (sym (c .before .before .figures-at2 .ensures)) ∙ sym (c .before .holds .ensures) ∙ not-true (c .before .holds .result) (c .if1 .taken))) ∙ c .before .before .before .before .loop .inv .0
 
--- src/lib.rt:123:9
 without-requires : tie.Need-without-requires Inv-loop μ-loop
 without-requires c κs = sym (c .before .holds .ensures) ∙ not-false (c .before .holds .result) (c .if1 .left)
 
--- src/lib.rt:124:9
 add-at : tie.Need-add-at Inv-loop μ-loop
 add-at c = search needs
 
--- src/lib.rt:125:9
 sub-rows : tie.Need-sub-rows Inv-loop μ-loop
 sub-rows c = search needs
 
--- src/lib.rt:118:5
 loop-less : tie.Need-loop-less Inv-loop μ-loop
 loop-less c = search needs
 
--- src/lib.rt:118:5
 loop-again : tie.Need-loop-again Inv-loop μ-loop
 loop-again c = (ap (λ (f : Figures). same f (totalsOf (entriesFrom (now (c .before .before .before .before .before .before .before .before .args .book)) (c .before .before .before .before .before .loop .rows - 1) (c .before .before .before .before .before .loop .at + 9)))) (c .without .ensures ∙ ap (minus (c .before .before .before .before .before .loop .left)) (c .before .before .before .figures-at2 .ensures)) ∙ sym (sums-behind (now (c .before .before .before .before .before .before .before .before .args .book)) (c .before .before .before .before .before .loop .at) (c .before .before .before .before .before .loop .rows) (c .before .before .before .before .before .loop .left) (c .before .before .before .before .loop-test .taken) (ap (covers (c .before .before .before .before .before .loop .left)) (sym (c .before .before .before .figures-at2 .ensures)) ∙ sym (c .before .before .holds .ensures) ∙ not-false (c .before .before .holds .result) (c .before .if1 .left))) ∙ c .before .before .before .before .before .loop .inv .0, search needs)
 
--- src/lib.rt:127:5
 are-none-requires : tie.Need-are-none-requires Inv-loop μ-loop
 are-none-requires c κs = search needs
 
--- src/lib.rt:111:1
 returns-2 : tie.Need-returns-2 Inv-loop μ-loop
 returns-2 c = c .are-none .ensures ∙ sym (sums-none (now (c .before .before .before .before .before .args .book)) (c .before .before .loop .at) (c .before .before .loop .rows) (c .before .before .loop .left) (c .before .loop-test .left)) ∙ c .before .before .loop .inv .0
 

@@ -9,9 +9,6 @@ use Rattle.book.proofs.Laws.{Walk, row-within, row-at, found-none, foun
 use borrow.Author.Needs.{needs}
 use Rattle.book.proofs.first_numbered.Statement.{statement}
 use Rattle.book.proofs.first_numbered.Tie as tie
-use Rattle.book.proofs.first_numbered.Reads as reads
-use Rattle.book.proofs.first_numbered.Lts as lts
-use Rattle.book.proofs.entry_at.Reads as entry-at-reads
 
 abbrev Inv-loop : tie.InvT-loop
 Inv-loop book claimed number at₀ rows₀ at rows =
@@ -20,47 +17,36 @@ Inv-loop book claimed number at₀ rows₀ at rows =
 abbrev μ-loop : tie.MeasureT-loop
 μ-loop book claimed number at₀ rows₀ at rows = rows
 
--- src/lib.rt:164:5
 loop-holds : tie.Need-loop-holds Inv-loop μ-loop
 loop-holds c = (refl, search needs)
 
--- src/lib.rt:165:17
 add-if1 : tie.Need-add-if1 Inv-loop μ-loop
 add-if1 c = search needs
 
--- src/lib.rt:165:12
 mul-if1 : tie.Need-mul-if1 Inv-loop μ-loop
 mul-if1 c = search needs
 
--- src/lib.rt:165:12
 shared-slice-read-if1 : tie.Need-shared-slice-read-if1 Inv-loop μ-loop
 shared-slice-read-if1 c = row-at (now (c .before .before .before .before .args .book)) (c .before .before .before .before .args .claimed) (c .before .before .loop .rows) (c .before .before .loop .at) (c .before .before .before .before .pre) (c .before .before .loop .inv .1) (c .before .loop-test .taken) 1 (omega arith)
 
--- src/lib.rt:166:35
 entry-at-requires : tie.Need-entry-at-requires Inv-loop μ-loop
 entry-at-requires c κs = row-within (now (c .before .before .before .before .before .args .book)) (c .before .before .before .before .before .args .claimed) (c .before .before .before .loop .rows) (c .before .before .before .loop .at) (c .before .before .before .before .before .pre) (c .before .before .before .loop .inv .1) (c .before .before .loop-test .taken)
 
--- src/lib.rt:166:13
 returns : tie.Need-returns Inv-loop μ-loop
 returns c = ap Found (c .entry-at .ensures) ∙ sym (found-here (now (c .before .before .before .before .before .before .args .book)) (c .before .before .before .before .loop .at) (c .before .before .before .before .loop .rows) (c .before .before .before .before .before .before .args .number) (c .before .before .before .loop-test .taken) (c .before .if1 .taken)) ∙ c .before .before .before .before .loop .inv .0
 
--- src/lib.rt:168:9
 add-at : tie.Need-add-at Inv-loop μ-loop
 add-at c = search needs
 
--- src/lib.rt:169:9
 sub-rows : tie.Need-sub-rows Inv-loop μ-loop
 sub-rows c = search needs
 
--- src/lib.rt:164:5
 loop-less : tie.Need-loop-less Inv-loop μ-loop
 loop-less c = search needs
 
--- src/lib.rt:164:5
 loop-again : tie.Need-loop-again Inv-loop μ-loop
 loop-again c = (sym (found-behind (now (c .before .before .before .before .before .args .book)) (c .before .before .before .loop .at) (c .before .before .before .loop .rows) (c .before .before .before .before .before .args .number) (c .before .before .loop-test .taken) (c .if1 .left)) ∙ c .before .before .before .loop .inv .0, search needs)
 
--- src/lib.rt:158:1
 returns-2 : tie.Need-returns-2 Inv-loop μ-loop
 returns-2 c = sym (found-none (now (c .before .before .before .args .book)) (c .before .loop .at) (c .before .loop .rows) (c .before .before .before .args .number) (c .loop-test .left)) ∙ c .before .loop .inv .0
 

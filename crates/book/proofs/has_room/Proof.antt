@@ -6,42 +6,28 @@ use Rattle.book.specs.Table.{rowsThere, rowsClaimed, lastNumber}
 use borrow.Author.Needs.{needs}
 use Rattle.book.proofs.has_room.Statement.{statement}
 use Rattle.book.proofs.has_room.Tie as tie
-use Rattle.book.proofs.has_room.Reads as reads
-use Rattle.book.proofs.has_room.Lts as lts
-use Rattle.book.proofs.figures_at.Reads as figures-at-reads
-use Rattle.book.proofs.number_at.Reads as number-at-reads
-use Rattle.book.proofs.rows_there.Reads as rows-there-reads
-use Rattle.figures.proofs.Figures.has_room_for.Reads as has-room-for-reads
 
--- src/lib.rt:263:16
 rows-there-requires : tie.Need-rows-there-requires
 rows-there-requires c κs = search needs
 
--- src/lib.rt:263:35
 number-at-requires : tie.Need-number-at-requires
 number-at-requires c κs = search needs
 
--- src/lib.rt:263:16
 sub-free : tie.Need-sub-free
 sub-free c = search needs
 
--- src/lib.rt:264:9
 figures-at-requires : tie.Need-figures-at-requires
 figures-at-requires c κs = search needs
 
--- src/lib.rt:266:11
 has-room-for-requires : tie.Need-has-room-for-requires
 has-room-for-requires c κs = search needs
 
--- src/lib.rt:267:47
 number-at-requires-2 : tie.Need-number-at-requires-2
 number-at-requires-2 c κs = search needs
 
--- src/lib.rt:267:23
 sub-result : tie.Need-sub-result
 sub-result c = search needs
 
--- src/lib.rt:259:1
 returns : tie.Need-returns
 returns c =
     rw (room (rowsThere (now (c .before .before .before .before .before .before .args .book))) (rowsClaimed (now (c .before .before .before .before .before .before .args .book))) (c .before .before .before .before .before .before .args .letters) (c .before .before .before .before .before .before .pre), room 0xFFFF_FFFF_FFFF_FFFF (lastNumber (now (c .before .before .before .before .before .before .args .book))) (c .before .before .before .before .before .before .args .letters) (omega (arith, c .number-at2 .ensures)))

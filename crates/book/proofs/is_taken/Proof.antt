@@ -8,8 +8,6 @@ use Rattle.book.proofs.Laws.{Walk, row-at, taken-none, taken-here, take
 use borrow.Author.Needs.{needs}
 use Rattle.book.proofs.is_taken.Statement.{statement}
 use Rattle.book.proofs.is_taken.Tie as tie
-use Rattle.book.proofs.is_taken.Reads as reads
-use Rattle.book.proofs.is_taken.Lts as lts
 
 abbrev Inv-loop : tie.InvT-loop
 Inv-loop book claimed number at₀ rows₀ at rows =
@@ -18,43 +16,33 @@ Inv-loop book claimed number at₀ rows₀ at rows =
 abbrev μ-loop : tie.MeasureT-loop
 μ-loop book claimed number at₀ rows₀ at rows = rows
 
--- src/lib.rt:147:5
 loop-holds : tie.Need-loop-holds Inv-loop μ-loop
 loop-holds c = (refl, search needs)
 
--- src/lib.rt:148:17
 add-if1 : tie.Need-add-if1 Inv-loop μ-loop
 add-if1 c = search needs
 
--- src/lib.rt:148:12
 mul-if1 : tie.Need-mul-if1 Inv-loop μ-loop
 mul-if1 c = search needs
 
--- src/lib.rt:148:12
 shared-slice-read-if1 : tie.Need-shared-slice-read-if1 Inv-loop μ-loop
 shared-slice-read-if1 c = row-at (now (c .before .before .before .args .book)) (c .before .before .before .args .claimed) (c .before .before .loop .rows) (c .before .before .loop .at) (c .before .before .before .pre) (c .before .before .loop .inv .1) (c .before .loop-test .taken) 2 (omega arith)
 
--- src/lib.rt:149:13
 returns : tie.Need-returns Inv-loop μ-loop
 returns c = sym (taken-here (now (c .before .before .before .before .args .book)) (c .before .before .before .loop .at) (c .before .before .before .loop .rows) (c .before .before .before .before .args .number) (c .before .before .loop-test .taken) (c .if1 .taken)) ∙ c .before .before .before .loop .inv .0
 
--- src/lib.rt:151:9
 add-at : tie.Need-add-at Inv-loop μ-loop
 add-at c = search needs
 
--- src/lib.rt:152:9
 sub-rows : tie.Need-sub-rows Inv-loop μ-loop
 sub-rows c = search needs
 
--- src/lib.rt:147:5
 loop-less : tie.Need-loop-less Inv-loop μ-loop
 loop-less c = search needs
 
--- src/lib.rt:147:5
 loop-again : tie.Need-loop-again Inv-loop μ-loop
 loop-again c = (sym (taken-behind (now (c .before .before .before .before .args .book)) (c .before .before .before .loop .at) (c .before .before .before .loop .rows) (c .before .before .before .before .args .number) (c .before .before .loop-test .taken) (c .if1 .left)) ∙ c .before .before .before .loop .inv .0, search needs)
 
--- src/lib.rt:141:1
 returns-2 : tie.Need-returns-2 Inv-loop μ-loop
 returns-2 c = sym (taken-none (now (c .before .before .args .book)) (c .before .loop .at) (c .before .loop .rows) (c .before .before .args .number) (c .loop-test .left)) ∙ c .before .loop .inv .0
 

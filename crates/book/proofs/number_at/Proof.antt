@@ -4,22 +4,16 @@ use lib.ListN.{List·getD-eq-default}
 use borrow.Author.Needs.{needs}
 use Rattle.book.proofs.number_at.Statement.{statement}
 use Rattle.book.proofs.number_at.Tie as tie
-use Rattle.book.proofs.number_at.Reads as reads
-use Rattle.book.proofs.number_at.Lts as lts
 
--- src/lib.rt:60:16
 mul-result : tie.Need-mul-result
 mul-result c = search needs
 
--- src/lib.rt:60:16
 shared-slice-read-result : tie.Need-shared-slice-read-result
 shared-slice-read-result c = search needs
 
--- src/lib.rt:60:9
 returns : tie.Need-returns
 returns c = search needs
 
--- src/lib.rt:56:1
 returns-2 : tie.Need-returns-2
 returns-2 c = sym (List·getD-eq-default (now (c .before .args .book)) 0 (c .if1 .left))
 

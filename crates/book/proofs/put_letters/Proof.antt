@@ -13,16 +13,6 @@ use Rattle.book.proofs.Letters.{Entering, entering-first, entering-cut,
 use borrow.Author.Needs.{needs}
 use Rattle.book.proofs.put_letters.Statement.{statement}
 use Rattle.book.proofs.put_letters.Tie as tie
-use Rattle.book.proofs.put_letters.Reads as reads
-use Rattle.book.proofs.put_letters.Lts as lts
-use Rattle.book.proofs.put_row.Reads as put-row-reads
-use Rattle.frame.proofs.Cursor.at.Reads as at-reads
-use Rattle.frame.proofs.Cursor.frame.Reads as frame-reads
-use Rattle.frame.proofs.part_of.Reads as part-of-reads
-use Rattle.judge.proofs.type_of.Reads as type-of-reads
-use Rattle.standing.proofs.Standing.start.Reads as start-reads
-use Rattle.standing.proofs.moved.Reads as moved-reads
-use Rattle.text.proofs.set_of.Reads as set-of-reads
 
 abbrev Inv-loop : tie.InvT-loop
 Inv-loop file number last book₀ base set s₀ at₀ place₀ given₀ book s at place given =
@@ -41,79 +31,60 @@ typed c = ap (typeOf (c .before .before .before .before .before .before .before 
 set-of-requires : tie.Need-set-of-requires Inv-loop μ-loop
 set-of-requires c κs = search needs
 
--- src/lib.rt:225:9
 start-requires : tie.Need-start-requires Inv-loop μ-loop
 start-requires c κs = search needs
 
--- src/lib.rt:229:5
 loop-holds : tie.Need-loop-holds Inv-loop μ-loop
 loop-holds c = entering-first (c .before .set-of .result) (now (c .before .before .before .before .args .file)) (now (c .before .before .before .before .args .book)) (c .before .before .before .before .args .number) (c .before .before .before .before .args .last) (c .before .before .before .before .args .base) (c .start .result) (c .before .set-of .ensures) (c .before .before .before .before .pre .0) (c .before .before .before .before .pre .1) (c .before .before .before .before .pre .2) (c .start .ensures (c .before .set-of .result) (now (c .before .before .before .before .args .file)))
 
--- src/lib.rt:230:15
 at-requires : tie.Need-at-requires Inv-loop μ-loop
 at-requires c κs = search needs
 
--- src/lib.rt:230:15
 frame-requires : tie.Need-frame-requires Inv-loop μ-loop
 frame-requires c κs = search needs
 
--- src/lib.rt:232:17
 enum-told : tie.Need-enum-told Inv-loop μ-loop
 enum-told c = search needs
 
--- src/lib.rt:232:17
 same-length : tie.Need-same-length Inv-loop μ-loop
 same-length c = c .before .before .before .before .before .loop .inv .long
 
--- src/lib.rt:232:17
 returns : tie.Need-returns Inv-loop μ-loop
 returns c = entering-cut (c .before .before .before .before .before .before .before .set-of .result) (now (c .before .before .before .before .before .before .before .before .before .before .args .file)) (now (c .before .before .before .before .before .before .before .before .before .before .args .book)) (c .before .before .before .before .before .before .before .before .before .before .args .number) (c .before .before .before .before .before .before .before .before .before .before .args .last) (c .before .before .before .before .before .before .before .before .before .before .args .base) (c .before .before .before .before .before .loop .at) (c .before .before .before .before .before .loop .s) (c .before .before .before .before .before .loop .book) (c .before .before .before .before .before .loop .place) (c .before .before .before .before .before .loop .given) (c .before .before .before .before .before .loop .inv) (c .before .before .before .before .loop-test .taken) (ap (frameAt (now (c .before .before .before .before .before .before .before .before .before .before .args .file))) (sym (c .before .before .before .at .ensures)) ∙ sym (c .before .before .frame .ensures) ∙ c .enum-told .given .1)
 
--- src/lib.rt:234:26
 enum-known-start : tie.Need-enum-known-start Inv-loop μ-loop
 enum-known-start c = search needs
 
--- src/lib.rt:235:48
 part-of-requires : tie.Need-part-of-requires Inv-loop μ-loop
 part-of-requires c κs = search needs
 
--- src/lib.rt:235:21
 type-of-requires : tie.Need-type-of-requires Inv-loop μ-loop
 type-of-requires c κs = search needs
 
--- src/lib.rt:236:17
 moved-requires : tie.Need-moved-requires Inv-loop μ-loop
 moved-requires c κs = place-moves (c .before .before .before .before .before .before .before .before .before .before .set-of .result) (now (c .before .before .before .before .before .before .before .before .before .before .before .before .before .args .file)) (c .before .before .before .before .before .before .before .before .loop .at) (c .before .before .before .before .before .before .before .before .loop .s) (c .before .before .before .before .before .before .before .before .loop .inv .here)
 
--- src/lib.rt:243:21
 add-given : tie.Need-add-given Inv-loop μ-loop
 add-given c = record { fits = entering-number (c .before .before .before .before .before .before .before .before .before .before .before .before .before .set-of .result) (now (c .before .before .before .before .before .before .before .before .before .before .before .before .before .before .before .before .args .file)) (now (c .before .before .before .before .before .before .before .before .before .before .before .before .before .before .before .before .args .book)) (c .before .before .before .before .before .before .before .before .before .before .before .before .before .before .before .before .args .number) (c .before .before .before .before .before .before .before .before .before .before .before .before .before .before .before .before .args .last) (c .before .before .before .before .before .before .before .before .before .before .before .before .before .before .before .before .args .base) (c .before .before .before .before .before .before .before .before .before .before .before .loop .at) (c .before .before .before .before .before .before .before .before .before .before .before .loop .s) (c .before .before .before .before .before .before .before .before .before .before .before .loop .book) (c .before .before .before .before .before .before .before .before .before .before .before .loop .place) (c .before .before .before .before .before .before .before .before .before .before .before .loop .given) (c .before .before .before .before .before .before .before .before .before .before .before .loop .inv) (c .before .before .before .before .before .before .before .before .before .before .loop-test .taken) _ _ (c .before .before .before .type-of .result) (whole (c .before .before)) (typed (c .before .before)) (c .before .before .moved .result) (c .before .before .moved .ensures) (c .before .if1 .taken) }
 
--- src/lib.rt:249:21
 put-row-requires : tie.Need-put-row-requires Inv-loop μ-loop
 put-row-requires c κs = entering-room (c .before .before .before .before .before .before .before .before .before .before .before .before .before .before .set-of .result) (now (c .before .before .before .before .before .before .before .before .before .before .before .before .before .before .before .before .before .args .file)) (now (c .before .before .before .before .before .before .before .before .before .before .before .before .before .before .before .before .before .args .book)) (c .before .before .before .before .before .before .before .before .before .before .before .before .before .before .before .before .before .args .number) (c .before .before .before .before .before .before .before .before .before .before .before .before .before .before .before .before .before .args .last) (c .before .before .before .before .before .before .before .before .before .before .before .before .before .before .before .before .before .args .base) (c .before .before .before .before .before .before .before .before .before .before .before .before .loop .at) (c .before .before .before .before .before .before .before .before .before .before .before .before .loop .s) (c .before .before .before .before .before .before .before .before .before .before .before .before .loop .book) (c .before .before .before .before .before .before .before .before .before .before .before .before .loop .place) (c .before .before .before .before .before .before .before .before .before .before .before .before .loop .given) (c .before .before .before .before .before .before .before .before .before .before .before .before .loop .inv) (c .before .before .before .before .before .before .before .before .before .before .before .loop-test .taken) _ _ (c .before .before .before .before .type-of .result) (whole (c .before .before .before)) (typed (c .before .before .before)) (c .before .before .before .moved .result) (c .before .before .before .moved .ensures) (c .before .before .if1 .taken)
 
--- src/lib.rt:250:21
 add-place : tie.Need-add-place Inv-loop μ-loop
 add-place c = let h = entering-room (c .before .before .before .before .before .before .before .before .before .before .before .before .before .before .before .before .before .set-of .result) (now (c .before .before .before .before .before .before .before .before .before .before .before .before .before .before .before .before .before .before .before .before .args .file)) (now (c .before .before .before .before .before .before .before .before .before .before .before .before .before .before .before .before .before .before .before .before .args .book)) (c .before .before .before .before .before .before .before .before .before .before .before .before .before .before .before .before .before .before .before .before .args .number) (c .before .before .before .before .before .before .before .before .before .before .before .before .before .before .before .before .before .before .before .before .args .last) (c .before .before .before .before .before .before .before .before .before .before .before .before .before .before .before .before .before .before .before .before .args .base) (c .before .before .before .before .before .before .before .before .before .before .before .before .before .before .before .loop .at) (c .before .before .before .before .before .before .before .before .before .before .before .before .before .before .before .loop .s) (c .before .before .before .before .before .before .before .before .before .before .before .before .before .before .before .loop .book) (c .before .before .before .before .before .before .before .before .before .before .before .before .before .before .before .loop .place) (c .before .before .before .before .before .before .before .before .before .before .before .before .before .before .before .loop .given) (c .before .before .before .before .before .before .before .before .before .before .before .before .before .before .before .loop .inv) (c .before .before .before .before .before .before .before .before .before .before .before .before .before .before .loop-test .taken) _ _ (c .before .before .before .before .before .before .before .type-of .result) (whole (c .before .before .before .before .before .before)) (typed (c .before .before .before .before .before .before)) (c .before .before .before .before .before .before .moved .result) (c .before .before .before .before .before .before .moved .ensures) (c .before .before .before .before .before .if1 .taken) in omega (arith, h, c .before .before .before .before .before .before .before .before .before .before .before .before .before .before .before .loop .inv .long, c .before .before .before .before .before .before .before .before .before .before .before .before .before .before .before .before .before .before .before .before .good)
 
--- src/lib.rt:252:22
 add-at : tie.Need-add-at Inv-loop μ-loop
 add-at c = let w = whole-within (now (c .before .before .before .before .before .before .before .before .before .before .before .before .before .before .before .args .file)) (c .before .before .before .before .before .before .before .before .before .before .loop .at) _ _ (whole (c .before)) in omega (arith, w, c .before .before .before .before .before .before .before .before .before .before .loop .inv .here .limit)
 
--- src/lib.rt:229:5
 loop-less : tie.Need-loop-less Inv-loop μ-loop
 loop-less c = let b = whole-start (now (c .before .before .before .before .before .before .before .before .before .before .before .before .before .before .before .args .file)) (c .before .before .before .before .before .before .before .before .before .before .loop .at) _ _ (whole (c .before)) in let w = whole-within (now (c .before .before .before .before .before .before .before .before .before .before .before .before .before .before .before .args .file)) (c .before .before .before .before .before .before .before .before .before .before .loop .at) _ _ (whole (c .before)) in omega (arith, w, b)
 
--- src/lib.rt:229:5
 loop-again : tie.Need-loop-again Inv-loop μ-loop
 loop-again c = ⊎-elim (λ w. rw (w .6, w .7, w .8) (entering-one (c .before .before .before .before .before .before .before .before .before .before .before .before .set-of .result) (now (c .before .before .before .before .before .before .before .before .before .before .before .before .before .before .before .args .file)) (now (c .before .before .before .before .before .before .before .before .before .before .before .before .before .before .before .args .book)) (c .before .before .before .before .before .before .before .before .before .before .before .before .before .before .before .args .number) (c .before .before .before .before .before .before .before .before .before .before .before .before .before .before .before .args .last) (c .before .before .before .before .before .before .before .before .before .before .before .before .before .before .before .args .base) (c .before .before .before .before .before .before .before .before .before .before .loop .at) (c .before .before .before .before .before .before .before .before .before .before .loop .s) (c .before .before .before .before .before .before .before .before .before .before .loop .book) (c .before .before .before .before .before .before .before .before .before .before .loop .place) (c .before .before .before .before .before .before .before .before .before .before .loop .given) (c .before .before .before .before .before .before .before .before .before .before .loop .inv) (c .before .before .before .before .before .before .before .before .before .loop-test .taken) _ _ (c .before .before .type-of .result) (whole (c .before)) (typed (c .before)) (c .before .moved .result) (c .before .moved .ensures) (w .0 .taken) (w .3 .last .0) (w .3 .ensures))) (λ w. rw (w .1, w .2, w .3) (entering-other (c .before .before .before .before .before .before .before .before .before .before .before .before .set-of .result) (now (c .before .before .before .before .before .before .before .before .before .before .before .before .before .before .before .args .file)) (now (c .before .before .before .before .before .before .before .before .before .before .before .before .before .before .before .args .book)) (c .before .before .before .before .before .before .before .before .before .before .before .before .before .before .before .args .number) (c .before .before .before .before .before .before .before .before .before .before .before .before .before .before .before .args .last) (c .before .before .before .before .before .before .before .before .before .before .before .before .before .before .before .args .base) (c .before .before .before .before .before .before .before .before .before .before .loop .at) (c .before .before .before .before .before .before .before .before .before .before .loop .s) (c .before .before .before .before .before .before .before .before .before .before .loop .book) (c .before .before .before .before .before .before .before .before .before .before .loop .place) (c .before .before .before .before .before .before .before .before .before .before .loop .given) (c .before .before .before .before .before .before .before .before .before .before .loop .inv) (c .before .before .before .before .before .before .before .before .before .loop-test .taken) _ _ (c .before .before .type-of .result) (whole (c .before)) (typed (c .before)) (c .before .moved .result) (c .before .moved .ensures) (w .0 .left))) (c .if1 .came)
 
--- src/lib.rt:220:1
 same-length-2 : tie.Need-same-length-2 Inv-loop μ-loop
 same-length-2 c = c .before .loop .inv .long
 
--- src/lib.rt:220:1
 returns-2 : tie.Need-returns-2 Inv-loop μ-loop
 returns-2 c = entering-end (c .before .before .before .set-of .result) (now (c .before .before .before .before .before .before .args .file)) (now (c .before .before .before .before .before .before .args .book)) (c .before .before .before .before .before .before .args .number) (c .before .before .before .before .before .before .args .last) (c .before .before .before .before .before .before .args .base) (c .before .loop .at) (c .before .loop .s) (c .before .loop .book) (c .before .loop .place) (c .before .loop .given) (c .before .loop .inv) (c .loop-test .left)
 

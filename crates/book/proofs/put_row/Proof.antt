@@ -5,55 +5,40 @@ use native.Mathlib.Numerals.{add-one, add-two, add-three}
 use borrow.Author.Needs.{needs}
 use Rattle.book.proofs.put_row.Statement.{statement}
 use Rattle.book.proofs.put_row.Tie as tie
-use Rattle.book.proofs.put_row.Reads as reads
-use Rattle.book.proofs.put_row.Lts as lts
-use Rattle.book.proofs.put_figures.Reads as put-figures-reads
 
--- src/lib.rt:212:5
 mul-book : tie.Need-mul-book
 mul-book c = search needs
 
--- src/lib.rt:212:5
 slice-write-book : tie.Need-slice-write-book
 slice-write-book c = search needs
 
--- src/lib.rt:213:10
 add-book : tie.Need-add-book
 add-book c = search needs
 
--- src/lib.rt:213:5
 mul-book-2 : tie.Need-mul-book-2
 mul-book-2 c = search needs
 
--- src/lib.rt:213:5
 slice-write-book-2 : tie.Need-slice-write-book-2
 slice-write-book-2 c = simp length-set (omega arith)
 
--- src/lib.rt:214:10
 add-book-2 : tie.Need-add-book-2
 add-book-2 c = search needs
 
--- src/lib.rt:214:5
 mul-book-3 : tie.Need-mul-book-3
 mul-book-3 c = search needs
 
--- src/lib.rt:214:5
 slice-write-book-3 : tie.Need-slice-write-book-3
 slice-write-book-3 c = simp length-set (omega arith)
 
--- src/lib.rt:216:23
 add-put-figures : tie.Need-add-put-figures
 add-put-figures c = search needs
 
--- src/lib.rt:216:5
 put-figures-requires : tie.Need-put-figures-requires
 put-figures-requires c κs = simp length-set (omega arith)
 
--- src/lib.rt:208:1
 same-length : tie.Need-same-length
 same-length c = c .before .before .put-figures .kept .0 ∙ simp length-set
 
--- src/lib.rt:208:1
 returns : tie.Need-returns
 returns c = c .before .before .put-figures .ensures ∙ simp (add-one, add-two, add-three)
 

@@ -13,53 +13,37 @@ use lib.Seq.{getD-set-other}
 use borrow.Author.Needs.{needs}
 use Rattle.book.proofs.raise_head.Statement.{statement}
 use Rattle.book.proofs.raise_head.Tie as tie
-use Rattle.book.proofs.raise_head.Reads as reads
-use Rattle.book.proofs.raise_head.Lts as lts
-use Rattle.book.proofs.figures_at.Reads as figures-at-reads
-use Rattle.book.proofs.put_figures.Reads as put-figures-reads
-use Rattle.figures.proofs.raised.Reads as raised-reads
 
--- src/lib.rt:275:9
 figures-at-requires : tie.Need-figures-at-requires
 figures-at-requires c κs = search needs
 
--- src/lib.rt:276:5
 slice-read-book : tie.Need-slice-read-book
 slice-read-book c = search needs
 
--- src/lib.rt:276:5
 add-book : tie.Need-add-book
 add-book c = search needs
 
--- src/lib.rt:276:5
 slice-write-book : tie.Need-slice-write-book
 slice-write-book c = search needs
 
--- src/lib.rt:277:5
 slice-read-book-2 : tie.Need-slice-read-book-2
 slice-read-book-2 c = simp length-set (omega arith)
 
--- src/lib.rt:277:5
 add-book-2 : tie.Need-add-book-2
 add-book-2 c = let e = getD-set-other (now (c .before .before .before .before .before .args .book)) 0 1 (getD (now (c .before .before .before .before .before .args .book)) 0 0 + c .before .before .before .before .before .args .letters) 0 (eqb-false 1 0 refl) in rw e (search needs)
 
--- src/lib.rt:277:5
 slice-write-book-2 : tie.Need-slice-write-book-2
 slice-write-book-2 c = simp length-set (omega arith)
 
--- src/lib.rt:278:26
 raised-requires : tie.Need-raised-requires
 raised-requires c κs = rw (c .before .before .before .figures-at .ensures) (c .before .before .before .before .before .before .pre .3)
 
--- src/lib.rt:278:5
 put-figures-requires : tie.Need-put-figures-requires
 put-figures-requires c κs = simp length-set (omega arith)
 
--- src/lib.rt:271:1
 same-length : tie.Need-same-length
 same-length c = c .before .before .put-figures .kept .0 ∙ simp length-set
 
--- src/lib.rt:271:1
 returns : tie.Need-returns
 returns c = c .before .before .put-figures .ensures ∙ ap₂ (λ (n : ℕ) (f : Figures). sets (set (set (now (c .before .before .before .before .before .before .before .before .before .before .args .book)) 0 (getD (now (c .before .before .before .before .before .before .before .before .before .before .args .book)) 0 0 + c .before .before .before .before .before .before .before .before .before .before .args .letters)) 1 (n + c .before .before .before .before .before .before .before .before .before .before .args .letters)) 2 (numbersOf f)) (getD-set-other (now (c .before .before .before .before .before .before .before .before .before .before .args .book)) 0 1 (getD (now (c .before .before .before .before .before .before .before .before .before .before .args .book)) 0 0 + c .before .before .before .before .before .before .before .before .before .before .args .letters) 0 (eqb-false 1 0 refl)) (c .before .before .before .raised .ensures ∙ ap (λ (f : Figures). plus f (c .before .before .before .before .before .before .before .before .before .before .args .added)) (c .before .before .before .before .before .before .before .figures-at .ensures))
 

@@ -7,30 +7,20 @@ use Rattle.book.proofs.Laws.{sound}
 use borrow.Author.Needs.{needs}
 use Rattle.book.proofs.totals.Statement.{statement}
 use Rattle.book.proofs.totals.Tie as tie
-use Rattle.book.proofs.totals.Reads as reads
-use Rattle.book.proofs.totals.Lts as lts
-use Rattle.book.proofs.figures_at.Reads as figures-at-reads
-use Rattle.book.proofs.is_book.Reads as is-book-reads
-use Rattle.book.proofs.number_at.Reads as number-at-reads
 
--- src/lib.rt:188:9
 is-book-requires : tie.Need-is-book-requires
 is-book-requires c κs = search needs
 
--- src/lib.rt:189:9
 returns : tie.Need-returns
 unfolding totalsAnswer
 returns c = rw (sym (c .before .is-book .ensures) ∙ not-true (c .before .is-book .result) (c .if1 .taken))
 
--- src/lib.rt:191:19
 number-at-requires : tie.Need-number-at-requires
 number-at-requires c κs = search needs
 
--- src/lib.rt:191:39
 figures-at-requires : tie.Need-figures-at-requires
 figures-at-requires c κs = search needs
 
--- src/lib.rt:185:1
 returns-2 : tie.Need-returns-2
 unfolding totalsAnswer
 returns-2 c = let e = sym (c .before .before .before .is-book .ensures) ∙ not-false (c .before .before .before .is-book .result) (c .before .before .if1 .left) in let v = sound (now (c .before .before .before .before .before .args .book)) e in rw e (ap₂ Totals (c .before .number-at .ensures ∙ sym (v .count)) (c .figures-at .ensures ∙ v .sums))
