@@ -35,6 +35,7 @@ nothing-more book =
     ∙ head-kept book
 
 same-longer : (book : List ℕ) → Longer book book []
+unfolding totalsOf
 same-longer book =
     record {
       long = refl;
