@@ -19,7 +19,8 @@
 #define CONTROL 16
 #define LARGEST ((size_t)268435456)
 
-enum { ACCEPTED, SIZE, ROOM, CUT, LENGTH, TYPE, PLACE, FIELD, LINK, TOTAL, OPEN, AFTER, NUMBERS };
+/* The numbers of the reader and the writer, below NUMBERS, and those that x9_tiff has besides. */
+enum { ACCEPTED, SIZE, ROOM, CUT, LENGTH, TYPE, PLACE, FIELD, LINK, TOTAL, OPEN, AFTER, NUMBERS, TAGORDER = 18, TAGVALUE, ALL_NUMBERS };
 
 /* ---- Failing ---- */
 
@@ -70,7 +71,7 @@ __attribute__((used, section("__libfuzzer_extra_counters"))) static volatile str
 #endif
 
 static struct counters seen; /* over the whole process */
-static uint64_t inputs, by_number[NUMBERS];
+static uint64_t inputs, by_number[ALL_NUMBERS];
 
 #define COUNT(part, at)        \
     do {                       \
@@ -183,8 +184,26 @@ static void drop(int place, void *lent) {
     if (place == HEAP) free(lent);
 }
 
+/* Bytes at all three places; in the regions they cannot be written while the library has them. */
+static void lend(const region regions[2], uint8_t *lent[PLACES], const void *bytes, size_t len) {
+    for (int place = END; place <= BEGIN; place++) {
+        region r = regions[place];
+        lent[place] = stand(r, place, len);
+        mprotect(r.base, r.cap, PROT_READ | PROT_WRITE);
+        if (len) memcpy(lent[place], bytes, len);
+        mprotect(r.base, r.cap, PROT_READ);
+    }
+    lent[HEAP] = malloc(len);
+    if (len) memcpy(lent[HEAP], bytes, len);
+}
+
+static void take_back(uint8_t *lent[PLACES], const void *bytes, size_t len, const char *what) {
+    for (int place = 0; len && place < PLACES; place++) MUST(!memcmp(lent[place], bytes, len), "the %s was changed", what);
+    free(lent[HEAP]);
+}
+
 /* The number in a length field. */
-static size_t told(const uint8_t *at) {
+static inline size_t told(const uint8_t *at) {
     return (size_t)at[0] << 24 | (size_t)at[1] << 16 | (size_t)at[2] << 8 | at[3];
 }
 
@@ -210,7 +229,8 @@ static void report(void) {
     if (!to) return;
     fprintf(to, "inputs %" PRIu64, inputs);
     tell_counts(to);
-    for (int i = 0; i < NUMBERS; i++) fprintf(to, " n%d %" PRIu64, i, by_number[i]);
+    for (int i = 0; i < ALL_NUMBERS; i++)
+        if (i < NUMBERS || by_number[i]) fprintf(to, " n%d %" PRIu64, i, by_number[i]);
     fprintf(to, " answers %zu blocks %zu of %zu\n", held_in(seen.answers, ANSWERS), held_in(seen.blocks, BLOCKS_MOST), block_count);
 #ifdef BY_BLOCKS
     path = getenv("X9FUZZ_UNREACHED");

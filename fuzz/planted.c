@@ -1,5 +1,5 @@
 /* Planted faults, to see that the targets find them: the library's calls are renamed proved_*, and these stand before them. PLANT says
- * which fault: up to 32 those of the target `read`, from 33 on those of `write`. Compiled without AddressSanitizer, like the library. */
+ * which fault: up to 32 those of the target `read`, 33 to 54 those of `write`, from 55 on those of `tiff`. Compiled without AddressSanitizer, like the library. */
 #include <stdlib.h>
 #include <string.h>
 
@@ -11,6 +11,7 @@ uint64_t proved_x9_record(const uint8_t *body, size_t body_len, uint64_t answer[
 uint64_t proved_x9_write(const uint8_t *text, size_t text_len, const uint64_t *draft, size_t draft_len, uint8_t *out, size_t out_len,
                          uint64_t answer[12]);
 uint64_t proved_x9_draft(const uint8_t *file, size_t file_len, uint64_t *draft, size_t draft_len, uint64_t answer[12]);
+uint64_t proved_x9_tiff(const uint8_t *image, size_t image_len, uint64_t answer[2]);
 
 /* Bytes 5 and 6 say that the file is EBCDIC. */
 static inline int is_ebcdic(const uint8_t *file, size_t file_len) { return file_len >= 6 && file[4] == 0xF0 && file[5] == 0xF1; }
@@ -245,5 +246,125 @@ uint64_t x9_draft(const uint8_t *file, size_t file_len, uint64_t *draft, size_t 
 #elif PLANT == 54 /* a size is left in a record without parts */
     for (size_t row = 0; row < used; row += 10) if (draft[row] == 54) draft[row + 3] = 80;
 #endif
+    return number;
+}
+
+/* ---- The tags of an image ---- */
+
+static inline uint64_t low_first(const uint8_t *at, int bytes) {
+    uint64_t number = 0;
+    for (int i = bytes - 1; i >= 0; i--) number = number << 8 | at[i];
+    return number;
+}
+
+static inline void set_low_first(uint8_t *at, int bytes, uint64_t number) {
+    for (int i = 0; i < bytes; i++, number >>= 8) at[i] = (uint8_t)number;
+}
+
+/* The entries of an image whose header is right and whose entries lie within it, and how many; NULL for any other. */
+static inline uint8_t *entries_of(uint8_t *image, size_t len, size_t *count) {
+    *count = 0;
+    if (len < 8 || memcmp(image, "II*\0", 4)) return NULL;
+    uint64_t at = low_first(image + 4, 4);
+    if (at + 2 > len || at + 2 + 12 * low_first(image + at, 2) > len) return NULL;
+    *count = (size_t)low_first(image + at, 2);
+    return image + at + 2;
+}
+
+/* The first entry with a tag, from this one on; NULL if there is none. */
+static inline uint8_t *entry_of(uint8_t *entries, size_t count, size_t from, uint64_t tag) {
+    for (size_t i = from; i < count; i++)
+        if (low_first(entries + 12 * i, 2) == tag) return entries + 12 * i;
+    return NULL;
+}
+
+/* The one SHORT or LONG of an entry; -1 for any other. */
+static inline int64_t only(const uint8_t *entry) {
+    if (!entry || low_first(entry + 4, 4) != 1) return -1;
+    return entry[2] == 3 ? (int64_t)low_first(entry + 8, 2) : entry[2] == 4 ? (int64_t)low_first(entry + 8, 4) : -1;
+}
+
+/* Changes a copy of the image so that the library judges it as the planted fault would. */
+static inline void mislead(uint8_t *image, size_t len) {
+    size_t count;
+    uint8_t *entries = entries_of(image, len, &count);
+    for (size_t i = 0; i < count; i++) {
+        uint8_t *entry = entries + 12 * i;
+        uint64_t kind = low_first(entry + 2, 2), size = low_first(entry + 4, 4), offset = low_first(entry + 8, 4);
+        (void)kind, (void)size, (void)offset;
+#if PLANT == 62 /* a DOUBLE is of unknown type */
+        if (kind == 12) entry[2] = 13;
+#elif PLANT == 63 /* an SBYTE has two bytes */
+        if (kind == 6) entry[2] = 8;
+#elif PLANT == 64 /* counts are cut to 16 bits */
+        set_low_first(entry + 4, 4, size & 0xFFFF);
+#elif PLANT == 65 /* the end of a value is cut to 32 bits */
+        if (kind >= 3 && kind <= 4 && size > 2 && (uint32_t)(offset + 4 * size) < offset) set_low_first(entry + 8, 4, 0);
+#elif PLANT == 66 /* of the type the low byte alone is looked at */
+        entry[3] = 0;
+#elif PLANT == 67 /* a value of four bytes is taken for one outside */
+        if (size == 4 && (kind == 1 || kind == 7) && offset > len) set_low_first(entry + 4, 4, 5);
+#endif
+    }
+    uint8_t *one = entry_of(entries, count, 0, PLANT == 68 ? 262 : PLANT == 69 ? 273 : 282);
+    (void)one;
+#if PLANT == 68 /* the variance of Table 3 passes: black is zero */
+    if (one && only(one) == 1 && one[2] == 3) one[8] = 0;
+#elif PLANT == 69 /* the second of two offsets counts */
+    uint8_t *two = one ? entry_of(entries, count, (size_t)(one - entries) / 12 + 1, 273) : NULL;
+    if (two) memcpy(one, two, 12);
+#elif PLANT == 70 /* the two resolutions are not compared */
+    uint8_t *two = entry_of(entries, count, 0, 283);
+    if (one && two && one[2] == 5 && two[2] == 5 && low_first(one + 8, 4) + 8 <= len && low_first(two + 8, 4) + 8 <= len) {
+        uint8_t *x = image + low_first(one + 8, 4), *y = image + low_first(two + 8, 4);
+        uint64_t above = low_first(y, 4), below = low_first(y + 4, 4);
+        if (below && (above == 200 * below || above == 240 * below) && (x + 8 <= y || y + 8 <= x)) memcpy(y, x, 8);
+    }
+#endif
+}
+
+uint64_t x9_tiff(const uint8_t *image, size_t image_len, uint64_t answer[2]) {
+    uint8_t *copy = malloc(image_len + 1);
+    size_t count;
+    if (image_len) memcpy(copy, image, image_len);
+    mislead(copy, image_len);
+    uint64_t number = proved_x9_tiff(copy, image_len, answer), tag = answer[1];
+    uint8_t *entries = entries_of(copy, image_len, &count);
+    uint8_t *x = entry_of(entries, count, 0, 282), *y = entry_of(entries, count, 0, 283);
+    calls++;
+    (void)tag, (void)x, (void)y;
+#if PLANT == 55 /* reads a byte past the image */
+    sink = image[image_len];
+#elif PLANT == 56 /* reads a byte before the image */
+    sink = image[-1];
+#elif PLANT == 57 /* writes past the answer */
+    if (number == 18) answer[2] = 0;
+#elif PLANT == 58 /* a number of the answer is not written */
+    if (!number) answer[1] = ~UINT64_C(0);
+#elif PLANT == 59 /* changes the image */
+    if (number == 19 && tag == 283) ((uint8_t *)(uintptr_t)image)[image_len - 1] ^= 1;
+#elif PLANT == 60 /* another answer now and then */
+    if (calls % 20000 == 0) answer[1] ^= 1;
+#elif PLANT == 61 /* the answer is not what is returned */
+    if (number == 3 && image_len > 300) answer[0] = 0;
+#elif PLANT == 71 /* the first tag out of order is named, not the lowest */
+    for (size_t i = 1; number == 18 && i < count; i++)
+        if (low_first(entries + 12 * i, 2) <= low_first(entries + 12 * i - 12, 2)) { answer[1] = low_first(entries + 12 * i, 2); break; }
+#elif PLANT == 72 /* tags from 32768 on are below the others */
+    for (size_t i = 1; !number && i < count; i++)
+        if (low_first(entries + 12 * i, 2) >= 32768 && low_first(entries + 12 * i - 12, 2) < 32768) number = answer[0] = 18, answer[1] = low_first(entries + 12 * i, 2);
+#elif PLANT == 73 /* 282 and 283 may share their value */
+    if (number == 19 && tag == 283 && x && y && !memcmp(x + 2, y + 2, 10)) number = answer[0] = answer[1] = 0;
+#elif PLANT == 74 /* 0 over 0 is any ratio */
+    if (number == 19 && tag == 282 && x && x[2] == 5 && low_first(x + 4, 4) == 1 && !low_first(copy + low_first(x + 8, 4), 8)) answer[1] = 283;
+#elif PLANT == 75 /* the two bytes behind a SHORT are looked at */
+    uint8_t *width = entry_of(entries, count, 0, 256);
+    if (!number && width && width[2] == 3 && low_first(width + 10, 2)) number = answer[0] = 19, answer[1] = 256;
+#elif PLANT == 76 /* the next offset need not lie within */
+    if (number == 3 && entries && image_len < (size_t)(entries - copy) + 12 * count + 4) number = answer[0] = 19, answer[1] = 256;
+#elif PLANT == 77 /* an empty strip at the end is outside */
+    if (!number && only(entry_of(entries, count, 0, 279)) == 0 && only(entry_of(entries, count, 0, 273)) == (int64_t)image_len) number = answer[0] = 3;
+#endif
+    free(copy);
     return number;
 }

@@ -71,25 +71,6 @@ static void make_regions(void) {
     }
 }
 
-/* The file in all three places; in the regions it cannot be written while the library has it. */
-static void lend_file(const uint8_t *file, size_t len) {
-    for (int place = END; place <= BEGIN; place++) {
-        region r = file_regions[place];
-        lent_file[place] = stand(r, place, len);
-        mprotect(r.base, r.cap, PROT_READ | PROT_WRITE);
-        memcpy(lent_file[place], file, len);
-        mprotect(r.base, r.cap, PROT_READ);
-    }
-    lent_file[HEAP] = malloc(len);
-    memcpy(lent_file[HEAP], file, len);
-}
-
-static void take_back(const uint8_t *file, size_t len) {
-    for (int place = 0; place < PLACES; place++)
-        MUST(!memcmp(lent_file[place], file, len), "the file was changed");
-    free(lent_file[HEAP]);
-}
-
 /* ---- Where the lengths lead ---- */
 
 typedef struct {
@@ -360,7 +341,7 @@ int LLVMFuzzerTestOneInput(const uint8_t *data, size_t size) {
     memcpy(&offset, c + 4, 8);
 
     walk_file(&w, file, len);
-    lend_file(file, len);
+    lend(file_regions, lent_file, file, len);
     const uint8_t *files[PLACES] = {lent_file[END], lent_file[BEGIN], lent_file[HEAP]};
     reading *peer = peer_open(file, len);
 
@@ -410,7 +391,7 @@ int LLVMFuzzerTestOneInput(const uint8_t *data, size_t size) {
     size_t most = len - start;
     record_alone(file + start, c[15] < 200 && c[15] < most ? c[15] : most);
 
-    take_back(file, len);
+    take_back(lent_file, file, len, "file");
     if (c[0] % 64 == 5) with_long_tail(file, len, table_len, pattern, offset);
     return 0;
 }

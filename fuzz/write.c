@@ -95,24 +95,6 @@ static void make_regions(void) {
     now_what = "text";
 }
 
-/* Bytes at all three places; in the regions they cannot be written while the library has them. */
-static void lend(const region regions[2], uint8_t *lent[PLACES], const void *bytes, size_t len) {
-    for (int place = END; place <= BEGIN; place++) {
-        region r = regions[place];
-        lent[place] = stand(r, place, len);
-        mprotect(r.base, r.cap, PROT_READ | PROT_WRITE);
-        if (len) memcpy(lent[place], bytes, len);
-        mprotect(r.base, r.cap, PROT_READ);
-    }
-    lent[HEAP] = malloc(len);
-    if (len) memcpy(lent[HEAP], bytes, len);
-}
-
-static void take_back(uint8_t *lent[PLACES], const void *bytes, size_t len, const char *what) {
-    for (int place = 0; len && place < PLACES; place++) MUST(!memcmp(lent[place], bytes, len), "the %s was changed", what);
-    free(lent[HEAP]);
-}
-
 /* ---- What the header promises, checked without any other writer ---- */
 
 static void check_refused(const draft *d, size_t room, const uint64_t a[ANSWER]) {

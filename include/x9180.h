@@ -1,7 +1,7 @@
 /* The proved reader and writer of X9.100-180 image cash letters: their calls for C. Link with libabi.a (rt staticlib abi).
  *
  * Every call takes any bytes and gives a definite answer. The numbers are those of the answers in README.md:
- * 0 ACCEPTED, 1 SIZE, 2 ROOM, 3 CUT, 4 LENGTH, 5 TYPE, 6 PLACE, 7 FIELD, 8 LINK, 9 TOTAL, 10 OPEN, 11 AFTER.
+ * 0 ACCEPTED, 1 SIZE, 2 ROOM, 3 CUT, 4 LENGTH, 5 TYPE, 6 PLACE, 7 FIELD, 8 LINK, 9 TOTAL, 10 OPEN, 11 AFTER, 18 TAGORDER, 19 TAGVALUE.
  *
  * A pointer must not be null, must be aligned for what it points to, and must point to as many elements as the length beside it says;
  * with length 0 it may point anywhere. What is lent to be written must not overlap what is lent to be read. The calls keep nothing and
@@ -73,6 +73,22 @@ uint64_t x9_write(const uint8_t *text, size_t text_len, const uint64_t *draft, s
  * row for each record, with 0 for what x9_write does not look at; numbers after the last row are untouched. Refused: the whole draft is untouched.
  * ROOM gives the rows needed as the record. */
 uint64_t x9_draft(const uint8_t *file, size_t file_len, uint64_t *draft, size_t draft_len, uint64_t answer[12]);
+
+/* The tags of one image, declared as TIFF, against X9.100-181. A call of its own: x9_read accepts a file whatever its pictures hold. The image may
+ * be the part that x9_picture names. Returns the number and fills `answer` with
+ *   [0] the number   [1] the tag, 0 unless TAGORDER or TAGVALUE names one
+ * The first of these that applies, else ACCEPTED:
+ *   CUT        fewer than 8 bytes
+ *   TAGVALUE   with tag 0, where the image does not begin with 49 49 and, low byte first, 42
+ *   CUT        the first directory, with the four bytes of the next offset, does not lie within the image; nor the value of an entry of type 1 to 12,
+ *              where it is longer than four bytes; nor the strip, where 273 and 279 each are one SHORT or LONG. No sum or product is cut to 32 bits
+ *   TAGORDER   the lowest tag that is not above the tag before it
+ *   TAGVALUE   the lowest required tag that is absent or wrong; the first entry with a tag counts. 256 and 257 are one SHORT or LONG, not 0; 259 is
+ *              one SHORT, 4; 262 one SHORT, 0; 273 and 279 one SHORT or LONG; 278 one SHORT or LONG, the number of 257; 282 and 283 one RATIONAL
+ *              each that resolves to 200 or 240, with the same ratio at another offset
+ * Not judged: optional and other tags, entries of any other type, the next offset and further directories, a directory over the header or at an odd
+ * offset, parts that overlap, a strip of 0 bytes, the two bytes behind a SHORT, and the compressed data. The variances of Table 3 are wrong values. */
+uint64_t x9_tiff(const uint8_t *image, size_t image_len, uint64_t answer[2]);
 
 #ifdef __cplusplus
 }

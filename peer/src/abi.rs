@@ -15,6 +15,7 @@ extern "C" {
         answer: *mut u64,
     ) -> u64;
     fn x9_draft(file: *const u8, file_len: usize, draft: *mut u64, draft_len: usize, answer: *mut u64) -> u64;
+    fn x9_tiff(image: *const u8, image_len: usize, answer: *mut u64) -> u64;
 }
 
 /// What an answer holds before a call.
@@ -26,11 +27,11 @@ const GUARD: usize = 4;
 /// What comes back: the number returned, and the twelve of the answer.
 pub type Listed = (u64, [u64; LISTED]);
 
-/// The first twelve of an answer with its guard.
-fn listed(number: u64, answer: &[u64]) -> Result<Listed, String> {
-    let (answer, guard) = answer.split_at(LISTED);
+/// The answer without its guard.
+fn unguarded<const NUMBERS: usize>(number: u64, answer: &[u64]) -> Result<(u64, [u64; NUMBERS]), String> {
+    let (answer, guard) = answer.split_at(NUMBERS);
     match guard.iter().all(|number| *number == UNTOUCHED) {
-        true => Ok((number, answer.try_into().expect("twelve numbers"))),
+        true => Ok((number, answer.try_into().expect("so many numbers"))),
         false => Err("numbers behind the answer were touched".to_string()),
     }
 }
@@ -40,7 +41,7 @@ pub fn read(file: &[u8], table: &mut [u64]) -> Result<Listed, String> {
     let mut answer = [UNTOUCHED; LISTED + GUARD];
     // SAFETY: each pointer goes with its slice's own length, and the answer holds more than the twelve numbers the call fills.
     let number = unsafe { x9_read(file.as_ptr(), file.len(), table.as_mut_ptr(), table.len(), answer.as_mut_ptr()) };
-    listed(number, &answer)
+    unguarded(number, &answer)
 }
 
 /// Finds the picture at an offset; gives the number that comes back and the place.
@@ -59,7 +60,7 @@ pub fn write(text: &[u8], draft: &[u64], out: &mut [u8]) -> Result<Listed, Strin
         let (text_at, draft_at, out_at) = (text.as_ptr(), draft.as_ptr(), out.as_mut_ptr());
         x9_write(text_at, text.len(), draft_at, draft.len(), out_at, out.len(), answer.as_mut_ptr())
     };
-    listed(number, &answer)
+    unguarded(number, &answer)
 }
 
 /// Makes the draft of a file.
@@ -67,5 +68,13 @@ pub fn draft_of(file: &[u8], draft: &mut [u64]) -> Result<Listed, String> {
     let mut answer = [UNTOUCHED; LISTED + GUARD];
     // SAFETY: each pointer goes with its slice's own length, and the answer holds more than the twelve numbers the call fills.
     let number = unsafe { x9_draft(file.as_ptr(), file.len(), draft.as_mut_ptr(), draft.len(), answer.as_mut_ptr()) };
-    listed(number, &answer)
+    unguarded(number, &answer)
+}
+
+/// Judges the tags of an image.
+pub fn tiff(image: &[u8]) -> Result<(u64, [u64; 2]), String> {
+    let mut answer = [UNTOUCHED; 2 + GUARD];
+    // SAFETY: the pointer goes with its slice's own length, and the answer holds more than the two numbers the call fills.
+    let number = unsafe { x9_tiff(image.as_ptr(), image.len(), answer.as_mut_ptr()) };
+    unguarded(number, &answer)
 }

@@ -7,12 +7,14 @@ use Rattle.text.specs.declared.character_set.CharacterSet.{CharacterSet}
 use Rattle.text.specs.declared.character_set.CharacterSet.the-variants.{Ascii, Ebcdic}
 use Rattle.judge.specs.declared.Judged.{Judged}
 use Rattle.picture.specs.declared.Found.{Found}
+use Rattle.tiff.specs.declared.Tags.{Tags}
 use Rattle.passes.specs.Answers.{numberOf, numbersOf}
 use Rattle.draft.specs.declared.Outcome.{Outcome}
 use Rattle.draft.specs.declared.Outcome.the-variants.{Written, Refused}
 use Rattle.judge.specs.Alone as alone
 use Rattle.passes.specs.declared.Answer.the-variants as answers
 use Rattle.picture.specs.Picture as picture
+use Rattle.tiff.specs.Judged as tiff
 
 -- the set that a number tells: 1 is EBCDIC, any other ASCII
 abbrev pub setNumbered : ℕ → CharacterSet
@@ -25,6 +27,10 @@ placeOf found = picture.numberOf found ∷ picture.fieldOf found ∷ picture.sta
 -- x9_record: number, field
 abbrev pub judgementOf : Judged → List ℕ
 judgementOf judged = alone.numberOf judged ∷ alone.fieldOf judged ∷ []
+
+-- x9_tiff: number, tag
+abbrev pub taggingOf : Tags → List ℕ
+taggingOf tags = tiff.numberOf tags ∷ tiff.tagOf tags ∷ []
 
 -- x9_write: "0, records, 0, bytes written, then the totals as x9_read has them", or number, record, field, offset
 abbrev pub outcomeNumber : Outcome → ℕ

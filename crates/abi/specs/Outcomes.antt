@@ -6,6 +6,8 @@ use lib.ListN.{length}
 use Rattle.text.specs.declared.character_set.CharacterSet.{CharacterSet}
 use Rattle.picture.specs.Picture.{pictureAt, bytesOf}
 use Rattle.picture.specs.declared.Found.{Found}
+use Rattle.tiff.specs.Judged.{tagsOf}
+use Rattle.tiff.specs.declared.Tags.{Tags}
 use Rattle.passes.specs.Answers.{answerNumber, numbersOf}
 use Rattle.passes.specs.Reading.{answerOf, tableOf}
 use Rattle.passes.specs.declared.Answer.{Answer}
@@ -15,9 +17,10 @@ use Rattle.draft.specs.Values.{valuesOfDraft}
 use Rattle.draft.specs.Drafted.{outcomeOf, bufferOf}
 use Rattle.draft.specs.Promises.{Promised}
 use Rattle.drafting.specs.DraftOf.{draftAnswerOf, draftTableOf, DraftOfItself}
-use Rattle.abi.specs.Filled.{placeOf, judgementOf, outcomeNumber, outcomeNumbers}
+use Rattle.abi.specs.Filled.{placeOf, judgementOf, taggingOf, outcomeNumber, outcomeNumbers}
 use Rattle.judge.specs.Alone as alone
 use Rattle.picture.specs.Picture as picture
+use Rattle.tiff.specs.Judged as tiff
 
 -- two things that are equal to a third
 one : {A : Type 0} {x y z : A} → x ≡ z → y ≡ z → x ≡ y
@@ -52,6 +55,15 @@ pub one-judging : (set : CharacterSet) (body : List ℕ) {n m : ℕ} {answer oth
     → Judging set body n answer → Judging set body m other → (n ≡ m) × (answer ≡ other)
 one-judging set body r s = (one (r .number) (s .number), one (r .answer) (s .answer))
 
+-- x9_tiff: the number and the two numbers
+pub record Tagging (image : List ℕ) (n : ℕ) (numbers : List ℕ) : Type 0 where
+  pub number : n ≡ tiff.numberOf (tagsOf image)
+  pub answer : numbers ≡ taggingOf (tagsOf image)
+
+pub one-tagging : (image : List ℕ) {n m : ℕ} {answer other : List ℕ}
+    → Tagging image n answer → Tagging image m other → (n ≡ m) × (answer ≡ other)
+one-tagging image r s = (one (r .number) (s .number), one (r .answer) (s .answer))
+
 -- x9_write: the number, the buffer afterwards, the twelve numbers, and what is promised of them
 pub record Writing (text draft out : List ℕ) (n : ℕ) (after numbers : List ℕ) : Type 0 where
   pub number : n ≡ outcomeNumber (outcomeOf (valuesOfDraft text draft) (length out))
@@ -74,7 +86,8 @@ pub one-drafting : (file draft : List ℕ) {n m : ℕ} {after later answer other
     → Drafting file draft n after answer → Drafting file draft m later other → (n ≡ m) × (after ≡ later) × (answer ≡ other)
 one-drafting file draft r s = (one (r .number) (s .number), one (r .rows) (s .rows), one (r .answer) (s .answer))
 
--- the calls of the Rattle crates: writer::write and drafting::draft_of; reader::read, picture::picture and picture::find_picture
+-- the calls of the Rattle crates: writer::write and drafting::draft_of; reader::read, picture::picture, picture::find_picture and
+-- tiff::judge_tags
 pub one-outcome : (text draft out : List ℕ) {a b : Outcome} {after later : List ℕ}
     → a ≡ outcomeOf (valuesOfDraft text draft) (length out) → after ≡ bufferOf (valuesOfDraft text draft) out
     → b ≡ outcomeOf (valuesOfDraft text draft) (length out) → later ≡ bufferOf (valuesOfDraft text draft) out → (a ≡ b) × (after ≡ later)
@@ -96,3 +109,6 @@ one-picture file offset e q = one e q
 
 pub one-finding : (file : List ℕ) (offset : ℕ) {a b : Found} → a ≡ pictureAt file offset → b ≡ pictureAt file offset → a ≡ b
 one-finding file offset e q = one e q
+
+pub one-tags : (image : List ℕ) {a b : Tags} → a ≡ tagsOf image → b ≡ tagsOf image → a ≡ b
+one-tags image e q = one e q

@@ -10,7 +10,7 @@ ghost use Prim.Native.Nat.{ℕ};
 ghost use Rattle.passes.specs.Answers.{numberOf, numbersOf};
 ghost use Rattle.passes.specs.declared.Answer.the-variants.{Accepted, Refused};
 ghost use Rattle.abi.specs.Filled.{setNumbered};
-ghost use Rattle.abi.specs.Outcomes.{Reading, Writing, Drafting, Picturing, Judging};
+ghost use Rattle.abi.specs.Outcomes.{Reading, Writing, Drafting, Picturing, Judging, Tagging};
 
 // The numbers of an acceptance, where the file has so many bytes, and of a refusal.
 fn fill_accepted(bytes: u64, totals: Totals, answer: &mut [u64; 12])
@@ -149,4 +149,16 @@ pub extern "C" fn x9_record_in(body: &[u8], set: u64, answer: &mut [u64; 2]) -> 
     ensures { λ r. ⌜ Judging (setNumbered set) (now (body .entry)) r (now (answer .exit)) ⌝ }
 {
     judge_in(set_numbered(set), body, answer)
+}
+
+// The tags of one image against X9.100-181: the number, and in `answer` number and tag.
+#[no_mangle]
+pub extern "C" fn x9_tiff(image: &[u8], answer: &mut [u64; 2]) -> u64
+    ensures { λ r. ⌜ Tagging (now (image .entry)) r (now (answer .exit)) ⌝ }
+{
+    let tags = tiff::judge_tags(image);
+    let number = tags.number();
+    let tag = tags.tag();
+    *answer = [number, tag];
+    number
 }

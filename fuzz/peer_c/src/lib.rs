@@ -1,8 +1,10 @@
-//! The independent reader and the independent writer behind C calls, for the fuzz targets.
+//! The independent reader, the independent writer and the independent judge of tags behind C calls, for the fuzz targets.
 
 pub mod drafts;
+mod images;
 mod mutate;
 mod repair;
+mod tags;
 mod writing;
 
 use std::slice::{from_raw_parts, from_raw_parts_mut};

@@ -24,6 +24,14 @@ const TURNS: [&str; 48] = [
 /// The images of a round.
 pub const ROUND: usize = TURNS.len();
 
+/// Every shape once, but for that of large images, which come of a seed and an index alone.
+pub fn shapes() -> Vec<&'static str> {
+    let mut shapes = TURNS.to_vec();
+    shapes.sort();
+    shapes.dedup();
+    shapes
+}
+
 /// One in so many images is a large one.
 const RARE: u64 = 1_000;
 

@@ -1,5 +1,7 @@
 //! One image judged as points 30 and 31 say it, step by step. Sums and products are of 128 bits, which none of them comes near.
 
+use std::fmt;
+
 pub const ACCEPTED: u64 = 0;
 pub const CUT: u64 = 3;
 pub const TAGORDER: u64 = 18;
@@ -18,6 +20,12 @@ pub struct Verdict {
     pub number: u64,
     pub tag: u16,
     pub why: Why,
+}
+
+impl fmt::Display for Verdict {
+    fn fmt(&self, to: &mut fmt::Formatter) -> fmt::Result {
+        write!(to, "number {} tag {} ({:?})", self.number, self.tag, self.why)
+    }
 }
 
 #[derive(Clone, Copy, Debug, PartialEq, Eq, PartialOrd, Ord)]

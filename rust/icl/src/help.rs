@@ -3,7 +3,8 @@
 use std::ffi::{OsStr, OsString};
 
 const GENERAL: &str = "\
-icl: checks X9.100-180 image cash letters, lists what they hold, takes out their pictures, and makes them out
+icl: checks X9.100-180 image cash letters, lists what they hold, takes out their pictures and looks into them,
+and makes the letters out
 
 use:
   icl check [--explain] FILE...
@@ -11,6 +12,8 @@ use:
   icl tree FILE
   icl picture [--force] FILE OFFSET -o OUT
   icl pictures [--force] FILE DIR
+  icl tags FILE
+  icl tags --tiff IMAGE...
   icl draft [--force] FILE -o DIR
   icl write [--force] DIR -o FILE
   icl COMMAND --help
@@ -90,6 +93,29 @@ that on any fault none is left behind.
 Exit status: 0 written, 1 refused (told on standard error), 2 something could not be read or written.
 ";
 
+const TAGS: &str = "\
+icl tags FILE
+icl tags --tiff IMAGE...
+
+Judges the tags of TIFF pictures by X9.100-181 (ANS X9.100-181-2007): the byte order mark, the number 42, the
+first directory, its entries in ascending order, the tags that a picture must have with their types and values,
+and that all of it lies within the picture. Not judged: optional tags, other tags, and the image itself. A
+variance of Table 3 in a tag that is judged (several strips, Photometric Interpretation 1) is wrong here.
+
+icl tags FILE does so for every view of an accepted file that is declared as TIFF of Group 4 (field 5 of its
+type 50 record is 00), and prints a line for each, with its place as icl tree tells it:
+  cash letter L, bundle B, item I, view V, at offset O: ok
+  cash letter L, bundle B, item I, view V, at offset O: refused N tag T     (the first fault found)
+A credit (type 61) directly in a cash letter is credit record C in place of bundle and item. N is 3 CUT,
+18 TAGORDER or 19 TAGVALUE; T is the tag, or 0 for the header and for a part outside the picture. Lines below
+tell the fault in plain words: the tag's name, what it holds, and what is asked. A view without image bytes is
+refused as cut. The last lines count the views, and those that are declared otherwise and passed over.
+  --tiff      the files are images: prints ok or refused N tag T for each, with the same lines below, and
+              with several files the file's name before it
+Exit status: 0 all right, 1 some tag is wrong, or FILE was refused (told on standard error), 2 something could
+not be read, or an image has more than 268435456 bytes.
+";
+
 const DRAFT: &str = "\
 icl draft [--force] FILE -o DIR
 
@@ -132,6 +158,7 @@ pub fn of(command: &str) -> Option<&'static str> {
         "tree" => Some(TREE),
         "picture" => Some(PICTURE),
         "pictures" => Some(PICTURES),
+        "tags" => Some(TAGS),
         "draft" => Some(DRAFT),
         "write" => Some(WRITE),
         "--help" | "-h" | "help" | "--version" | "-V" => Some(GENERAL),

@@ -1,11 +1,11 @@
-//! icl: checks X9.100-180 image cash letters, lists what they hold, takes out their pictures, and makes them out.
+//! icl: checks X9.100-180 image cash letters, lists what they hold, takes out their pictures and looks into them, and makes the letters out.
 
 // Imports go one way. This root imports the modules, and no module imports the root; among themselves each imports only those on lines
 // below its own. `x9180/tests/imports.rs` fails where that is not so.
 //
-//     check, rows, tree, pictures, draft, write    the commands
+//     check, rows, tree, pictures, tags, draft, write    the commands
 //     args, input, output, sheet, names, help
-//     store, json
+//     store, json, places
 //     screen
 //     stop
 //     words
@@ -18,11 +18,13 @@ mod json;
 mod names;
 mod output;
 mod pictures;
+mod places;
 mod rows;
 mod screen;
 mod sheet;
 mod stop;
 mod store;
+mod tags;
 mod tree;
 mod words;
 mod write;
@@ -67,6 +69,7 @@ fn run(mut words: Vec<OsString>) -> Result<u8, Stop> {
         Some("rows") => rows::run(Args::of(words, &["--csv", "--json"], &[])?),
         Some("tree") => tree::run(Args::of(words, &[], &[])?),
         Some("picture") => pictures::one(Args::of(words, &["--force"], &["-o"])?),
+        Some("tags") => tags::run(Args::of(words, &["--tiff"], &[])?),
         Some("draft") => draft::run(Args::of(words, &["--force"], &["-o"])?),
         Some("write") => write::run(Args::of(words, &["--force"], &["-o"])?),
         _ => pictures::all(Args::of(words, &["--force"], &[])?),

@@ -1,6 +1,8 @@
 //! The names of the files that a view's pictures and other bytes are written to.
 
-use x9180::{Content, Item, Reading, View};
+use x9180::{Reading, View};
+
+use crate::places;
 
 /// A view of a file, by the ordinals that name its files.
 pub struct NamedView {
@@ -31,36 +33,12 @@ impl NamedView {
 
 /// Every view of a file, in the order of the file, so that the offsets rise.
 pub fn of_views(reading: &Reading, bytes: &[u8]) -> Vec<NamedView> {
-    let mut views = Vec::new();
-    for letter in reading.letters() {
-        let letter_name = format!("letter-{:03}", letter.ordinal());
-        for content in letter.contents() {
-            match content {
-                Content::Bundle(bundle) => {
-                    let bundle_name = format!("{letter_name}_bundle-{:03}", bundle.ordinal());
-                    for item in bundle.items() {
-                        let name = format!("{bundle_name}_item-{:04}", item.ordinal());
-                        views.extend(of_item(&item, &name, bytes));
-                    }
-                }
-                // Outside every bundle: counted among those directly in the cash letter.
-                Content::Credit(credit) => {
-                    let name = format!("{letter_name}_credit-{:04}", credit.ordinal());
-                    views.extend(of_item(&credit, &name, bytes));
-                }
-            }
-        }
-    }
-    views
-}
-
-fn of_item(item: &Item<'_>, item_name: &str, bytes: &[u8]) -> Vec<NamedView> {
-    let named = |view: View<'_>| NamedView {
-        ordinals: format!("{item_name}_view-{:02}", view.ordinal()),
-        ending: ending(&view, bytes),
-        offset: view.offset(),
+    let named = |placed: &places::PlacedView<'_>| NamedView {
+        ordinals: placed.name(),
+        ending: ending(&placed.view, bytes),
+        offset: placed.view.offset(),
     };
-    item.views().map(named).collect()
+    places::of_views(reading).iter().map(named).collect()
 }
 
 /// The ending that clause 21.5 gives for the view's format.

@@ -8,7 +8,7 @@ const SOUND: &str = "peer/samples/sound-2-checks.x9";
 const DAMAGED: &str = "peer/samples/damaged-06-item-count.x9";
 
 /// The commands that read one file, with the words after its name.
-fn commands(folder: &Folder) -> [(&'static str, String); 7] {
+fn commands(folder: &Folder) -> [(&'static str, String); 8] {
     [
         ("rows", String::new()),
         ("rows --csv", String::new()),
@@ -16,6 +16,7 @@ fn commands(folder: &Folder) -> [(&'static str, String); 7] {
         ("tree", String::new()),
         ("picture", format!(" 0 -o {}", folder.path("out"))),
         ("pictures", format!(" {}", folder.path("out"))),
+        ("tags", String::new()),
         ("draft", format!(" -o {}", folder.path("out"))),
     ]
 }
@@ -248,7 +249,7 @@ fn three_hundred_mebibytes() {
 fn a_pipe() {
     let folder = Folder::new("pipe");
     let sound = read(SOUND);
-    for command in ["check", "rows", "rows --csv", "rows --json", "tree"] {
+    for command in ["check", "rows", "rows --csv", "rows --json", "tree", "tags"] {
         let from_file = run(&format!("{command} {SOUND}"));
         assert_eq!(from_file.0, 0);
         assert_eq!(piped(&format!("{command} -"), &sound), from_file, "{command}");
@@ -364,6 +365,11 @@ fn commands_not_understood() {
         ("picture a 5x -o b", "5x is no offset: a decimal number is needed"),
         ("picture a 18446744073709551616 -o b", "18446744073709551616 is no offset: a decimal number is needed"),
         ("pictures a", "DIR is missing"),
+        ("tags", "FILE is missing"),
+        ("tags a b", "b is too much"),
+        ("tags --tiff", "no file was named"),
+        ("tags --tiff - a -", "standard input (-) can be read once only"),
+        ("tags --force a", "--force is not known here"),
         ("draft -o b", "FILE is missing"),
         ("draft a", "-o DIR is missing"),
         ("draft a b -o c", "b is too much"),
@@ -380,7 +386,7 @@ fn commands_not_understood() {
 
 #[test]
 fn help_and_version_everywhere() {
-    for command in ["check", "rows", "tree", "picture", "pictures", "draft", "write"] {
+    for command in ["check", "rows", "tree", "picture", "pictures", "tags", "draft", "write"] {
         for words in [format!("{command} --help"), format!("{command} x --help y")] {
             let (status, output, complaint) = run(&words);
             assert_eq!((status, complaint.as_str()), (0, ""));
@@ -389,7 +395,7 @@ fn help_and_version_everywhere() {
         assert_eq!(run(&format!("{command} --version")), (0, "icl 0.1.0\n".to_string(), String::new()));
     }
     let (status, output, _) = run("--help");
-    let commands = ["check", "rows", "tree", "picture", "pictures", "draft", "write"];
+    let commands = ["check", "rows", "tree", "picture", "pictures", "tags", "draft", "write"];
     assert!(status == 0 && commands.iter().all(|word| output.contains(&format!("  icl {word} "))));
     assert_eq!(run("--version"), (0, "icl 0.1.0\n".to_string(), String::new()));
     assert_eq!(run("-h"), run("--help"));

@@ -72,6 +72,21 @@ fn colours() {
     assert_eq!(String::from_utf8(check().output().unwrap().stdout).unwrap(), lines("", "", "").replace('\r', ""));
 }
 
+#[test]
+fn colours_of_tags() {
+    let tags = || icl(["tags", "samples/two-letters-with-pictures.x9"]);
+    let right = on_terminal(tags());
+    assert!(
+        right.starts_with("cash letter 1, bundle 1, item 1, view 1, at offset 623: \x1b[32mok\x1b[0m\r\n"),
+        "{right}"
+    );
+    let wrong = on_terminal(icl(["tags", "--tiff", "/dev/null"]));
+    assert!(wrong.starts_with("\x1b[31mrefused 3 tag 0\x1b[0m\r\n  CUT: "), "{wrong}");
+    let mut without = tags();
+    without.env("NO_COLOR", "1");
+    assert!(on_terminal(without).starts_with("cash letter 1, bundle 1, item 1, view 1, at offset 623: ok\r\n"));
+}
+
 /// Two pieces of four MiB with a pause between them: long work, which is shown on a terminal and wiped at its end.
 #[test]
 fn progress() {

@@ -9,7 +9,7 @@ use crate::digits::{check_digit, number_in};
 use crate::kinds::{Field, Form, Kind, RoutingForm};
 use crate::more_bytes::{words_of_size, Answered};
 use crate::refusal::{Number, Refusal, Words};
-use crate::shown::{shown, shown_field};
+use crate::shown::{counted, shown, shown_field};
 
 /// The most bytes of a field that a refusal keeps and shows.
 const SHOWN: usize = 64;
@@ -126,7 +126,7 @@ fn describe(words: &mut Words, fault: &Fault<'_>, name: &str) {
         Number::LENGTH => words.lines.extend(wrong_length(words.kind, fault)),
         Number::TYPE => wrong_type(words, fault),
         Number::AFTER => {
-            let what = format!("{}: ", counted(fault.rest.len(), "more byte"));
+            let what = format!("{}: ", counted(fault.rest.len() as u64, "more byte"));
             words.find(fault.rest, &what, |bytes| shown(fault.set, bytes));
         }
         Number::FIELD | Number::LINK | Number::TOTAL if fault.field != 0 => found_field(words, fault),
@@ -181,7 +181,7 @@ fn without_character(fault: &Fault<'_>, start: usize, bytes: &[u8]) -> Option<St
     let (within, byte) = strangers.next()?;
     let more = match strangers.count() {
         0 => String::new(),
-        more => format!(", nor for {} here", counted(more, "more byte")),
+        more => format!(", nor for {} here", counted(more as u64, "more byte")),
     };
     Some(format!("the byte {byte:02X} {}: code page 037 has no character of clause 5 for it{more}", fault.at(within)))
 }
@@ -263,9 +263,4 @@ impl Words {
         };
         self.lines.push(format!("{what}{}{more}", show(&self.found)));
     }
-}
-
-/// A number with its noun: `1 byte`, `2 bytes`.
-fn counted(number: usize, noun: &str) -> String {
-    format!("{number} {noun}{}", if number == 1 { "" } else { "s" })
 }

@@ -18,6 +18,7 @@ extern "C" {
         answer: *mut u64,
     ) -> u64;
     fn x9_draft(file: *const u8, file_len: usize, draft: *mut u64, draft_len: usize, answer: *mut u64) -> u64;
+    fn x9_tiff(image: *const u8, image_len: usize, answer: *mut u64) -> u64;
 }
 
 /// Reads a file into rows and gives the twelve numbers of the answer.
@@ -74,5 +75,13 @@ pub(crate) fn draft(file: &[u8], rows: &mut [DraftRow]) -> [u64; 12] {
     let numbers = rows.len() * DraftRow::NUMBERS;
     // SAFETY: as in `read`, with rows of ten u64.
     unsafe { x9_draft(file.as_ptr(), file.len(), rows.as_mut_ptr().cast(), numbers, answer.as_mut_ptr()) };
+    answer
+}
+
+/// Judges the tags of one picture and gives the two numbers of the answer.
+pub(crate) fn tiff(image: &[u8]) -> [u64; 2] {
+    let mut answer = [0; 2];
+    // SAFETY: the picture's pointer goes with its own length, and the answer has the two numbers that the call fills.
+    unsafe { x9_tiff(image.as_ptr(), image.len(), answer.as_mut_ptr()) };
     answer
 }

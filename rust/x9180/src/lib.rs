@@ -3,8 +3,8 @@
 //! What is right or wrong in a file is decided by the proved static library `libabi.a` alone (`rt staticlib abi` at the root of the
 //! repository builds it). This crate lends it the bytes, keeps the rows that come back, and says refusals in plain words.
 //!
-//! [`read`] reads a file and [`picture`] finds a picture in it; [`make`] makes a file out from nothing, and [`Draft`] changes one and writes it
-//! again.
+//! [`read`] reads a file and [`picture`] finds a picture in it; [`tags`] judges the tags of a TIFF picture, one that came in or one that is to go
+//! out; [`make`] makes a file out from nothing, and [`Draft`] changes one and writes it again.
 //!
 //! ```
 //! # fn main() -> Result<(), Box<dyn std::error::Error>> {
@@ -23,8 +23,8 @@
 //! The characters of a file are ASCII or EBCDIC ([`CharacterSet`]), which the file itself tells. Rows, totals and pictures come alike from
 //! both; [`Row::text`] gives a field as text from either.
 //!
-//! No call panics, whatever the bytes. The words of a refusal are not proved: they tell what stands in the file, or in the draft, at the place that
-//! the proved library names.
+//! No call panics, whatever the bytes. The words of a refusal are not proved: they tell what stands in the file, the draft or the picture, at the
+//! place that the proved library names.
 #![warn(missing_docs)]
 
 // Imports go one way. This root imports the modules, and no module imports the root; among themselves each imports only those that stand
@@ -41,17 +41,23 @@
 //     draft → room
 //     explain_draft → draft_row
 //     explain → before → sums
+//     explain_tags → tag_fault → refusal → kinds
+//     explain_tags → tag_fault → tag
+//     explain_tags → shown → character_set
+//     explain_tags → directory
 //     before → kinds → digits → character_set
 //     ffi → row → kinds → digits → character_set
 //     reading → row → kinds → digits → character_set
 mod before;
 mod character_set;
 mod digits;
+mod directory;
 mod draft;
 mod draft_row;
 mod entry;
 mod explain;
 mod explain_draft;
+mod explain_tags;
 mod ffi;
 mod fit;
 mod given;
@@ -68,6 +74,8 @@ mod room;
 mod row;
 mod shown;
 mod sums;
+mod tag;
+mod tag_fault;
 mod value;
 
 pub use character_set::CharacterSet;
@@ -79,6 +87,8 @@ pub use more_bytes::LIMIT;
 pub use reading::{Bundle, Content, Item, ItemKind, Letter, Reading, Totals, View};
 pub use refusal::{Number, Refusal};
 pub use row::Row;
+pub use tag::{Tag, TAGS};
+pub use tag_fault::TagFault;
 pub use value::{Date, Time, Value};
 
 /// Reads a whole file.
@@ -133,6 +143,42 @@ pub fn picture(file: &[u8], offset: u64) -> Result<&[u8], Refusal> {
         // The library's contract puts the part inside the file; were it not, nothing would be handed out.
         Number::ACCEPTED => part().ok_or_else(|| explain::picture(file, Number::CUT, 0, offset)),
         refused => Err(explain::picture(file, refused, field, offset)),
+    }
+}
+
+/// Judges the tags of one TIFF picture by X9.100-181 (ANS X9.100-181-2007): the header, the first directory, the order of its entries, the nine tags
+/// that a picture must have with their types, counts and values, and that every part lies within the picture. Optional and other tags are not
+/// judged, nor is the image itself. A variance of its Table 3 in a tag that is judged is wrong here, since variances are flagged outside the picture.
+///
+/// Reading a letter does not ask it. Of an accepted one, the views that are declared so ([`View::is_tiff`]):
+///
+/// ```
+/// # fn main() -> Result<(), Box<dyn std::error::Error>> {
+/// let file = std::fs::read("../../samples/two-letters-with-pictures.x9")?;
+/// let reading = x9180::read(&file)?;
+/// let items = reading.letters().flat_map(|letter| letter.bundles()).flat_map(|bundle| bundle.items());
+/// for view in items.flat_map(|item| item.views()).filter(|view| view.is_tiff(&file)) {
+///     x9180::tags(x9180::picture(&file, view.offset())?)?;
+/// }
+/// # Ok(())
+/// # }
+/// ```
+///
+/// Of a picture that is to go out, before it is lent to [`make::View::new`]:
+///
+/// ```
+/// let fault = x9180::tags(b"MM\0\x2A\0\0\0\x08").unwrap_err();
+/// assert_eq!(
+///     fault.to_string(),
+///     "TAGVALUE: the header is wrong; the byte order mark, at offset 0 of the picture; found \"MM\"; \
+///      asked: \"II\" (the least significant byte first)"
+/// );
+/// ```
+pub fn tags(image: &[u8]) -> Result<(), TagFault> {
+    let [number, tag] = ffi::tiff(image);
+    match Number(number) {
+        Number::ACCEPTED => Ok(()),
+        refused => Err(explain_tags::fault(image, refused, tag)),
     }
 }
 

@@ -2,7 +2,8 @@
 //!
 //! What has to be told is asked for by `new`; all else is a method. Amounts are cents, dates are dates, pictures are lent. What the writer works
 //! out (lengths, counts, record numbers, sums) is nowhere to be given, nor is what is always blank. A value that does not fit stops nothing: the first
-//! of them is told when the file is written, with its record and field.
+//! of them is told when the file is written, with its record and field. Pictures are not looked into: whether the tags of a TIFF picture are right,
+//! [`tags`](crate::tags) tells.
 //!
 //! ```
 //! use x9180::make::{Bundle, Check, Contents, File, FileType, Letter, Side, View};

@@ -409,6 +409,13 @@ impl<'r> View<'r> {
         self.of_type(54)
     }
 
+    /// Whether its picture is declared as a TIFF image in black and white, compressed by Group 4: the Image View Format Indicator (field 5 of the Image View
+    /// Detail Record) is 00. That is the format of which X9.100-181 speaks, and whose tags [`tags`](crate::tags) judges; 23 and 24 are TIFF images
+    /// in gray, of which it does not.
+    pub fn is_tiff(&self, file: &[u8]) -> bool {
+        self.detail().and_then(|row| row.text(file, 5)).as_deref() == Some("00")
+    }
+
     /// The offset that [`picture`](crate::picture) takes: that of the Image View Data Record.
     pub fn offset(&self) -> u64 {
         self.data().map_or(0, |row| row.offset)

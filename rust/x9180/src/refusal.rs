@@ -23,22 +23,26 @@ impl Number {
     pub const TOTAL: Number = Number(9);
     pub const OPEN: Number = Number(10);
     pub const AFTER: Number = Number(11);
+    pub const TAGORDER: Number = Number(18);
+    pub const TAGVALUE: Number = Number(19);
 }
 
-/// Name and meaning of each number, by the number.
-const NUMBERS: [(&str, &str); 12] = [
-    ("ACCEPTED", "all rules hold"),
-    ("SIZE", "the file has no byte, or more than 268435456"),
-    ("ROOM", "all rules hold, but there is not memory enough"),
-    ("CUT", "the file ends before the record does"),
-    ("LENGTH", "the length is wrong for the record"),
-    ("TYPE", "the record's first two characters name no type that is read here"),
-    ("PLACE", "a record of this type may not stand here"),
-    ("FIELD", "a field breaks its data type or its defined values"),
-    ("LINK", "a field or record disagrees with an earlier one"),
-    ("TOTAL", "a control field is not what its part of the file adds up to"),
-    ("OPEN", "the file ends without a File Control Record (type 99)"),
-    ("AFTER", "bytes follow the File Control Record (type 99)"),
+/// Each number with its name and its meaning.
+const NUMBERS: [(Number, &str, &str); 14] = [
+    (Number::ACCEPTED, "ACCEPTED", "all rules hold"),
+    (Number::SIZE, "SIZE", "the file has no byte, or more than 268435456"),
+    (Number::ROOM, "ROOM", "all rules hold, but there is not memory enough"),
+    (Number::CUT, "CUT", "the file ends before the record does"),
+    (Number::LENGTH, "LENGTH", "the length is wrong for the record"),
+    (Number::TYPE, "TYPE", "the record's first two characters name no type that is read here"),
+    (Number::PLACE, "PLACE", "a record of this type may not stand here"),
+    (Number::FIELD, "FIELD", "a field breaks its data type or its defined values"),
+    (Number::LINK, "LINK", "a field or record disagrees with an earlier one"),
+    (Number::TOTAL, "TOTAL", "a control field is not what its part of the file adds up to"),
+    (Number::OPEN, "OPEN", "the file ends without a File Control Record (type 99)"),
+    (Number::AFTER, "AFTER", "bytes follow the File Control Record (type 99)"),
+    (Number::TAGORDER, "TAGORDER", "a tag of a picture is not above the tag before it"),
+    (Number::TAGVALUE, "TAGVALUE", "the header of a picture is wrong, or a required tag is wrong or absent"),
 ];
 
 impl Number {
@@ -47,14 +51,14 @@ impl Number {
         self.entry().0
     }
 
-    /// What the number says of a file.
+    /// What the number says of a file; `TAGORDER` and `TAGVALUE`, of a picture.
     pub fn meaning(self) -> &'static str {
         self.entry().1
     }
 
     fn entry(self) -> (&'static str, &'static str) {
-        let entry = usize::try_from(self.0).ok().and_then(|number| NUMBERS.get(number));
-        entry.copied().unwrap_or(("UNKNOWN", "a number that this version does not know"))
+        let entry = NUMBERS.iter().find(|(number, ..)| *number == self);
+        entry.map_or(("UNKNOWN", "a number that this version does not know"), |(_, name, meaning)| (name, meaning))
     }
 }
 

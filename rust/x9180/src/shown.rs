@@ -1,4 +1,4 @@
-//! Bytes of a file as a person can read them. Every module but `character_set` may import this one, which imports that one alone.
+//! Bytes of a file, and counts of things, as a person can read them. Every module but `character_set` may import this one, which imports that one alone.
 
 use crate::character_set::CharacterSet;
 
@@ -28,6 +28,11 @@ pub(crate) fn shown_field(set: CharacterSet, bytes: &[u8]) -> String {
         None => format!("\\x{byte:02X}"),
     };
     format!("\"{}\"", bytes.iter().map(one).collect::<String>())
+}
+
+/// A number with its noun: `1 byte`, `2 bytes`.
+pub(crate) fn counted(number: u64, noun: &str) -> String {
+    format!("{number} {noun}{}", if number == 1 { "" } else { "s" })
 }
 
 #[cfg(test)]

@@ -36,6 +36,13 @@ impl Counts {
         self.tails += other.tails;
         self.again += other.again;
     }
+
+    pub fn in_words(&self) -> String {
+        format!(
+            "{} files ({} accepted, {} bytes), {} tails, {} written again, {} readings, {} rows, {} pictures",
+            self.files, self.accepted, self.bytes, self.tails, self.again, self.readings, self.rows, self.pictures
+        )
+    }
 }
 
 /// Compares both sides on one file, and gives the independent reading of it.

@@ -1,8 +1,5 @@
 //! The largest files, once in a whole run: exactly the limit, one byte more, and 61s whose sums pass 64 bits.
 
-use std::path::Path;
-use std::sync::Mutex;
-
 use peer_reader::brim::{letter_past, letter_past_64_bits, Stated};
 use peer_reader::charset::EBCDIC_CARRIED;
 use peer_reader::copy::to_ebcdic;
@@ -12,15 +9,17 @@ use peer_reader::random::Random;
 use peer_reader::stream::set_image;
 use peer_reader::tally::Tally;
 
+use proved::run::{Found, Options};
+
 use crate::check::{check, Counts};
 use crate::report;
 
 /// Puts all of them to both sides.
-pub fn check_largest(save: &Path, tally: &mut Tally, counts: &mut Counts, found: &Mutex<Vec<String>>) {
+pub fn check_largest(options: &Options, tally: &mut Tally, counts: &mut Counts, found: &Found) {
     let mut random = Random::new(27);
     let mut put = |name: &str, file: &[u8], random: &mut Random| {
         if let Err(difference) = check(file, random, tally, counts) {
-            report(save, name, "large", file, &difference, found);
+            report(options, name, "large", file, &difference, found);
         }
     };
     let mut file = largest(&mut random);

@@ -1,8 +1,6 @@
 //! Every byte value at every place of the fixed parts, every pair of characters in the two-character code fields, and every byte value at
 //! every place of a routing field that holds each of the forms; once EBCDIC is carried, in files of both sets.
 
-use std::sync::Mutex;
-
 use peer_reader::charset::{Set, EBCDIC_CARRIED};
 use peer_reader::copy::to_ebcdic;
 use peer_reader::descent::Inside;
@@ -13,8 +11,10 @@ use peer_reader::random::Random;
 use peer_reader::routing;
 use peer_reader::tally::Tally;
 
+use proved::run::{on_threads, Found, Options};
+
 use crate::check::{check, Counts};
-use crate::{report, Options};
+use crate::report;
 
 /// The two-character fields with defined values.
 const PAIRS: [(u8, u8); 13] = [
@@ -37,16 +37,12 @@ const PAIRS: [(u8, u8); 13] = [
 const ROUTINGS: [&[u8; 9]; 6] = [b"123456780", b"12345-678", b"1234-5678", b" 12345678", b" 1234567 ", b"         "];
 
 /// Shares the values among the threads.
-pub fn sweep(options: &Options, tally: &mut Tally, counts: &mut Counts, found: &Mutex<Vec<String>>) {
+pub fn sweep(options: &Options, tally: &mut Tally, counts: &mut Counts, found: &Found) {
     println!("sweep over every byte value at every fixed position");
-    std::thread::scope(|scope| {
-        let work = |first| scope.spawn(move || part(options, first, found));
-        let workers: Vec<_> = (0..options.threads as usize).map(work).collect();
-        for worker in workers {
-            let (noted, counted) = worker.join().expect("a worker ends well");
-            tally.add(&noted);
-            counts.add(&counted);
-        }
+    let work = |first| part(options, first as usize, found);
+    on_threads(options.threads, work, |(noted, counted)| {
+        tally.add(&noted);
+        counts.add(&counted);
     });
 }
 
@@ -102,7 +98,7 @@ fn credit_places(records: &[Rec]) -> Vec<usize> {
     of_credits.concat().into_iter().chain(controls).flatten().collect()
 }
 
-fn part(options: &Options, first: usize, found: &Mutex<Vec<String>>) -> (Tally, Counts) {
+fn part(options: &Options, first: usize, found: &Found) -> (Tally, Counts) {
     let mut part = Part {
         options,
         first,
@@ -149,7 +145,7 @@ impl Part<'_> {
 struct Part<'a> {
     options: &'a Options,
     first: usize,
-    found: &'a Mutex<Vec<String>>,
+    found: &'a Found,
     random: Random,
     tally: Tally,
     counts: Counts,
@@ -189,10 +185,9 @@ impl Part<'_> {
 
     fn put(&mut self, code: u8, file: &[u8]) {
         if let Err(difference) = check(file, &mut self.random, &mut self.tally, &mut self.counts) {
-            let few = self.found.lock().map(|found| found.len() < 10).unwrap_or(false);
-            if few {
+            if !self.found.enough() {
                 let name = format!("sweep-type{code}-thread{}-file{}", self.first, self.counts.files);
-                report(&self.options.save, &name, "sweep", file, &difference, self.found);
+                report(self.options, &name, "sweep", file, &difference, self.found);
             }
         }
     }

@@ -11,6 +11,7 @@ use peer_writer::sheet::Made;
 use peer_writer::write::{judge, write};
 
 use proved::again::{drafts_agree, written_again};
+use proved::amid::{amid, within};
 use proved::{abi, Difference};
 
 /// Counts of what was put to both sides.
@@ -36,6 +37,13 @@ impl Counts {
         self.read_back += other.read_back;
         self.files += other.files;
         self.again += other.again;
+    }
+
+    pub fn in_words(&self) -> String {
+        format!(
+            "{} drafts ({} accepted), {} writings, {} bytes lent, {} read back, {} files, {} written again",
+            self.drafts, self.accepted, self.writings, self.bytes, self.read_back, self.files, self.again
+        )
     }
 }
 
@@ -77,18 +85,8 @@ fn read_back(made: &Made, answer: &Answer, file: &[u8]) -> Result<(), Difference
     written_is_accepted(&made.text, &made.numbers, answer, file)
 }
 
-/// Bytes before and behind a lent buffer that no call may touch, and before and behind what is read that no call may look at.
+/// Bytes before and behind a lent buffer that no call may touch.
 const GUARD: usize = 64;
-
-/// A slice amid others of these contents: an answer that hangs on them is no answer to the slice.
-fn amid<T: Copy>(inner: &[T], around: T) -> Vec<T> {
-    [&[around; GUARD], inner, &[around; GUARD]].concat()
-}
-
-/// The same slice again.
-fn within<T>(around: &[T]) -> &[T] {
-    &around[GUARD..around.len() - GUARD]
-}
 
 /// Both sides on one draft and one buffer length: the number, the answer, every byte written, every byte left alone, guards on either side.
 /// Gives the buffer as the proved library leaves it.

@@ -1,0 +1,11 @@
+use mathlib.Core.Path.{refl}
+use Rattle.tiff.specs.Required.{isCode}
+use Rattle.tiff.proofs.is_code.Statement.{statement}
+use Rattle.tiff.proofs.is_code.Tie as tie
+
+returns : tie.Need-returns
+unfolding isCode
+returns c = refl
+
+pub is-code-spec : {M : Type 1} → statement M
+is-code-spec = tie.close (tie.spec returns)
