@@ -8,12 +8,11 @@ use passes::Fault;
 use passes::Totals;
 use text::CharacterSet;
 ghost use mathlib.Core.Path.{_≡_};
-ghost use mathlib.Core.List.{[], _∷_, _++_};
 ghost use Rattle.text.specs.declared.character_set.CharacterSet.the-variants.{Ascii};
 ghost use Prim.Native.Nat.{ℕ};
 ghost use Rattle.passes.specs.Answers.{numberOf, numbersOf};
 ghost use Rattle.passes.specs.declared.Answer.the-variants.{Accepted, Refused};
-ghost use Rattle.book.specs.declared.Entering.the-variants.{Entered};
+ghost use Rattle.book.specs.declared.Entering.the-variants.{Entered, Refused as NotEntered};
 ghost use Rattle.abi.specs.Filled.{setNumbered, enteringNumbers};
 ghost use Rattle.abi.specs.Outcomes.{Reading, Writing, Drafting, Picturing, Judging, Tagging, Booking, LookingUp, Tallying};
 
@@ -168,33 +167,57 @@ pub extern "C" fn x9_tiff(image: &[u8], answer: &mut [u64; 2]) -> u64
     number
 }
 
-// The same with the first entry number given behind them.
+// The numbers of an entering: those of the reading, and the first entry number given; and of its refusal.
 fn fill_entered(bytes: u64, totals: Totals, first: u64, answer: &mut [u64; 13])
     ensures { λ _. ⌜ now (answer .exit) ≡ enteringNumbers bytes (Entered first totals) ⌝ }
 {
-    let mut numbers: [u64; 12] = [0; 12];
-    fill_accepted(bytes, totals, &mut numbers);
-    put_twelve(&numbers, first, answer);
+    let sums = totals.sums;
+    let records = totals.records.0;
+    let letters = totals.letters;
+    let bundles = totals.bundles;
+    let items = totals.items.0;
+    let views = sums.views.0;
+    let cents = sums.debit.0;
+    let credits = sums.credits.0;
+    let credit_cents = sums.credit.0;
+    *answer = [
+        0,
+        records,
+        0,
+        bytes,
+        records,
+        letters,
+        bundles,
+        items,
+        views,
+        cents,
+        credits,
+        credit_cents,
+        first,
+    ];
 }
 
-fn put_twelve(numbers: &[u64; 12], last: u64, answer: &mut [u64; 13])
-    ensures { λ _. ⌜ now (answer .exit) ≡ now (numbers .entry) ++ (last ∷ []) ⌝ }
+fn fill_not_entered(fault: Fault, place: u64, offset: usize, answer: &mut [u64; 13]) -> u64
+    ensures { λ r. ⌜ (r ≡ numberOf fault) × ((bytes : ℕ) → now (answer .exit) ≡ enteringNumbers bytes (NotEntered fault place offset)) ⌝ }
 {
+    let number = fault.number();
+    let field = fault.field() as u64;
     *answer = [
-        numbers[0],
-        numbers[1],
-        numbers[2],
-        numbers[3],
-        numbers[4],
-        numbers[5],
-        numbers[6],
-        numbers[7],
-        numbers[8],
-        numbers[9],
-        numbers[10],
-        numbers[11],
-        last,
+        number,
+        place,
+        field,
+        offset as u64,
+        0,
+        0,
+        0,
+        0,
+        0,
+        0,
+        0,
+        0,
+        0,
     ];
+    number
 }
 
 // Entering a file into a day book: the number, in `table` its rows, in `book` its letters, and in `answer` the numbers of the reading and the first
@@ -215,12 +238,7 @@ pub extern "C" fn x9_book_enter(
             fill_entered(bytes, totals, first, answer);
             0
         }
-        Entering::Refused(fault, place, offset) => {
-            let mut numbers: [u64; 12] = [0; 12];
-            let refused = fill_refused(fault, place, offset, &mut numbers);
-            put_twelve(&numbers, 0, answer);
-            refused
-        }
+        Entering::Refused(fault, place, offset) => fill_not_entered(fault, place, offset, answer),
     }
 }
 
