@@ -23,22 +23,30 @@ impl Number {
     pub const TOTAL: Number = Number(9);
     pub const OPEN: Number = Number(10);
     pub const AFTER: Number = Number(11);
+    pub const DUPLICATE: Number = Number(12);
+    pub const FULL: Number = Number(13);
+    pub const NOENTRY: Number = Number(15);
+    pub const BOOK: Number = Number(20);
 }
 
-/// Name and meaning of each number, by the number.
-const NUMBERS: [(&str, &str); 12] = [
-    ("ACCEPTED", "all rules hold"),
-    ("SIZE", "the file has no byte, or more than 268435456"),
-    ("ROOM", "all rules hold, but there is not memory enough"),
-    ("CUT", "the file ends before the record does"),
-    ("LENGTH", "the length is wrong for the record"),
-    ("TYPE", "the record's first two characters name no type that is read here"),
-    ("PLACE", "a record of this type may not stand here"),
-    ("FIELD", "a field breaks its data type or its defined values"),
-    ("LINK", "a field or record disagrees with an earlier one"),
-    ("TOTAL", "a control field is not what its part of the file adds up to"),
-    ("OPEN", "the file ends without a File Control Record (type 99)"),
-    ("AFTER", "bytes follow the File Control Record (type 99)"),
+/// Each number with its name and its meaning.
+const NUMBERS: [(Number, &str, &str); 16] = [
+    (Number::ACCEPTED, "ACCEPTED", "all rules hold"),
+    (Number::SIZE, "SIZE", "the file has no byte, or more than 268435456"),
+    (Number::ROOM, "ROOM", "all rules hold, but there is not memory enough"),
+    (Number::CUT, "CUT", "the file ends before the record does"),
+    (Number::LENGTH, "LENGTH", "the length is wrong for the record"),
+    (Number::TYPE, "TYPE", "the record's first two characters name no type that is read here"),
+    (Number::PLACE, "PLACE", "a record of this type may not stand here"),
+    (Number::FIELD, "FIELD", "a field breaks its data type or its defined values"),
+    (Number::LINK, "LINK", "a field or record disagrees with an earlier one"),
+    (Number::TOTAL, "TOTAL", "a control field is not what its part of the file adds up to"),
+    (Number::OPEN, "OPEN", "the file ends without a File Control Record (type 99)"),
+    (Number::AFTER, "AFTER", "bytes follow the File Control Record (type 99)"),
+    (Number::DUPLICATE, "DUPLICATE", "the file number has been entered already"),
+    (Number::FULL, "FULL", "the day book has no room for the file"),
+    (Number::NOENTRY, "NOENTRY", "the day book has no entry of this number"),
+    (Number::BOOK, "BOOK", "the day book is not sound"),
 ];
 
 impl Number {
@@ -47,14 +55,14 @@ impl Number {
         self.entry().0
     }
 
-    /// What the number says of a file.
+    /// What the number says of a file, or of a day book.
     pub fn meaning(self) -> &'static str {
         self.entry().1
     }
 
     fn entry(self) -> (&'static str, &'static str) {
-        let entry = usize::try_from(self.0).ok().and_then(|number| NUMBERS.get(number));
-        entry.copied().unwrap_or(("UNKNOWN", "a number that this version does not know"))
+        let entry = NUMBERS.iter().find(|(number, ..)| *number == self);
+        entry.map_or(("UNKNOWN", "a number that this version does not know"), |(_, name, meaning)| (name, meaning))
     }
 }
 
