@@ -127,8 +127,8 @@ pub fn free(path: &Path, force: bool) -> Result<()> {
     }
 }
 
-/// Being told to stop. Without this the staging folder would stay behind.
-mod interrupt {
+/// Being told to stop. Without this what is not in its place yet would stay behind.
+pub mod interrupt {
     use super::{AtomicBool, Error, Ordering, Result};
 
     static STOPPED: AtomicBool = AtomicBool::new(false);
