@@ -12,7 +12,7 @@ use crate::book_file::{self, Fault, MOST_BYTES, MOST_ROWS};
 use crate::book_list::{csv, json, table};
 use crate::durable::{self, Held};
 use crate::input::{self, Input};
-use crate::output::trouble;
+use crate::output::{self, trouble};
 use crate::screen::{print, with_clock};
 use crate::stop::{Stop, DONE, REFUSED};
 use crate::words::{self, counted, figures, grouped};
@@ -40,8 +40,9 @@ fn new(args: Args) -> Result<u8, Stop> {
     let [book_path] = args.exactly(["BOOK"])?;
     let book_path = Path::new(book_path);
     let rows = args.option("--rows").map_or(Ok(ROWS), rows)?;
+    let (folder, name) = output::place(book_path)?;
     let book = Book::with_rows(rows as usize).map_err(|_| no_memory(book_path))?;
-    durable::create(book_path, &book_file::bytes_of(&book)).map_err(|error| trouble(book_path, &error))?;
+    durable::create(folder, name, &book_file::bytes_of(&book)).map_err(|error| trouble(book_path, &error))?;
     let rows = counted(rows, "row");
     print(&format!("an empty day book of {rows} written to {}\n", shown(book_path)))?;
     Ok(DONE)

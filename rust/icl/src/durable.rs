@@ -72,32 +72,29 @@ impl Held {
     }
 }
 
-/// Writes a file where none is: all of it or nothing.
-pub fn create(path: &Path, bytes: &[u8]) -> Result<()> {
-    let folder = match path.parent() {
-        Some(folder) if !folder.as_os_str().is_empty() => folder,
-        _ => Path::new("."),
-    };
+/// Writes a file into a folder that has none of its name: all of it or nothing.
+pub fn create(folder: &Path, name: &Path, bytes: &[u8]) -> Result<()> {
+    let path = folder.join(name);
     let folder = File::open(folder)?;
     let there = || Error::new(ErrorKind::AlreadyExists, "it is there already, and stays as it is");
-    if fs::symlink_metadata(path).is_ok() {
+    if fs::symlink_metadata(&path).is_ok() {
         return Err(there());
     }
     interrupt::watch();
     // Two may make the same file at once, and nothing is there yet to hold.
-    let beside = Beside::of(path, &format!("-{}", std::process::id()));
+    let beside = Beside::of(&path, &format!("-{}", std::process::id()));
     let mut new = File::create_new(&beside.path)?;
     point("created");
     write_all(&mut new, bytes)?;
     new.sync_all()?;
     point("synced");
     interrupt::heed()?;
-    match fs::hard_link(&beside.path, path) {
+    match fs::hard_link(&beside.path, &path) {
         Err(error) if error.kind() == ErrorKind::AlreadyExists => return Err(there()),
         // A file system without links. The name is taken first, since a rename would go over a file that has come meanwhile.
         Err(_) => {
-            File::create_new(path).map_err(|_| there())?;
-            fs::rename(&beside.path, path)?;
+            File::create_new(&path).map_err(|_| there())?;
+            fs::rename(&beside.path, &path)?;
         }
         Ok(()) => {}
     }
@@ -367,7 +364,7 @@ mod tests {
     fn the_newest_is_held() {
         let folder = Folder::new("newest");
         let path = folder.0.join("file");
-        create(&path, b"first").unwrap();
+        create(&folder.0, Path::new("file"), b"first").unwrap();
         let first = Held::of(&path).unwrap();
         let waiting = std::thread::spawn({
             let path = path.clone();
@@ -389,10 +386,10 @@ mod tests {
     fn another_file_in_its_place() {
         let folder = Folder::new("another");
         let path = folder.0.join("file");
-        create(&path, b"first").unwrap();
+        create(&folder.0, Path::new("file"), b"first").unwrap();
         let held = Held::of(&path).unwrap();
         fs::remove_file(&path).unwrap();
-        create(&path, b"another").unwrap();
+        create(&folder.0, Path::new("file"), b"another").unwrap();
         let error = held.replace(b"second").unwrap_err();
         assert_eq!(error.to_string(), "another file was put in its place meanwhile");
         assert_eq!(fs::read(&path).unwrap(), b"another");
@@ -404,7 +401,7 @@ mod tests {
     fn rights_and_links() {
         let folder = Folder::new("rights");
         let (path, link) = (folder.0.join("file"), folder.0.join("link"));
-        create(&path, b"first").unwrap();
+        create(&folder.0, Path::new("file"), b"first").unwrap();
         std::os::unix::fs::symlink(&path, &link).unwrap();
         for mode in [0o640, 0o600, 0o664] {
             fs::set_permissions(&path, Permissions::from_mode(mode)).unwrap();
@@ -415,7 +412,8 @@ mod tests {
             assert_eq!(fs::read(&path).unwrap(), mode.to_le_bytes());
         }
         assert!(fs::symlink_metadata(&link).unwrap().is_symlink());
-        assert_eq!(create(&link, b"").unwrap_err().kind(), ErrorKind::AlreadyExists);
+        let again = create(&folder.0, Path::new("link"), b"").unwrap_err();
+        assert_eq!(again.kind(), ErrorKind::AlreadyExists);
         assert_eq!(folder.names(), ["file", "link"]);
     }
 }
