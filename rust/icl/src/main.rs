@@ -6,7 +6,7 @@
 //     check, rows, tree, pictures, draft, write, book    the commands
 //     args, input, output, sheet, names, help, book_file, book_list, durable
 //     store, json
-//     screen
+//     screen, interrupt
 //     stop
 //     words
 mod args;
@@ -18,6 +18,7 @@ mod draft;
 mod durable;
 mod help;
 mod input;
+mod interrupt;
 mod json;
 mod names;
 mod output;

@@ -284,22 +284,23 @@ fn a_link_to_a_book() {
 #[test]
 fn a_write_that_fails() {
     let folder = Folder::new("book-limit");
-    let book = new(&folder, 50);
-    // Forty letters without detail, of 9 numbers each, the last six of them zeros, which are left out: 24 + 8 x (3 + 17 + 354) bytes, more than
-    // the 1,024 or 512 that are allowed.
+    let book = new(&folder, 1_000);
+    // A thousand letters without detail, of 9 numbers each, the last six of them zeros, which are left out: 24 + 8 x (3 + 17 + 8994) bytes, more than
+    // the 32 or 64 KiB that are allowed. (Fewer would stop an emulator too.)
     let letter = vec![letter_header('N'), letter_control(0, 0, 0, 0)];
-    let file = file(&[vec![file_header()], vec![letter; 40].concat(), vec![file_control(40, 82, 0, 0)]].concat());
+    let file =
+        file(&[vec![file_header()], vec![letter; 1_000].concat(), vec![file_control(1_000, 2_002, 0, 0)]].concat());
     let file = folder.with("letters.x9", &file);
     let before = fs::read(&book).unwrap();
     let words = format!("book enter {book} {file} --number 1");
-    let limited = format!("ulimit -f 1; exec {} {words}", env!("CARGO_BIN_EXE_icl"));
+    let limited = format!("ulimit -f 64; exec {} {words}", env!("CARGO_BIN_EXE_icl"));
     let (status, output, complaint) = outcome(Command::new("sh").arg("-c").arg(limited));
     assert_eq!((status, output.as_str()), (2, ""));
     assert!(complaint.starts_with(&format!("icl: {book}: File too large")), "{complaint}");
     assert_eq!(fs::read(&book).unwrap(), before);
     assert_eq!(folder.names(""), ["day.book", "letters.x9"]);
     assert_eq!(run(&words).0, 0);
-    assert_eq!(fs::metadata(&book).unwrap().len(), 3_016);
+    assert_eq!(fs::metadata(&book).unwrap().len(), 72_136);
 }
 
 /// A book that is marked read-only stays as it is, though its folder could be written. Root may write all, so that root tries it as nobody.

@@ -10,7 +10,7 @@ use std::os::fd::FromRawFd;
 use std::process::{Command, Stdio};
 use std::time::Duration;
 
-use common::{icl, read};
+use common::{icl, read, run, Folder};
 
 extern "C" {
     fn posix_openpt(flags: i32) -> i32;
@@ -105,4 +105,27 @@ fn no_progress_for_short_work() {
     child.stdin.take().unwrap().write_all(&read("peer/samples/sound-2-checks.x9")).unwrap();
     assert!(child.wait().unwrap().success());
     assert_eq!(text(shown), "");
+}
+
+/// A day book that another process holds: that it is waited for is shown, and nothing is entered before.
+#[test]
+fn waiting_for_a_book() {
+    let folder = Folder::new("waiting");
+    let book = folder.path("day.book");
+    assert_eq!(run(&format!("book new {book}")).0, 0);
+    let held = File::options().read(true).write(true).open(&book).unwrap();
+    held.lock().unwrap();
+    let (written, shown) = terminal();
+    let mut command = icl(["book", "enter", &book, "peer/samples/sound-2-checks.x9", "--number", "1"]);
+    let mut child = command.stdout(Stdio::null()).stderr(written).spawn().unwrap();
+    drop(command);
+    std::thread::sleep(Duration::from_millis(1_500));
+    assert!(child.try_wait().unwrap().is_none());
+    assert_eq!(run(&format!("book show {book} 1")).0, 1);
+    drop(held);
+    assert!(child.wait().unwrap().success());
+    let text = text(shown);
+    let words = format!("\r\x1b[Kwaiting for {book}, which another process holds: 0 s");
+    assert!(text.starts_with(&words) && text.ends_with("\r\x1b[K"), "{text:?}");
+    assert_eq!(run(&format!("book show {book} 1")).0, 0);
 }
