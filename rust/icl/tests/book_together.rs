@@ -141,7 +141,7 @@ fn killed_at_any_instant() {
     let mut longest = started.elapsed().as_micros() as usize;
     let (mut random, mut known) = (Random::new(66), 1);
     let (mut ended, mut unended) = (0, 0);
-    for number in 1..=60 {
+    for number in 1..=30 {
         let words = ["book", "enter", &book, file(number).0, "--number", &number.to_string()];
         let mut child = icl(words).stdout(Stdio::piped()).stderr(Stdio::null()).spawn().unwrap();
         std::thread::sleep(Duration::from_micros(random.below(longest) as u64));
@@ -161,6 +161,6 @@ fn killed_at_any_instant() {
         (ended, unended) = (ended + usize::from(is_there), unended + usize::from(!is_there));
         longest = if ended < unended { longest + longest / 8 } else { longest };
     }
-    assert_eq!(entries(&book).len(), 61);
+    assert_eq!(entries(&book).len(), 31);
     assert!(ended > 0 && unended > 0, "{ended} ended, {unended} did not");
 }

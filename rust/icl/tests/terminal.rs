@@ -115,17 +115,25 @@ fn waiting_for_a_book() {
     assert_eq!(run(&format!("book new {book}")).0, 0);
     let held = File::options().read(true).write(true).open(&book).unwrap();
     held.lock().unwrap();
-    let (written, shown) = terminal();
+    // Let go of when the words have been seen, or after a minute.
+    let (let_go, wait) = std::sync::mpsc::channel::<()>();
+    let holder = std::thread::spawn(move || {
+        let _ = wait.recv_timeout(Duration::from_secs(60));
+        drop(held);
+    });
+    let (written, mut shown) = terminal();
     let mut command = icl(["book", "enter", &book, "peer/samples/sound-2-checks.x9", "--number", "1"]);
     let mut child = command.stdout(Stdio::null()).stderr(written).spawn().unwrap();
     drop(command);
-    std::thread::sleep(Duration::from_millis(1_500));
+    let words = format!("\r\x1b[Kwaiting for {book}, which another process holds: ");
+    let mut begin = vec![0; words.len()];
+    shown.read_exact(&mut begin).unwrap();
+    assert_eq!(String::from_utf8(begin).unwrap(), words);
     assert!(child.try_wait().unwrap().is_none());
     assert_eq!(run(&format!("book show {book} 1")).0, 1);
-    drop(held);
+    let_go.send(()).unwrap();
     assert!(child.wait().unwrap().success());
-    let text = text(shown);
-    let words = format!("\r\x1b[Kwaiting for {book}, which another process holds: 0 s");
-    assert!(text.starts_with(&words) && text.ends_with("\r\x1b[K"), "{text:?}");
+    assert!(text(shown).ends_with("\r\x1b[K"));
     assert_eq!(run(&format!("book show {book} 1")).0, 0);
+    holder.join().unwrap();
 }
