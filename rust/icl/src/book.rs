@@ -64,9 +64,10 @@ fn enter(args: Args) -> Result<u8, Stop> {
     };
     let entering = format!("entering {}", words::spoken(file));
     let entered = with_clock(&entering, || book.enter(&bytes, file_number));
-    let numbers = entered.map_err(|refused| not_entered(book_path, file, &bytes, &book, &refused))?.numbers();
-    let entries: Result<Vec<Entry>, Refused> = numbers.map(|number| book.find(number)).collect();
-    let entries = entries.map_err(|refused| told(book_path, &refused))?;
+    entered.map_err(|refused| not_entered(book_path, file, &bytes, &book, &refused))?;
+    // All at once, since each look-up goes through the whole book.
+    let entries = book.entries().map_err(|refused| told(book_path, &refused))?;
+    let entries: Vec<Entry> = entries.filter(|entry| entry.file_number == file_number).collect();
     held.replace(&book_file::bytes_of(&book)).map_err(|error| trouble(book_path, &error))?;
     let mut text = format!("{} entered into {}\n", counted(entries.len() as u64, "cash letter"), shown(book_path));
     entries.iter().for_each(|entry| text.push_str(&format!("  {}\n", line(entry))));
