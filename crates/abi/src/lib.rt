@@ -172,27 +172,27 @@ fn fill_entered(bytes: u64, totals: Totals, first: u64, answer: &mut [u64; 13])
     ensures { λ _. ⌜ now (answer .exit) ≡ enteringNumbers bytes (Entered first totals) ⌝ }
 {
     let sums = totals.sums;
-    let records = totals.records.0;
-    let letters = totals.letters;
-    let bundles = totals.bundles;
-    let items = totals.items.0;
-    let views = sums.views.0;
-    let cents = sums.debit.0;
-    let credits = sums.credits.0;
-    let credit_cents = sums.credit.0;
+    let records_read = totals.records.0;
+    let letters_read = totals.letters;
+    let bundles_read = totals.bundles;
+    let items_read = totals.items.0;
+    let views_read = sums.views.0;
+    let debit_cents = sums.debit.0;
+    let credits_read = sums.credits.0;
+    let credited_cents = sums.credit.0;
     *answer = [
         0,
-        records,
+        records_read,
         0,
         bytes,
-        records,
-        letters,
-        bundles,
-        items,
-        views,
-        cents,
-        credits,
-        credit_cents,
+        records_read,
+        letters_read,
+        bundles_read,
+        items_read,
+        views_read,
+        debit_cents,
+        credits_read,
+        credited_cents,
         first,
     ];
 }
