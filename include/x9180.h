@@ -1,7 +1,8 @@
 /* The proved reader and writer of X9.100-180 image cash letters: their calls for C. Link with libabi.a (rt staticlib abi).
  *
  * Every call takes any bytes and gives a definite answer. The numbers are those of the answers in README.md:
- * 0 ACCEPTED, 1 SIZE, 2 ROOM, 3 CUT, 4 LENGTH, 5 TYPE, 6 PLACE, 7 FIELD, 8 LINK, 9 TOTAL, 10 OPEN, 11 AFTER, 18 TAGORDER, 19 TAGVALUE.
+ * 0 ACCEPTED, 1 SIZE, 2 ROOM, 3 CUT, 4 LENGTH, 5 TYPE, 6 PLACE, 7 FIELD, 8 LINK, 9 TOTAL, 10 OPEN, 11 AFTER,
+ * 12 DUPLICATE, 13 FULL, 15 NOENTRY, 18 TAGORDER, 19 TAGVALUE, 20 BOOK.
  *
  * A pointer must not be null, must be aligned for what it points to, and must point to as many elements as the length beside it says;
  * with length 0 it may point anywhere. What is lent to be written must not overlap what is lent to be read. The calls keep nothing and
@@ -89,6 +90,38 @@ uint64_t x9_draft(const uint8_t *file, size_t file_len, uint64_t *draft, size_t 
  * Not judged: optional and other tags, entries of any other type, the next offset and further directories, a directory over the header or at an odd
  * offset, parts that overlap, a strip of 0 bytes, the two bytes behind a SHORT, and the compressed data. The variances of Table 3 are wrong values. */
 uint64_t x9_tiff(const uint8_t *image, size_t image_len, uint64_t answer[2]);
+
+/* The day book: a lent table of 64-bit numbers, which keeps the figures of cash letters as they were when their files were entered. A table of zeros is
+ * an empty book. A head of 17 numbers:
+ *   [0] the rows claimed   [1] the last entry number given
+ *   [2] bundles   [3] debit items   [4] credit items   [5] views   [6] debit cents   [7] credit cents: the running totals, the sums of the rows claimed
+ *   [8] to [16] are not looked at and left as they are
+ * and then rows of 9, one for each cash letter entered:
+ *   [0] 1, and not looked at   [1] the entry number, from 1 on   [2] the file number that the caller gave
+ *   [3] bundles   [4] debit items   [5] credit items   [6] views   [7] debit cents   [8] credit cents: the letter's own
+ * `book_len` counts numbers. Numbers of the head that a short table lacks count as 0, and such a table has no rows; the rows there are the whole nines
+ * behind the head. What stands behind the rows claimed, and behind the last whole row, is not looked at.
+ * Every call first asks whether the table is a book: BOOK where it claims more rows than there are, or a running total is not the sum of its rows. So the
+ * time of a call grows with the rows claimed. On the book's own refusals (BOOK, DUPLICATE, FULL, NOENTRY) all behind the number is 0.
+ *
+ * Entering a file: reads it as x9_read does, with its row table, and enters each of its cash letters in a row of its own, numbered on from the last number
+ * given. Returns the number and fills `answer` as x9_read does, with
+ *   [12] the first entry number given, 0 where nothing was entered
+ * Refused, book and table untouched: BOOK; then x9_read's own answers, with record, field and offset; DUPLICATE, the file number stands in a row already;
+ * FULL, more letters than free rows, or a running total or the last entry number would pass 64 bits. */
+uint64_t x9_book_enter(const uint8_t *file, size_t file_len, uint64_t file_number, uint64_t *table, size_t table_len, uint64_t *book, size_t book_len,
+                       uint64_t answer[13]);
+
+/* Looking up an entry: the first row that has the entry number. Returns the number and fills `found` with
+ *   [0] the number   [1] the entry number   [2] the file number
+ *   [3] bundles   [4] debit items   [5] credit items   [6] views   [7] debit cents   [8] credit cents
+ * NOENTRY where no row has it. */
+uint64_t x9_book_find(const uint64_t *book, size_t book_len, uint64_t entry_number, uint64_t found[9]);
+
+/* The running totals. Returns the number and fills `totals` with
+ *   [0] the number   [1] the entries
+ *   [2] bundles   [3] debit items   [4] credit items   [5] views   [6] debit cents   [7] credit cents */
+uint64_t x9_book_totals(const uint64_t *book, size_t book_len, uint64_t totals[8]);
 
 #ifdef __cplusplus
 }

@@ -2,7 +2,7 @@
 use Prim.Native.Nat.{ℕ}
 use mathlib.Core.Bool.{cond}
 use lib.Dec.{eqb}
-use mathlib.Core.List.{List, [], _∷_}
+use mathlib.Core.List.{List, [], _∷_, _++_}
 use Rattle.text.specs.declared.character_set.CharacterSet.{CharacterSet}
 use Rattle.text.specs.declared.character_set.CharacterSet.the-variants.{Ascii, Ebcdic}
 use Rattle.judge.specs.declared.Judged.{Judged}
@@ -11,9 +11,16 @@ use Rattle.tiff.specs.declared.Tags.{Tags}
 use Rattle.passes.specs.Answers.{numberOf, numbersOf}
 use Rattle.draft.specs.declared.Outcome.{Outcome}
 use Rattle.draft.specs.declared.Outcome.the-variants.{Written, Refused}
+use Rattle.book.specs.declared.Entering.{Entering}
+use Rattle.book.specs.declared.Finding.{Finding}
+use Rattle.book.specs.declared.Tally.{Tally}
 use Rattle.judge.specs.Alone as alone
 use Rattle.passes.specs.declared.Answer.the-variants as answers
 use Rattle.picture.specs.Picture as picture
+use Rattle.book.specs.declared.Entering.the-variants as entering
+use Rattle.book.specs.declared.Finding.the-variants as finding
+use Rattle.book.specs.declared.Tally.the-variants as tally
+use Rattle.figures.specs.Figures as figures
 use Rattle.tiff.specs.Judged as tiff
 
 -- the set that a number tells: 1 is EBCDIC, any other ASCII
@@ -40,3 +47,30 @@ outcomeNumber (Refused fault place offset) = numberOf fault
 abbrev pub outcomeNumbers : Outcome → List ℕ
 outcomeNumbers (Written n t) = numbersOf n (answers.Accepted t)
 outcomeNumbers (Refused fault place offset) = numbersOf 0 (answers.Refused fault place offset)
+
+-- x9_book_enter: as x9_read, and behind these the first entry number given
+abbrev pub enteringNumber : Entering → ℕ
+enteringNumber (entering.Entered first t) = 0
+enteringNumber (entering.Refused fault place offset) = numberOf fault
+
+abbrev pub enteringNumbers : ℕ → Entering → List ℕ
+enteringNumbers n (entering.Entered first t) = numbersOf n (answers.Accepted t) ++ (first ∷ [])
+enteringNumbers n (entering.Refused fault place offset) = numbersOf n (answers.Refused fault place offset) ++ (0 ∷ [])
+
+-- x9_book_find: number, entry number, file number, and the figures; "on the book's own refusals all behind the number is 0"
+abbrev pub findingNumber : Finding → ℕ
+findingNumber (finding.Found e) = 0
+findingNumber (finding.Refused fault) = numberOf fault
+
+abbrev pub findingNumbers : Finding → List ℕ
+findingNumbers (finding.Found e) = 0 ∷ e .number ∷ e .file ∷ figures.numbersOf (e .figures)
+findingNumbers (finding.Refused fault) = numberOf fault ∷ 0 ∷ 0 ∷ 0 ∷ 0 ∷ 0 ∷ 0 ∷ 0 ∷ 0 ∷ []
+
+-- x9_book_totals: number, entries, and the running totals
+abbrev pub tallyNumber : Tally → ℕ
+tallyNumber (tally.Totals n f) = 0
+tallyNumber (tally.Refused fault) = numberOf fault
+
+abbrev pub tallyNumbers : Tally → List ℕ
+tallyNumbers (tally.Totals n f) = 0 ∷ n ∷ figures.numbersOf f
+tallyNumbers (tally.Refused fault) = numberOf fault ∷ 0 ∷ 0 ∷ 0 ∷ 0 ∷ 0 ∷ 0 ∷ 0 ∷ []

@@ -17,7 +17,9 @@ use Rattle.draft.specs.Values.{valuesOfDraft}
 use Rattle.draft.specs.Drafted.{outcomeOf, bufferOf}
 use Rattle.draft.specs.Promises.{Promised}
 use Rattle.drafting.specs.DraftOf.{draftAnswerOf, draftTableOf, DraftOfItself}
-use Rattle.abi.specs.Filled.{placeOf, judgementOf, taggingOf, outcomeNumber, outcomeNumbers}
+use Rattle.letters.specs.OfArrangement.{LettersOwn}
+use Rattle.book.specs.Calls.{enterAnswer, rowsAfter, bookAfter, findAnswer, totalsAnswer}
+use Rattle.abi.specs.Filled.{placeOf, judgementOf, taggingOf, outcomeNumber, outcomeNumbers, enteringNumber, enteringNumbers, findingNumber, findingNumbers, tallyNumber, tallyNumbers}
 use Rattle.judge.specs.Alone as alone
 use Rattle.picture.specs.Picture as picture
 use Rattle.tiff.specs.Judged as tiff
@@ -85,6 +87,36 @@ pub record Drafting (file draft : List ℕ) (n : ℕ) (after numbers : List ℕ)
 pub one-drafting : (file draft : List ℕ) {n m : ℕ} {after later answer other : List ℕ}
     → Drafting file draft n after answer → Drafting file draft m later other → (n ≡ m) × (after ≡ later) × (answer ≡ other)
 one-drafting file draft r s = (one (r .number) (s .number), one (r .rows) (s .rows), one (r .answer) (s .answer))
+
+-- x9_book_enter: the number, the row table, the book, the thirteen numbers, and that the letters entered are those of the file's arrangement
+pub record Booking (file : List ℕ) (m : ℕ) (table book : List ℕ) (n : ℕ) (rows after numbers : List ℕ) : Type 0 where
+  pub number : n ≡ enteringNumber (enterAnswer file m (length table) book)
+  pub rows-after : rows ≡ rowsAfter file table (enterAnswer file m (length table) book)
+  pub book-after : after ≡ bookAfter file m book (enterAnswer file m (length table) book)
+  pub answer : numbers ≡ enteringNumbers (length file) (enterAnswer file m (length table) book)
+  pub own : LettersOwn file
+
+pub one-booking : (file : List ℕ) (m : ℕ) (table book : List ℕ) {n k : ℕ} {rows others after later answer other : List ℕ}
+    → Booking file m table book n rows after answer → Booking file m table book k others later other
+    → (n ≡ k) × (rows ≡ others) × (after ≡ later) × (answer ≡ other)
+one-booking file m table book r s =
+    (one (r .number) (s .number), one (r .rows-after) (s .rows-after), one (r .book-after) (s .book-after), one (r .answer) (s .answer))
+
+-- x9_book_find and x9_book_totals: the number and the numbers
+pub record LookingUp (book : List ℕ) (m n : ℕ) (numbers : List ℕ) : Type 0 where
+  pub number : n ≡ findingNumber (findAnswer book m)
+  pub found : numbers ≡ findingNumbers (findAnswer book m)
+
+pub one-looking-up : (book : List ℕ) (m : ℕ) {n k : ℕ} {found other : List ℕ} → LookingUp book m n found → LookingUp book m k other
+    → (n ≡ k) × (found ≡ other)
+one-looking-up book m r s = (one (r .number) (s .number), one (r .found) (s .found))
+
+pub record Tallying (book : List ℕ) (n : ℕ) (numbers : List ℕ) : Type 0 where
+  pub number : n ≡ tallyNumber (totalsAnswer book)
+  pub totals : numbers ≡ tallyNumbers (totalsAnswer book)
+
+pub one-tallying : (book : List ℕ) {n k : ℕ} {totals other : List ℕ} → Tallying book n totals → Tallying book k other → (n ≡ k) × (totals ≡ other)
+one-tallying book r s = (one (r .number) (s .number), one (r .totals) (s .totals))
 
 -- the calls of the Rattle crates: writer::write and drafting::draft_of; reader::read, picture::picture, picture::find_picture and
 -- tiff::judge_tags

@@ -1,4 +1,7 @@
 // The calls for C and Rust (include/x9180.h).
+use book::Entering;
+use book::Finding;
+use book::Tally;
 use draft::Outcome;
 use passes::Answer;
 use passes::Fault;
@@ -9,8 +12,9 @@ ghost use Rattle.text.specs.declared.character_set.CharacterSet.the-variants.{A
 ghost use Prim.Native.Nat.{ℕ};
 ghost use Rattle.passes.specs.Answers.{numberOf, numbersOf};
 ghost use Rattle.passes.specs.declared.Answer.the-variants.{Accepted, Refused};
-ghost use Rattle.abi.specs.Filled.{setNumbered};
-ghost use Rattle.abi.specs.Outcomes.{Reading, Writing, Drafting, Picturing, Judging, Tagging};
+ghost use Rattle.book.specs.declared.Entering.the-variants.{Entered, Refused as NotEntered};
+ghost use Rattle.abi.specs.Filled.{setNumbered, enteringNumbers};
+ghost use Rattle.abi.specs.Outcomes.{Reading, Writing, Drafting, Picturing, Judging, Tagging, Booking, LookingUp, Tallying};
 
 // The numbers of an acceptance, where the file has so many bytes, and of a refusal.
 fn fill_accepted(bytes: u64, totals: Totals, answer: &mut [u64; 12])
@@ -161,4 +165,137 @@ pub extern "C" fn x9_tiff(image: &[u8], answer: &mut [u64; 2]) -> u64
     let tag = tags.tag();
     *answer = [number, tag];
     number
+}
+
+// The numbers of an entering: those of the reading, and the first entry number given; and of its refusal.
+fn fill_entered(bytes: u64, totals: Totals, first: u64, answer: &mut [u64; 13])
+    ensures { λ _. ⌜ now (answer .exit) ≡ enteringNumbers bytes (Entered first totals) ⌝ }
+{
+    let sums = totals.sums;
+    let records_read = totals.records.0;
+    let letters_read = totals.letters;
+    let bundles_read = totals.bundles;
+    let items_read = totals.items.0;
+    let views_read = sums.views.0;
+    let debit_cents = sums.debit.0;
+    let credits_read = sums.credits.0;
+    let credited_cents = sums.credit.0;
+    *answer = [
+        0,
+        records_read,
+        0,
+        bytes,
+        records_read,
+        letters_read,
+        bundles_read,
+        items_read,
+        views_read,
+        debit_cents,
+        credits_read,
+        credited_cents,
+        first,
+    ];
+}
+
+fn fill_not_entered(fault: Fault, place: u64, offset: usize, answer: &mut [u64; 13]) -> u64
+    ensures { λ r. ⌜ (r ≡ numberOf fault) × ((bytes : ℕ) → now (answer .exit) ≡ enteringNumbers bytes (NotEntered fault place offset)) ⌝ }
+{
+    let number = fault.number();
+    let field = fault.field() as u64;
+    *answer = [
+        number,
+        place,
+        field,
+        offset as u64,
+        0,
+        0,
+        0,
+        0,
+        0,
+        0,
+        0,
+        0,
+        0,
+    ];
+    number
+}
+
+// Entering a file into a day book: the number, in `table` its rows, in `book` its letters, and in `answer` the numbers of the reading and the first
+// entry number given.
+#[no_mangle]
+pub extern "C" fn x9_book_enter(
+    file: &[u8],
+    number: u64,
+    table: &mut [u64],
+    book: &mut [u64],
+    answer: &mut [u64; 13],
+) -> u64
+    ensures { λ r. ⌜ Booking (now (file .entry)) number (now (table .entry)) (now (book .entry)) r (now (table .exit)) (now (book .exit)) (now (answer .exit)) ⌝ }
+{
+    let bytes = file.len() as u64;
+    match book::enter(file, number, table, book) {
+        Entering::Entered(first, totals) => {
+            fill_entered(bytes, totals, first, answer);
+            0
+        }
+        Entering::Refused(fault, place, offset) => fill_not_entered(fault, place, offset, answer),
+    }
+}
+
+// Looking up an entry of a day book: the number, and in `found` number, entry number, file number, and the letter's figures.
+#[no_mangle]
+pub extern "C" fn x9_book_find(book: &[u64], number: u64, found: &mut [u64; 9]) -> u64
+    ensures { λ r. ⌜ LookingUp (now (book .entry)) number r (now (found .exit)) ⌝ }
+{
+    match book::find(book, number) {
+        Finding::Found(e) => {
+            let figures = e.figures;
+            let sums = figures.sums;
+            *found = [
+                0,
+                e.number,
+                e.file,
+                figures.bundles,
+                sums.debits.0,
+                sums.credits.0,
+                sums.views.0,
+                sums.debit.0,
+                sums.credit.0,
+            ];
+            0
+        }
+        Finding::Refused(fault) => {
+            let refused = fault.number();
+            *found = [refused, 0, 0, 0, 0, 0, 0, 0, 0];
+            refused
+        }
+    }
+}
+
+// The running totals of a day book: the number, and in `totals` number, entries, and the six figures.
+#[no_mangle]
+pub extern "C" fn x9_book_totals(book: &[u64], totals: &mut [u64; 8]) -> u64
+    ensures { λ r. ⌜ Tallying (now (book .entry)) r (now (totals .exit)) ⌝ }
+{
+    match book::totals(book) {
+        Tally::Totals(entries, figures) => {
+            let sums = figures.sums;
+            *totals = [
+                0,
+                entries,
+                figures.bundles,
+                sums.debits.0,
+                sums.credits.0,
+                sums.views.0,
+                sums.debit.0,
+                sums.credit.0,
+            ];
+            0
+        }
+        Tally::Refused(fault) => {
+            let refused = fault.number();
+            *totals = [refused, 0, 0, 0, 0, 0, 0, 0];
+            refused
+        }
+    }
 }

@@ -8,7 +8,7 @@ use lib.ListN.{length, take}
 use Rattle.text.specs.CharacterSet.{setOf}
 use Rattle.text.specs.declared.character_set.CharacterSet.the-variants.{Ascii}
 use Rattle.passes.specs.declared.Fault.{Fault}
-use Rattle.passes.specs.declared.Fault.the-variants.{Size, Room, Cut, Length, UnknownType, Place, Field, Link, Total, Open, After}
+use Rattle.passes.specs.declared.Fault.the-variants.{Size, Room, Cut, Length, UnknownType, Place, Field, Link, Total, Open, After, Duplicate, Full, NoEntry, Range, Nothing, Book}
 use Rattle.passes.specs.declared.Totals.{Totals}
 use Rattle.passes.specs.declared.Answer.{Answer}
 use Rattle.passes.specs.Reading.{surveyed, answerOf}
@@ -56,6 +56,12 @@ asPlace (Link n) = Link n
 asPlace (Total n) = Total n
 asPlace Open = Place
 asPlace After = Place
+asPlace Duplicate = Duplicate
+asPlace Full = Full
+asPlace NoEntry = NoEntry
+asPlace Range = Range
+asPlace Nothing = Nothing
+asPlace Book = Book
 
 abbrev pub asDrafted : ℕ → Answer → Outcome
 asDrafted n (answers.Accepted t) = Written n t

@@ -7,7 +7,7 @@ use mathlib.Core.Path.{_≡_}
 use lib.ListN.{length, take}
 use Rattle.frame.specs.Frames.{lengthAt}
 use Rattle.passes.specs.declared.Fault.{Fault}
-use Rattle.passes.specs.declared.Fault.the-variants.{Size, Room, Cut, Length, UnknownType, Place, Field, Link, Total, Open, After}
+use Rattle.passes.specs.declared.Fault.the-variants.{Size, Room, Cut, Length, UnknownType, Place, Field, Link, Total, Open, After, Duplicate, Full, NoEntry, Range, Nothing, Book}
 use Rattle.passes.specs.declared.Totals.{Totals}
 use Rattle.passes.specs.declared.Answer.{Answer}
 use Rattle.passes.specs.declared.Answer.the-variants.{Accepted, Refused}
@@ -26,6 +26,12 @@ isOwn (Link n) = true
 isOwn (Total n) = true
 isOwn Open = false
 isOwn After = false
+isOwn Duplicate = false
+isOwn Full = false
+isOwn NoEntry = false
+isOwn Range = false
+isOwn Nothing = false
+isOwn Book = false
 
 -- the faults for want of bytes
 abbrev pub wantsBytes : Fault → Bool
@@ -40,6 +46,12 @@ wantsBytes (Link n) = false
 wantsBytes (Total n) = false
 wantsBytes Open = true
 wantsBytes After = false
+wantsBytes Duplicate = false
+wantsBytes Full = false
+wantsBytes NoEntry = false
+wantsBytes Range = false
+wantsBytes Nothing = false
+wantsBytes Book = false
 
 -- "the end of the named record": its offset, the four bytes of its length, and as many as the length says
 abbrev pub endOf : List ℕ → ℕ → ℕ

@@ -34,6 +34,13 @@ pub enum Fault {
     Total(usize),
     Open,
     After,
+    // Of the later calls of document 02; a reading never gives one of them.
+    Duplicate,
+    Full,
+    NoEntry,
+    Range,
+    Nothing,
+    Book,
 }
 
 // What is found of one record in its place: a fault, or its type.
@@ -64,7 +71,7 @@ pub enum Answer {
 }
 
 impl Fault {
-    // Document 01's number.
+    // The number of documents 01 and 02.
     pub fn number(self) -> u64
         ensures { λ r. ⌜ r ≡ numberOf self ⌝ }
     {
@@ -80,6 +87,12 @@ impl Fault {
             Fault::Total(_) => 9,
             Fault::Open => 10,
             Fault::After => 11,
+            Fault::Duplicate => 12,
+            Fault::Full => 13,
+            Fault::NoEntry => 15,
+            Fault::Range => 16,
+            Fault::Nothing => 17,
+            Fault::Book => 20,
         }
     }
 
@@ -99,6 +112,12 @@ impl Fault {
             Fault::Total(n) => n,
             Fault::Open => 0,
             Fault::After => 0,
+            Fault::Duplicate => 0,
+            Fault::Full => 0,
+            Fault::NoEntry => 0,
+            Fault::Range => 0,
+            Fault::Nothing => 0,
+            Fault::Book => 0,
         }
     }
 }

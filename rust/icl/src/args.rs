@@ -66,3 +66,10 @@ impl Args {
         })
     }
 }
+
+/// The decimal number of 64 bits in a word, which is named by what it should be.
+pub fn number(word: &OsStr, what: &str) -> Result<u64, Stop> {
+    let digits = word.to_str().filter(|text| text.bytes().all(|byte| byte.is_ascii_digit()));
+    let number = digits.and_then(|digits| digits.parse().ok());
+    number.ok_or_else(|| Stop::Usage(format!("{} is no {what}: a decimal number is needed", words::name(word))))
+}

@@ -4,7 +4,7 @@ use std::ffi::{OsStr, OsString};
 
 const GENERAL: &str = "\
 icl: checks X9.100-180 image cash letters, lists what they hold, takes out their pictures and looks into them,
-and makes the letters out
+makes the letters out, and keeps a day book of them
 
 use:
   icl check [--explain] FILE...
@@ -16,14 +16,20 @@ use:
   icl tags --tiff IMAGE...
   icl draft [--force] FILE -o DIR
   icl write [--force] DIR -o FILE
+  icl book new BOOK [--rows N]
+  icl book enter BOOK FILE --number N
+  icl book show BOOK ENTRY
+  icl book list [--csv | --json] BOOK
+  icl book totals BOOK
+  icl book grow BOOK --rows N
   icl COMMAND --help
   icl --version
 
 FILE is the name of a file, or - for standard input; it has at most 268435456 bytes (256 MiB). Its
 characters are ASCII, or EBCDIC (code page 037) where its bytes 5 and 6 are F0 F1; they are shown as text.
 After -- every word is a name, even one that begins with a dash.
-Exit status: 0 all accepted and done; 1 a file, picture or draft was refused; 2 something could not be
-read or written, or the command was not understood. With NO_COLOR set there are no colours.
+Exit status: 0 all accepted and done; 1 a file, picture, draft or day book was refused; 2 something could not
+be read or written, or the command was not understood. With NO_COLOR set there are no colours.
 ";
 
 const CHECK: &str = "\
@@ -150,6 +156,34 @@ Exit status: 0 written, 1 refused (told on standard error), 2 something could no
 letter.json is not what is asked.
 ";
 
+const BOOK: &str = "\
+icl book new BOOK [--rows N]             makes an empty day book
+icl book enter BOOK FILE --number N      enters the cash letters of an accepted file
+icl book show BOOK ENTRY                 shows one entry
+icl book list [--csv | --json] BOOK      lists all entries
+icl book totals BOOK                     shows what all entries come to
+icl book grow BOOK --rows N              gives the book more rows
+
+BOOK is a file of its own (docs/BOOK-FILE.md), which icl book new makes and nothing overwrites; enter makes none.
+Each cash letter of FILE becomes an entry, with the next entry number, counted from 1, and keeps its own bundles,
+views, debits and credits for good, whatever is entered later. A refusal leaves the book as it was.
+  --number N  the number that FILE is known by, of your own choosing; each may be entered once. FILE may be -
+  --rows N    for how many cash letters there is room, 10,000 unless told otherwise and 1,000,000 at most; grow
+              takes the new number of rows in all and leaves everything else as it is
+  --csv       comma separated, with a first line of column names, amounts in cents
+  --json      an array of objects, one on a line, amounts in cents
+Two may enter at once: the second waits for the first. The book is written beside its place, made safe on the
+disk and then renamed, so that after a crash at any instant it is as it was before or with all of FILE entered.
+
+Refusals are told on standard error: those of icl check FILE, and with record, field and offset 0
+  12 DUPLICATE   the file number has been entered already
+  13 FULL        there are more cash letters than free rows (icl book grow helps), or a running total or an
+                 entry number would pass 64 bits
+  15 NOENTRY     there is no such entry
+  20 BOOK        BOOK is damaged or no day book; it is then never written to
+Exit status: 0 done, 1 refused, 2 something could not be read or written, or there is no file BOOK.
+";
+
 /// The help for a command, or the general one for a word that asks for help or version.
 pub fn of(command: &str) -> Option<&'static str> {
     match command {
@@ -161,6 +195,7 @@ pub fn of(command: &str) -> Option<&'static str> {
         "tags" => Some(TAGS),
         "draft" => Some(DRAFT),
         "write" => Some(WRITE),
+        "book" => Some(BOOK),
         "--help" | "-h" | "help" | "--version" | "-V" => Some(GENERAL),
         _ => None,
     }

@@ -1,19 +1,25 @@
-//! icl: checks X9.100-180 image cash letters, lists what they hold, takes out their pictures and looks into them, and makes the letters out.
+//! icl: checks X9.100-180 image cash letters, lists what they hold, takes out their pictures and looks into them, makes the letters out, and keeps a
+//! day book of them.
 
 // Imports go one way. This root imports the modules, and no module imports the root; among themselves each imports only those on lines
 // below its own. `x9180/tests/imports.rs` fails where that is not so.
 //
-//     check, rows, tree, pictures, tags, draft, write    the commands
-//     args, input, output, sheet, names, help
+//     check, rows, tree, pictures, tags, draft, write, book    the commands
+//     args, input, output, sheet, names, help, book_file, book_list, durable
 //     store, json, places
-//     screen
+//     screen, interrupt
 //     stop
 //     words
 mod args;
+mod book;
+mod book_file;
+mod book_list;
 mod check;
 mod draft;
+mod durable;
 mod help;
 mod input;
+mod interrupt;
 mod json;
 mod names;
 mod output;
@@ -72,6 +78,7 @@ fn run(mut words: Vec<OsString>) -> Result<u8, Stop> {
         Some("tags") => tags::run(Args::of(words, &["--tiff"], &[])?),
         Some("draft") => draft::run(Args::of(words, &["--force"], &["-o"])?),
         Some("write") => write::run(Args::of(words, &["--force"], &["-o"])?),
+        Some("book") => book::run(words),
         _ => pictures::all(Args::of(words, &["--force"], &[])?),
     }
 }

@@ -21,22 +21,27 @@ pub fn put(out: &OsStr, bytes: &[u8], force: bool, what: &str) -> Result<(), Sto
 
 fn put_file(path: &Path, bytes: &[u8], force: bool) -> Result<(), Stop> {
     let trouble = |error: Error| trouble(path, &error);
+    let (folder, name) = place(path)?;
+    free(path, force).map_err(trouble)?;
+    let mut staging = Staging::within(folder, force).map_err(trouble)?;
+    staging.write(name, bytes).and_then(|()| staging.place(name)).map_err(trouble)?;
+    staging.keep();
+    Ok(())
+}
+
+/// The folder and the name of a file that is to be written. Unlike the commands that write a folder, this makes none: a name mistyped should not make
+/// one.
+pub fn place(path: &Path) -> Result<(&Path, &Path), Stop> {
     let shown = words::name(path.as_os_str());
     let name = path.file_name().map(Path::new).ok_or_else(|| Stop::trouble(format!("{shown}: it names no file")))?;
     let folder = match path.parent() {
         Some(folder) if !folder.as_os_str().is_empty() => folder,
         _ => Path::new("."),
     };
-    // Unlike the commands that write a folder, this makes none: a name mistyped should not make one.
-    if !folder.is_dir() {
-        let folder = words::name(folder.as_os_str());
-        return Err(Stop::trouble(format!("{shown}: there is no folder {folder}")));
+    match folder.is_dir() {
+        true => Ok((folder, name)),
+        false => Err(Stop::trouble(format!("{shown}: there is no folder {}", words::name(folder.as_os_str())))),
     }
-    free(path, force).map_err(trouble)?;
-    let mut staging = Staging::within(folder, force).map_err(trouble)?;
-    staging.write(name, bytes).and_then(|()| staging.place(name)).map_err(trouble)?;
-    staging.keep();
-    Ok(())
 }
 
 /// Whether all these may be put into a folder that is there.

@@ -2,7 +2,7 @@
 
 use std::path::{Path, PathBuf};
 
-use crate::args::Args;
+use crate::args::{number, Args};
 use crate::input;
 use crate::names;
 use crate::output::{self, trouble};
@@ -14,11 +14,7 @@ use crate::words::{self, counted};
 pub fn one(args: Args) -> Result<u8, Stop> {
     let [file, offset] = args.exactly(["FILE", "OFFSET"])?;
     let out = args.option("-o").ok_or_else(|| Stop::Usage("-o OUT is missing".to_string()))?;
-    let offset =
-        match offset.to_str().filter(|text| text.bytes().all(|byte| byte.is_ascii_digit())).map(str::parse::<u64>) {
-            Some(Ok(offset)) => offset,
-            _ => return Err(Stop::Usage(format!("{} is no offset: a decimal number is needed", words::name(offset)))),
-        };
+    let offset = number(offset, "offset")?;
     let bytes = input::within_limit(file)?;
     let picture = x9180::picture(&bytes, offset).map_err(|refusal| input::refused(file, &bytes, &refusal))?;
     output::put(out, picture, args.has("--force"), &counted(picture.len() as u64, "byte"))?;

@@ -3,7 +3,8 @@
 use std::fs;
 use std::io::{BufWriter, Error, ErrorKind, Result, Write};
 use std::path::{Path, PathBuf};
-use std::sync::atomic::{AtomicBool, Ordering};
+
+use crate::interrupt;
 
 /// A folder of its own within the folder that the files are to be in. Dropped, it is gone with all that is still in it.
 pub struct Staging {
@@ -124,44 +125,5 @@ pub fn free(path: &Path, force: bool) -> Result<()> {
         Ok(_) if !force => Err(Error::new(ErrorKind::AlreadyExists, "it is there already (--force overwrites it)")),
         Ok(about) if !about.is_file() => Err(Error::other("it is there already and is no plain file")),
         Ok(_) => Ok(()),
-    }
-}
-
-/// Being told to stop. Without this the staging folder would stay behind.
-mod interrupt {
-    use super::{AtomicBool, Error, Ordering, Result};
-
-    static STOPPED: AtomicBool = AtomicBool::new(false);
-
-    /// From now on signals to stop are noted instead of ending the process at once.
-    #[cfg(unix)]
-    pub fn watch() {
-        extern "C" {
-            fn signal(number: i32, handler: usize) -> usize;
-        }
-        extern "C" fn note(_: i32) {
-            STOPPED.store(true, Ordering::Relaxed);
-        }
-        const IGNORED: usize = 1;
-        // Hang-up, interrupt, terminate, and a file that outgrows the limit set for it (Linux), where the write then fails.
-        for number in [1, 2, 15, 25] {
-            // SAFETY: `signal` of the C library, which the standard library links; the handler only stores to an atomic. A signal that
-            // was ignored, as under nohup, stays so.
-            unsafe {
-                if signal(number, note as *const () as usize) == IGNORED {
-                    signal(number, IGNORED);
-                }
-            }
-        }
-    }
-
-    #[cfg(not(unix))]
-    pub fn watch() {}
-
-    pub fn heed() -> Result<()> {
-        match STOPPED.load(Ordering::Relaxed) {
-            true => Err(Error::other("stopped before the end; nothing was left behind")),
-            false => Ok(()),
-        }
     }
 }

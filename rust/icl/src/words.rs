@@ -3,6 +3,7 @@
 use std::ffi::OsStr;
 use std::io::{Error, ErrorKind};
 
+use x9180::book::Figures;
 use x9180::{CharacterSet, Totals};
 
 /// A name as it is printed: control characters escaped, so that a name stays on its line.
@@ -45,7 +46,7 @@ pub fn grouped(number: u64) -> String {
     let digits = number.to_string();
     let mut text = String::new();
     for (place, digit) in digits.chars().enumerate() {
-        if place > 0 && (digits.len() - place) % 3 == 0 {
+        if place > 0 && (digits.len() - place).is_multiple_of(3) {
             text.push(',');
         }
         text.push(digit);
@@ -60,6 +61,17 @@ pub fn sums(totals: &Totals) -> String {
         counted(totals.views, "view"),
         format!("{} of {}", counted(totals.debit_items(), "debit"), amount(totals.debit)),
         format!("{} of {}", counted(totals.credit_items, "credit"), amount(totals.credit)),
+    ];
+    parts.join(", ")
+}
+
+/// What an entry of a day book keeps, or all of them together: `1 bundle, 2 views, 1 debit of 3.50, 0 credits of 0.00`.
+pub fn figures(figures: &Figures) -> String {
+    let parts = [
+        counted(figures.bundles, "bundle"),
+        counted(figures.views, "view"),
+        format!("{} of {}", counted(figures.debit_items, "debit"), amount(figures.debit)),
+        format!("{} of {}", counted(figures.credit_items, "credit"), amount(figures.credit)),
     ];
     parts.join(", ")
 }

@@ -376,6 +376,26 @@ fn commands_not_understood() {
         ("write -o b", "DIR is missing"),
         ("write a", "-o FILE is missing"),
         ("write a -o b -o c", "-o was given twice"),
+        ("book", "new, enter, show, list, totals or grow is asked behind icl book"),
+        ("book enlarge a", "enlarge is no command of icl book"),
+        ("book new", "BOOK is missing"),
+        ("book new a b", "b is too much"),
+        ("book new a --rows", "--rows needs a value"),
+        ("book new a --rows ten", "ten is no number of rows: a decimal number is needed"),
+        ("book new a --force", "--force is not known here"),
+        ("book enter a --number 1", "FILE is missing"),
+        ("book enter a b", "--number N is missing"),
+        ("book enter a b --number -1", "-1 is no file number: a decimal number is needed"),
+        ("book enter a b --number 1 --number 2", "--number was given twice"),
+        (
+            "book enter a b --number 18446744073709551616",
+            "18446744073709551616 is no file number: a decimal number is needed",
+        ),
+        ("book show a", "ENTRY is missing"),
+        ("book show a +1", "+1 is no entry number: a decimal number is needed"),
+        ("book list --csv --json a", "--csv and --json exclude each other"),
+        ("book totals", "BOOK is missing"),
+        ("book grow a", "--rows N is missing"),
     ] {
         assert_eq!(run(words), (2, String::new(), format!("icl: {complaint} (icl --help tells more)\n")), "{words}");
     }
@@ -386,7 +406,7 @@ fn commands_not_understood() {
 
 #[test]
 fn help_and_version_everywhere() {
-    for command in ["check", "rows", "tree", "picture", "pictures", "tags", "draft", "write"] {
+    for command in ["check", "rows", "tree", "picture", "pictures", "tags", "draft", "write", "book"] {
         for words in [format!("{command} --help"), format!("{command} x --help y")] {
             let (status, output, complaint) = run(&words);
             assert_eq!((status, complaint.as_str()), (0, ""));
@@ -395,7 +415,7 @@ fn help_and_version_everywhere() {
         assert_eq!(run(&format!("{command} --version")), (0, "icl 0.1.0\n".to_string(), String::new()));
     }
     let (status, output, _) = run("--help");
-    let commands = ["check", "rows", "tree", "picture", "pictures", "tags", "draft", "write"];
+    let commands = ["check", "rows", "tree", "picture", "pictures", "tags", "draft", "write", "book"];
     assert!(status == 0 && commands.iter().all(|word| output.contains(&format!("  icl {word} "))));
     assert_eq!(run("--version"), (0, "icl 0.1.0\n".to_string(), String::new()));
     assert_eq!(run("-h"), run("--help"));

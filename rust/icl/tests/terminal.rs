@@ -10,7 +10,7 @@ use std::os::fd::FromRawFd;
 use std::process::{Command, Stdio};
 use std::time::Duration;
 
-use common::{icl, read};
+use common::{icl, read, run, Folder};
 
 extern "C" {
     fn posix_openpt(flags: i32) -> i32;
@@ -120,4 +120,35 @@ fn no_progress_for_short_work() {
     child.stdin.take().unwrap().write_all(&read("peer/samples/sound-2-checks.x9")).unwrap();
     assert!(child.wait().unwrap().success());
     assert_eq!(text(shown), "");
+}
+
+/// A day book that another process holds: that it is waited for is shown, and nothing is entered before.
+#[test]
+fn waiting_for_a_book() {
+    let folder = Folder::new("waiting");
+    let book = folder.path("day.book");
+    assert_eq!(run(&format!("book new {book}")).0, 0);
+    let held = File::options().read(true).write(true).open(&book).unwrap();
+    held.lock().unwrap();
+    // Let go of when the words have been seen, or after a minute.
+    let (let_go, wait) = std::sync::mpsc::channel::<()>();
+    let holder = std::thread::spawn(move || {
+        let _ = wait.recv_timeout(Duration::from_secs(60));
+        drop(held);
+    });
+    let (written, mut shown) = terminal();
+    let mut command = icl(["book", "enter", &book, "peer/samples/sound-2-checks.x9", "--number", "1"]);
+    let mut child = command.stdout(Stdio::null()).stderr(written).spawn().unwrap();
+    drop(command);
+    let words = format!("\r\x1b[Kwaiting for {book}, which another process holds: ");
+    let mut begin = vec![0; words.len()];
+    shown.read_exact(&mut begin).unwrap();
+    assert_eq!(String::from_utf8(begin).unwrap(), words);
+    assert!(child.try_wait().unwrap().is_none());
+    assert_eq!(run(&format!("book show {book} 1")).0, 1);
+    let_go.send(()).unwrap();
+    assert!(child.wait().unwrap().success());
+    assert!(text(shown).ends_with("\r\x1b[K"));
+    assert_eq!(run(&format!("book show {book} 1")).0, 0);
+    holder.join().unwrap();
 }

@@ -19,6 +19,18 @@ extern "C" {
     ) -> u64;
     fn x9_draft(file: *const u8, file_len: usize, draft: *mut u64, draft_len: usize, answer: *mut u64) -> u64;
     fn x9_tiff(image: *const u8, image_len: usize, answer: *mut u64) -> u64;
+    fn x9_book_enter(
+        file: *const u8,
+        file_len: usize,
+        file_number: u64,
+        table: *mut u64,
+        table_len: usize,
+        book: *mut u64,
+        book_len: usize,
+        answer: *mut u64,
+    ) -> u64;
+    fn x9_book_find(book: *const u64, book_len: usize, entry_number: u64, found: *mut u64) -> u64;
+    fn x9_book_totals(book: *const u64, book_len: usize, totals: *mut u64) -> u64;
 }
 
 /// Reads a file into rows and gives the twelve numbers of the answer.
@@ -84,4 +96,41 @@ pub(crate) fn tiff(image: &[u8]) -> [u64; 2] {
     // SAFETY: the picture's pointer goes with its own length, and the answer has the two numbers that the call fills.
     unsafe { x9_tiff(image.as_ptr(), image.len(), answer.as_mut_ptr()) };
     answer
+}
+
+/// Reads a file into rows, enters its cash letters into a book, and gives the thirteen numbers of the answer.
+pub(crate) fn book_enter(file: &[u8], file_number: u64, rows: &mut [Row], book: &mut [u64]) -> [u64; 13] {
+    let mut answer = [0; 13];
+    let numbers = rows.len() * Row::NUMBERS;
+    // SAFETY: as in `read`; the book's pointer goes with its own length, and its exclusive borrow keeps it apart from the file and the rows. The
+    // answer has the thirteen numbers that the call fills.
+    unsafe {
+        x9_book_enter(
+            file.as_ptr(),
+            file.len(),
+            file_number,
+            rows.as_mut_ptr().cast(),
+            numbers,
+            book.as_mut_ptr(),
+            book.len(),
+            answer.as_mut_ptr(),
+        )
+    };
+    answer
+}
+
+/// Finds an entry of a book and gives the nine numbers of the answer.
+pub(crate) fn book_find(book: &[u64], entry_number: u64) -> [u64; 9] {
+    let mut found = [0; 9];
+    // SAFETY: the book's pointer goes with its own length, and the answer has the nine numbers that the call fills.
+    unsafe { x9_book_find(book.as_ptr(), book.len(), entry_number, found.as_mut_ptr()) };
+    found
+}
+
+/// Gives the eight numbers of the answer on a book's running totals.
+pub(crate) fn book_totals(book: &[u64]) -> [u64; 8] {
+    let mut totals = [0; 8];
+    // SAFETY: as in `book_find`, with eight numbers.
+    unsafe { x9_book_totals(book.as_ptr(), book.len(), totals.as_mut_ptr()) };
+    totals
 }

@@ -4,7 +4,7 @@
 //! repository builds it). This crate lends it the bytes, keeps the rows that come back, and says refusals in plain words.
 //!
 //! [`read`] reads a file and [`picture`] finds a picture in it; [`tags`] judges the tags of a TIFF picture, one that came in or one that is to go
-//! out; [`make`] makes a file out from nothing, and [`Draft`] changes one and writes it again.
+//! out; [`make`] makes a file out from nothing, and [`Draft`] changes one and writes it again. [`Book`] is a day book that files are entered into.
 //!
 //! ```
 //! # fn main() -> Result<(), Box<dyn std::error::Error>> {
@@ -46,9 +46,19 @@
 //     explain_tags → shown → character_set
 //     explain_tags → directory
 //     before → kinds → digits → character_set
+//     book → explain_book → book_refusal → refusal → kinds
+//     book → explain_book → book_refusal → figures
+//     book → explain_book → book_table → figures
+//     book → explain → more_bytes → refusal
+//     book → reading → row
+//     book → ffi → row
+//     book → room
 //     ffi → row → kinds → digits → character_set
 //     reading → row → kinds → digits → character_set
 mod before;
+pub mod book;
+mod book_refusal;
+mod book_table;
 mod character_set;
 mod digits;
 mod directory;
@@ -56,9 +66,11 @@ mod draft;
 mod draft_row;
 mod entry;
 mod explain;
+mod explain_book;
 mod explain_draft;
 mod explain_tags;
 mod ffi;
+mod figures;
 mod fit;
 mod given;
 mod kinds;
@@ -78,6 +90,7 @@ mod tag;
 mod tag_fault;
 mod value;
 
+pub use book::Book;
 pub use character_set::CharacterSet;
 pub use draft::Draft;
 pub use given::Record;
@@ -106,12 +119,11 @@ pub use value::{Date, Time, Value};
 pub fn read(file: &[u8]) -> Result<Reading, Refusal> {
     let mut rows = Vec::new();
     loop {
-        let [number, record, field, offset, records, letters, bundles, items, views, debit, credit_items, credit] =
-            ffi::read(file, &mut rows);
+        let [number, record, field, offset, totals @ ..] = ffi::read(file, &mut rows);
         match Number(number) {
             Number::ACCEPTED => {
-                let totals = Totals { records, letters, bundles, items, views, debit, credit_items, credit };
-                let no_memory = || explain::reading(file, Number::ROOM, records, 0, 0);
+                let totals = Totals::of_answer(totals);
+                let no_memory = || explain::reading(file, Number::ROOM, totals.records, 0, 0);
                 return Reading::of(file, rows, totals).ok_or_else(no_memory);
             }
             // The first call, with no rows, tells how many are needed; the second has them.

@@ -40,6 +40,12 @@ impl Totals {
         self.items.saturating_sub(self.credit_items)
     }
 
+    /// From the numbers of an answer.
+    pub(crate) fn of_answer(numbers: [u64; 8]) -> Totals {
+        let [records, letters, bundles, items, views, debit, credit_items, credit] = numbers;
+        Totals { records, letters, bundles, items, views, debit, credit_items, credit }
+    }
+
     /// The totals of a level, counted over its rows.
     fn of(part: Part<'_>) -> Totals {
         let mut totals = Totals { records: part.rows.len() as u64, ..Totals::default() };
@@ -79,11 +85,16 @@ pub struct Reading {
 impl Reading {
     /// The reading of a file with the rows and totals that the library gave; `None` where the memory cannot be had.
     pub(crate) fn of(file: &[u8], rows: Vec<Row>, totals: Totals) -> Option<Reading> {
-        let adjustments = || rows.iter().filter(|row| row.is_debit_adjustment(file)).map(|row| row.offset);
-        let mut debit_adjustments = Vec::new();
-        debit_adjustments.try_reserve_exact(adjustments().count()).ok()?;
-        debit_adjustments.extend(adjustments());
-        Some(Reading { character_set: CharacterSet::of(file), rows, totals, debit_adjustments })
+        let mut reserved = Vec::new();
+        reserved.try_reserve_exact(rows.iter().filter(|row| row.is_debit_adjustment(file)).count()).ok()?;
+        Some(Reading::within(file, rows, totals, reserved))
+    }
+
+    /// The same in memory that has been had before: room for one number a row is always enough.
+    pub(crate) fn within(file: &[u8], rows: Vec<Row>, totals: Totals, mut reserved: Vec<u64>) -> Reading {
+        reserved.clear();
+        reserved.extend(rows.iter().filter(|row| row.is_debit_adjustment(file)).map(|row| row.offset));
+        Reading { character_set: CharacterSet::of(file), rows, totals, debit_adjustments: reserved }
     }
 
     /// The set that the file's characters are in. It makes no difference to the rows and totals; [`Row::text`] goes by it.

@@ -23,12 +23,16 @@ impl Number {
     pub const TOTAL: Number = Number(9);
     pub const OPEN: Number = Number(10);
     pub const AFTER: Number = Number(11);
+    pub const DUPLICATE: Number = Number(12);
+    pub const FULL: Number = Number(13);
+    pub const NOENTRY: Number = Number(15);
     pub const TAGORDER: Number = Number(18);
     pub const TAGVALUE: Number = Number(19);
+    pub const BOOK: Number = Number(20);
 }
 
 /// Each number with its name and its meaning.
-const NUMBERS: [(Number, &str, &str); 14] = [
+const NUMBERS: [(Number, &str, &str); 18] = [
     (Number::ACCEPTED, "ACCEPTED", "all rules hold"),
     (Number::SIZE, "SIZE", "the file has no byte, or more than 268435456"),
     (Number::ROOM, "ROOM", "all rules hold, but there is not memory enough"),
@@ -41,8 +45,12 @@ const NUMBERS: [(Number, &str, &str); 14] = [
     (Number::TOTAL, "TOTAL", "a control field is not what its part of the file adds up to"),
     (Number::OPEN, "OPEN", "the file ends without a File Control Record (type 99)"),
     (Number::AFTER, "AFTER", "bytes follow the File Control Record (type 99)"),
+    (Number::DUPLICATE, "DUPLICATE", "the file number has been entered already"),
+    (Number::FULL, "FULL", "the day book has no room for the file"),
+    (Number::NOENTRY, "NOENTRY", "the day book has no entry of this number"),
     (Number::TAGORDER, "TAGORDER", "a tag of a picture is not above the tag before it"),
     (Number::TAGVALUE, "TAGVALUE", "the header of a picture is wrong, or a required tag is wrong or absent"),
+    (Number::BOOK, "BOOK", "the day book is not sound"),
 ];
 
 impl Number {
@@ -51,7 +59,7 @@ impl Number {
         self.entry().0
     }
 
-    /// What the number says of a file; `TAGORDER` and `TAGVALUE`, of a picture.
+    /// What the number says of a file, of a day book, or, `TAGORDER` and `TAGVALUE`, of a picture.
     pub fn meaning(self) -> &'static str {
         self.entry().1
     }

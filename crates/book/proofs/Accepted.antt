@@ -1,0 +1,155 @@
+-- A file that the reader accepts: what entering it answers, and the book and the row table afterwards. Assumes nothing.
+use Prim.Native.Nat.{ℕ, suc, _+_, _*_, _/_, _≤_, _<_}
+use native.Mathlib.Omega.{arith}
+use mathlib.Core.Bool.{Bool, true, false, _&&_, not}
+use mathlib.Core.List.{List, [], _∷_, _++_}
+use mathlib.Core.Path.{_≡_, refl, sym, ap, _∙_}
+use lib.Dec.{leb}
+use lib.ListN.{length, getD, set, drop}
+use lib.Seq.{sets, length-sets, getD-set-other}
+use borrow.Author.Tests.{leb-true, le-leb, lt-leb}
+use Rattle.frame.specs.Unless.{unless}
+use Rattle.passes.specs.declared.Fault.{Fault}
+use Rattle.passes.specs.declared.Fault.the-variants.{Room, Duplicate, Full, Book}
+use Rattle.passes.specs.declared.Totals.{Totals}
+use Rattle.passes.specs.declared.Answer.{Answer}
+use Rattle.passes.specs.declared.Answer.the-variants.{Accepted}
+use Rattle.passes.specs.Reading.{surveyed, answerOf, tableOf}
+use Rattle.figures.specs.declared.Figures.{Figures}
+use Rattle.figures.specs.Figures.{figures, plus, allOf, fits, numbersOf, figuresAt}
+use Rattle.letters.specs.Letters.{lettersOf}
+use Rattle.letters.proofs.Theorem.{AcceptedLetters}
+use Rattle.book.specs.declared.Entry.{Entry}
+use Rattle.book.specs.declared.Entering.{Entering}
+use Rattle.book.specs.declared.Entering.the-variants.{Entered, Refused}
+use Rattle.book.specs.PlainList.{totalsOf, isTaken, entriesOn, hasRoom, entering}
+use Rattle.book.specs.Table.{rowsClaimed, lastNumber, runningTotals, rowsThere, rowsOf, entriesOf, plainListOf, isBook, withEntries}
+use Rattle.book.specs.Calls.{enterAnswer}
+use Rattle.book.proofs.Laws.{Sound, sound}
+use Rattle.passes.specs.declared.Answer.the-variants as answers
+use Rattle.passes.specs.Rows as rows
+
+entries-count : (last m : ℕ) (fs : List Figures) → length (entriesOn last m fs) ≡ length fs
+unfolding entriesOn
+entries-count last m [] = refl
+entries-count last m (f ∷ fs) = ap suc (entries-count (last + 1) m fs)
+
+entries-sum : (last m : ℕ) (fs : List Figures) → totalsOf (entriesOn last m fs) ≡ allOf fs
+unfolding entriesOn totalsOf allOf
+entries-sum last m [] = refl
+entries-sum last m (f ∷ fs) = ap (plus f) (entries-sum (last + 1) m fs)
+
+-- the head is kept where rows are stored behind it
+kept : (l : List ℕ) (i : ℕ) (vs : List ℕ) (j : ℕ) → j < i → getD (sets l i vs) j 0 ≡ getD l j 0
+kept l i [] j h = refl
+kept l i (v ∷ vs) j h = kept (set l i v) (suc i) vs j (omega arith) ∙ getD-set-other l i j v 0 (λ e. omega arith)
+
+totals-kept : (book : List ℕ) (base : ℕ) (vs : List ℕ) → 17 ≤ base → runningTotals (sets book base vs) ≡ runningTotals book
+unfolding figuresAt
+totals-kept book base vs h =
+    let there : (j : ℕ) → j < 17 → getD (sets book base vs) j 0 ≡ getD book j 0 = λ j l. kept book base vs j (omega arith) in
+    rw (there 2 (omega arith), there 3 (omega arith), there 4 (omega arith), there 5 (omega arith), there 6 (omega arith), there 7 (omega arith))
+
+three : (p q r : Bool) → p && q && r ≡ true → (p ≡ true) × ((q ≡ true) × (r ≡ true))
+three true true r e = (refl, (refl, e))
+three true false r e = (refl, (e, cc))
+three false q r e = (e, ((cc), (cc)))
+
+-- what there is room for
+pub record HasRoom (file book : List ℕ) (t : Totals) : Type 0 where
+  pub rows : 17 + 9 * (rowsClaimed book + t .letters) ≤ length book
+  pub letters : length (lettersOf file) ≡ t .letters
+  pub some : 1 ≤ t .letters
+  pub sums : fits (plus (runningTotals book) (figures (t .bundles) (t .sums))) ≡ true
+  pub numbers : lastNumber book + t .letters < 0x1_0000_0000_0000_0000
+
+module _ (file table book : List ℕ) (m : ℕ) (t : Totals) (b : isBook book ≡ true) (e : surveyed file ≡ Accepted t) (a : AcceptedLetters file t) where
+  -- the answer, check by check
+  pub no-room : length table / 7 < t .records .0 → Refused Room (t .records .0) 0 ≡ enterAnswer file m (length table) book
+  unfolding enterAnswer answerOf entering
+  no-room h = rw (b, e, lt-leb (t .records .0) (length table / 7) h)
+
+  module _ (h : t .records .0 ≤ length table / 7) where
+    accepted : answerOf file (length table) ≡ Accepted t
+    unfolding answerOf
+    accepted = rw (e, le-leb (t .records .0) (length table / 7) h)
+
+    pub duplicate : isTaken m (entriesOf book) ≡ true → Refused Duplicate 0 0 ≡ enterAnswer file m (length table) book
+    unfolding enterAnswer entering
+    duplicate d = rw (b, accepted, d)
+
+    pub full : isTaken m (entriesOf book) ≡ false → hasRoom (plainListOf book) (lettersOf file) ≡ false
+        → Refused Full 0 0 ≡ enterAnswer file m (length table) book
+    unfolding enterAnswer entering
+    full d r = rw (b, accepted, d, r)
+
+    pub enters : isTaken m (entriesOf book) ≡ false → hasRoom (plainListOf book) (lettersOf file) ≡ true
+        → Entered (lastNumber book + 1) t ≡ enterAnswer file m (length table) book
+    unfolding enterAnswer entering
+    enters d r = rw (b, accepted, d, r)
+
+    pub filled : tableOf file table ≡ rows.rowsOf file ++ drop (length (rows.rowsOf file)) table
+    unfolding tableOf
+    filled = rw accepted
+
+  pub room-is : hasRoom (plainListOf book) (lettersOf file)
+      ≡ leb (rowsClaimed book + t .letters) (rowsThere book) && fits (plus (runningTotals book) (figures (t .bundles) (t .sums)))
+      && leb (lastNumber book + t .letters) 0xFFFF_FFFF_FFFF_FFFF
+  unfolding hasRoom
+  room-is = let v = sound book b in rw (v .count, sym (v .sums), a .count, a .sum)
+
+  pub has-room : hasRoom (plainListOf book) (lettersOf file) ≡ true → HasRoom file book t
+  has-room r =
+      let u = three (leb (rowsClaimed book + t .letters) (rowsThere book)) (fits (plus (runningTotals book) (figures (t .bundles) (t .sums)))) (leb (lastNumber book + t .letters) 0xFFFF_FFFF_FFFF_FFFF) (sym room-is ∙ r) in
+      let rows = leb-true (rowsClaimed book + t .letters) (rowsThere book) (u .0) in
+      let numbers = leb-true (lastNumber book + t .letters) 0xFFFF_FFFF_FFFF_FFFF (u .1 .1) in
+      record {
+        rows = omega (arith, a .some, a .count);
+        letters = a .count;
+        some = a .some;
+        sums = u .1 .0;
+        numbers = omega arith;
+      }
+
+-- the book with the letters' rows, and then with the head raised
+module _ (file book : List ℕ) (m : ℕ) (t : Totals) (a : AcceptedLetters file t) (written : List ℕ)
+    (w : written ≡ sets book (17 + 9 * rowsClaimed book) (rowsOf (entriesOn (lastNumber book) m (lettersOf file)))) where
+  claimed-kept : rowsClaimed written ≡ rowsClaimed book
+  claimed-kept = rw w (kept book (17 + 9 * rowsClaimed book) (rowsOf (entriesOn (lastNumber book) m (lettersOf file))) 0 (omega arith))
+
+  last-kept : lastNumber written ≡ lastNumber book
+  last-kept = rw w (kept book (17 + 9 * rowsClaimed book) (rowsOf (entriesOn (lastNumber book) m (lettersOf file))) 1 (omega arith))
+
+  sums-kept : runningTotals written ≡ runningTotals book
+  sums-kept = rw w (totals-kept book (17 + 9 * rowsClaimed book) (rowsOf (entriesOn (lastNumber book) m (lettersOf file))) (omega arith))
+
+  long-kept : length written ≡ length book
+  long-kept = ap length w ∙ length-sets book (17 + 9 * rowsClaimed book) (rowsOf (entriesOn (lastNumber book) m (lettersOf file)))
+
+  pub raisable : HasRoom file book t → length book < 0x1_0000_0000_0000_0000
+      → (17 ≤ length written)
+      × (rowsClaimed written + t .letters < 0x1_0000_0000_0000_0000)
+      × (lastNumber written + t .letters < 0x1_0000_0000_0000_0000)
+      × (fits (plus (runningTotals written) (figures (t .bundles) (t .sums))) ≡ true)
+  raisable h l =
+      (omega (arith, h .rows, long-kept), omega (arith, h .rows, claimed-kept), omega (arith, h .numbers, last-kept), rw sums-kept (h .sums))
+
+  pub book-raised : (after : List ℕ)
+      → after
+      ≡ sets written 0 ((rowsClaimed written + t .letters) ∷ (lastNumber written + t .letters) ∷ numbersOf (plus (runningTotals written) (figures (t .bundles) (t .sums))))
+      → after ≡ withEntries book (entriesOn (lastNumber book) m (lettersOf file))
+  unfolding withEntries
+  book-raised after r =
+      rw (entries-count (lastNumber book) m (lettersOf file), entries-sum (lastNumber book) m (lettersOf file), a .count, a .sum)
+      (r ∙ rw (claimed-kept, last-kept, sums-kept, w))
+
+-- a book that is none, and a file that the reader refuses
+module _ (file table book : List ℕ) (m : ℕ) where
+  pub no-book : isBook book ≡ false → Refused Book 0 0 ≡ enterAnswer file m (length table) book
+  unfolding enterAnswer
+  no-book b = rw b
+
+  pub refused : (fault : Fault) (place offset : ℕ) → isBook book ≡ true → surveyed file ≡ answers.Refused fault place offset
+      → Refused fault place offset ≡ enterAnswer file m (length table) book
+  unfolding enterAnswer answerOf entering
+  refused fault place offset b e = rw (b, e)

@@ -1,0 +1,5 @@
+pub mod Stores
+pub mod Rows
+pub mod Grown
+pub mod MoreEntries
+pub mod Theorem

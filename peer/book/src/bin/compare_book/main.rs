@@ -1,0 +1,225 @@
+//! Compares the proved library's day book with the independent one over many generated histories of calls.
+//! Use: compare_book [--histories N] [--seed S] [--save DIR] [--threads T]
+
+mod abi;
+
+use std::path::PathBuf;
+use std::process::ExitCode;
+use std::sync::atomic::{AtomicBool, Ordering};
+use std::sync::Mutex;
+use std::time::{Instant, SystemTime, UNIX_EPOCH};
+
+use peer_book::call::{Call, History, Side};
+use peer_book::generate::{self, USUAL_RUN, WHOLE_RUN};
+use peer_book::points::Tally;
+use peer_book::put::{put, Broken};
+use peer_reader::random::Random;
+
+use abi::Library;
+
+/// A shorter run names at most so many points that it did not cover.
+const SHORT_LIST: usize = 20;
+
+struct Options {
+    histories: u64,
+    seed: u64,
+    save: PathBuf,
+    threads: u64,
+}
+
+/// What the threads share.
+struct Shared {
+    stop: AtomicBool,
+    found: Mutex<Vec<String>>,
+}
+
+#[derive(Default)]
+struct Counts {
+    histories: u64,
+    calls: u64,
+    entered: u64,
+    letters: u64,
+    bytes: u64,
+}
+
+impl Counts {
+    fn add(&mut self, other: &Counts) {
+        self.histories += other.histories;
+        self.calls += other.calls;
+        self.entered += other.entered;
+        self.letters += other.letters;
+        self.bytes += other.bytes;
+    }
+}
+
+fn main() -> ExitCode {
+    let options = match options() {
+        Ok(options) => options,
+        Err(message) => {
+            eprintln!("compare_book: {message}");
+            eprintln!("use: compare_book [--histories N] [--seed S] [--save DIR] [--threads T]");
+            return ExitCode::from(2);
+        }
+    };
+    println!("seed {} histories {} threads {}", options.seed, options.histories, options.threads);
+    let begun = Instant::now();
+    let shared = Shared { stop: AtomicBool::new(false), found: Mutex::new(Vec::new()) };
+    let (tally, counts) = run(&options, &shared);
+    conclude(&options, &shared, &tally, &counts, begun)
+}
+
+fn options() -> Result<Options, String> {
+    let clock = SystemTime::now().duration_since(UNIX_EPOCH).map(|time| time.as_nanos() as u64).unwrap_or(1);
+    let threads = std::thread::available_parallelism().map(|count| count.get() as u64).unwrap_or(2);
+    let (histories, seed, save) = (USUAL_RUN, clock % 1_000_000_000, PathBuf::from("differences"));
+    let mut options = Options { histories, seed, save, threads };
+    let mut words = std::env::args().skip(1);
+    while let Some(word) = words.next() {
+        let next = words.next().ok_or_else(|| format!("{word} wants a value"))?;
+        let number = || next.parse::<u64>().map_err(|_| format!("{next} is no number"));
+        match word.as_str() {
+            "--histories" => options.histories = number()?,
+            "--seed" => options.seed = number()?,
+            "--threads" => options.threads = number()?.max(1),
+            "--save" => options.save = PathBuf::from(next),
+            _ => return Err(format!("{word} is not known")),
+        }
+    }
+    Ok(options)
+}
+
+/// Shares the histories among the threads by index, so that the thread count changes nothing.
+fn run(options: &Options, shared: &Shared) -> (Tally, Counts) {
+    let mut tally = Tally::default();
+    let mut counts = Counts::default();
+    std::thread::scope(|scope| {
+        let workers: Vec<_> =
+            (0..options.threads).map(|first| scope.spawn(move || work(options, shared, first))).collect();
+        for worker in workers {
+            let (part, counted) = worker.join().expect("a worker ends well");
+            tally.add(&part);
+            counts.add(&counted);
+        }
+    });
+    (tally, counts)
+}
+
+fn work(options: &Options, shared: &Shared, first: u64) -> (Tally, Counts) {
+    let mut tally = Tally::default();
+    let mut counts = Counts::default();
+    for index in (first..options.histories).step_by(options.threads as usize) {
+        if shared.stop.load(Ordering::Relaxed) {
+            break;
+        }
+        let history = generate::history(options.seed, index);
+        counts.histories += 1;
+        let random = &mut Random::for_file(!options.seed, index);
+        let compared = put(&Library, &history, random, |seen| {
+            tally.note(seen);
+            counts.calls += 1;
+            if let Call::Enter { paper, .. } = seen.call() {
+                counts.bytes += history.papers[*paper].bytes.len() as u64;
+                counts.entered += u64::from(seen.outcome.returned == 0);
+                counts.letters += seen.outcome.answer[5];
+            }
+        });
+        match compared {
+            Ok(outcomes) => tally.note_history(&history, &outcomes),
+            Err(broken) => report(options, shared, &history, index, &broken),
+        }
+    }
+    (tally, counts)
+}
+
+/// The one call on which the sides differ, as a history of its own.
+fn alone(history: &History, broken: &Broken, book: Vec<u64>) -> History {
+    History { book, calls: vec![history.calls[broken.at]], ..history.clone() }
+}
+
+/// How the two sides differ on the only call of a history, if they do.
+fn differs(history: &History) -> Option<String> {
+    put(&Library as &dyn Side, history, &mut Random::new(1), |_| {}).err().map(|broken| broken.difference)
+}
+
+/// A smaller table on which the call still differs: its end cut off, numbers made 0.
+fn shrink(single: &History) -> History {
+    let mut small = single.clone();
+    while let Some(last) = small.book.pop() {
+        if differs(&small).is_none() {
+            small.book.push(last);
+            break;
+        }
+    }
+    for place in 0..small.book.len() {
+        let number = std::mem::replace(&mut small.book[place], 0);
+        if differs(&small).is_none() {
+            small.book[place] = number;
+        }
+    }
+    small
+}
+
+/// Prints and saves a difference: the call, its table as numbers a line each, and its file. After ten the run stops.
+fn report(options: &Options, shared: &Shared, history: &History, index: u64, broken: &Broken) {
+    let call = &history.calls[broken.at];
+    let single = alone(history, broken, broken.book.clone());
+    println!(
+        "DIFFERENCE in history {index} ({}), call {} of {}: {call:?} on a table of {} numbers: {}",
+        history.shape,
+        broken.at + 1,
+        history.calls.len(),
+        broken.book.len(),
+        broken.difference
+    );
+    let name = format!("seed{}-history{index}", options.seed);
+    let small = if differs(&single).is_some() { shrink(&single) } else { single.clone() };
+    println!("  shrunk to {} numbers: {}", small.book.len(), differs(&small).unwrap_or_default());
+    match save(options, &name, &single, &small, call) {
+        Ok(()) => println!("  saved as {name}"),
+        Err(error) => println!("  not saved: {error}"),
+    }
+    if let Ok(mut found) = shared.found.lock() {
+        found.push(name);
+        shared.stop.fetch_or(found.len() >= 10, Ordering::Relaxed);
+    }
+}
+
+fn save(options: &Options, name: &str, single: &History, small: &History, call: &Call) -> std::io::Result<()> {
+    let lines = |book: &[u64]| book.iter().map(|number| format!("{number}\n")).collect::<String>();
+    let path = |ending: &str| options.save.join(format!("{name}{ending}"));
+    std::fs::create_dir_all(&options.save)?;
+    std::fs::write(path(".book"), lines(&single.book))?;
+    std::fs::write(path(".small.book"), lines(&small.book))?;
+    std::fs::write(path(".call"), format!("{call:?}\n"))?;
+    match call {
+        Call::Enter { paper, .. } => std::fs::write(path(".x9"), &single.papers[*paper].bytes),
+        _ => Ok(()),
+    }
+}
+
+fn conclude(options: &Options, shared: &Shared, tally: &Tally, counts: &Counts, begun: Instant) -> ExitCode {
+    let differences = shared.found.lock().map(|found| found.len()).unwrap_or(1);
+    println!(
+        "{} histories, {} calls, {} files entered with {} letters, {} bytes, {:.1} seconds",
+        counts.histories,
+        counts.calls,
+        counts.entered,
+        counts.letters,
+        counts.bytes,
+        begun.elapsed().as_secs_f64()
+    );
+    println!("coverage, by the independent book:\n{}", tally.report().trim_end());
+    let missing = tally.missing();
+    let demanded = options.histories >= WHOLE_RUN;
+    for point in missing.iter().take(if demanded { missing.len() } else { SHORT_LIST }) {
+        println!("not covered: {point:?}");
+    }
+    let remark = if demanded { "" } else { " (not demanded)" };
+    println!("differences {differences}, points not covered {}{remark}", missing.len());
+    if differences > 0 || (demanded && !missing.is_empty()) {
+        println!("FAILED with seed {}", options.seed);
+        return ExitCode::from(1);
+    }
+    println!("the two sides agree");
+    ExitCode::SUCCESS
+}

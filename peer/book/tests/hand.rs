@@ -1,0 +1,590 @@
+//! Cases worked out by hand from documents 01 and 02, points 34 to 38 and the layout of the book. Each is put to the book over a table and to the
+//! second opinion, and what they leave of book and row table is looked at number by number.
+//! With its length a record takes 84 bytes; a 61 takes 88, a 90 takes 89, a 52 without an image 143.
+
+use peer_book::paper::Paper;
+use peer_book::{opinion, table};
+use peer_reader::copy::to_ebcdic;
+use peer_reader::plain::*;
+
+const SIZE: u64 = 1;
+const ROOM: u64 = 2;
+const CUT: u64 = 3;
+const TOTAL: u64 = 9;
+const OPEN: u64 = 10;
+const AFTER: u64 = 11;
+const DUPLICATE: u64 = 12;
+const FULL: u64 = 13;
+const NOENTRY: u64 = 15;
+const BOOK: u64 = 20;
+
+const MOST: u64 = u64::MAX;
+
+/// What a row table holds before a call.
+const BEFORE: u64 = 0x5A;
+
+// ---- the files ----
+
+/// Two letters, 17 records, 1,572 bytes.
+/// The first: a check of 1.50 with a view and a credit of 70.00 in a bundle, and behind it a debit of 0.30 (61, usage 9) directly in the letter:
+/// 1 bundle, 2 debit items, 1 credit item, 1 view, 180 debit cents, 7,000 credit cents.
+/// The second: a credit of 5.00 with a view and one of 0.40 directly in the letter: 0, 0, 2, 1, 0, 540.
+fn two_letters() -> Vec<u8> {
+    file(&[
+        file_header(),
+        letter_header('I'),
+        bundle_header(),
+        check(150, ' ', 0),
+        view_detail('0'),
+        view_data(b""),
+        credit('1', 7_000),
+        bundle_sums((1, 150), NOT_STATED, 1, (1, 7_000)),
+        credit('9', 30),
+        letter_sums(1, (2, 180), 1, (1, 7_000)),
+        letter_header('N'),
+        credit(' ', 500),
+        view_detail('0'),
+        view_data(b""),
+        credit('8', 40),
+        letter_sums(0, (0, 0), 1, (2, 540)),
+        file_sums(2, 17, 5, 180, 7_540),
+    ])
+}
+
+/// What x9_read answers to it: records, letters, bundles, items, views, debit cents, credits, credit cents behind the first four.
+const READ_TWO: [u64; 12] = [0, 17, 0, 1_572, 17, 2, 1, 5, 2, 180, 3, 7_540];
+
+/// Its rows: type, offset, length, cash letter, bundle, item, amount.
+#[rustfmt::skip]
+const ROWS_OF_TWO: [u64; 119] = [
+     1,     0,  80, 0, 0, 0,     0,
+    10,    84,  80, 1, 0, 0,     0,
+    20,   168,  80, 1, 1, 0,     0,
+    25,   252,  80, 1, 1, 1,   150,
+    50,   336,  80, 1, 1, 1,     0,
+    52,   420, 139, 1, 1, 1,     0,
+    61,   563,  84, 1, 1, 2, 7_000,
+    70,   651,  80, 1, 1, 0,   150,
+    61,   735,  84, 1, 0, 0,    30,
+    90,   823,  85, 1, 0, 0,   180,
+    10,   912,  80, 2, 0, 0,     0,
+    61,   996,  84, 2, 0, 0,   500,
+    50, 1_084,  80, 2, 0, 0,     0,
+    52, 1_168, 139, 2, 0, 0,     0,
+    61, 1_311,  84, 2, 0, 0,    40,
+    90, 1_399,  85, 2, 0, 0,     0,
+    99, 1_488,  80, 0, 0, 0,   180,
+];
+
+/// One letter with nothing in it, 4 records, 341 bytes (document 01's whole case).
+fn one_letter() -> Vec<u8> {
+    file(&[file_header(), letter_header('N'), letter_control(0, 0, 0, 0), file_control(1, 4, 0, 0)])
+}
+
+const READ_ONE: [u64; 12] = [0, 4, 0, 341, 4, 1, 0, 0, 0, 0, 0, 0];
+
+// ---- tables ----
+
+/// A book of three rows in which the two letters were entered under the number 7. Its last two numbers are behind the last row.
+#[rustfmt::skip]
+const TWO_ENTERED: [u64; 46] = [
+    2, 2, 1, 2, 3, 2, 180, 7_540, 0, 0, 0, 0, 0, 0, 0, 0, 0,
+    1, 1, 7, 1, 2, 1, 1, 180, 7_000,
+    1, 2, 7, 0, 0, 2, 1, 0, 540,
+    0, 0, 0, 0, 0, 0, 0, 0, 0,
+    0, 0,
+];
+
+/// A sound book that no calls have made: four rows, three claimed; entry numbers 5, 9 and 5; file numbers 30, 31, 31; the last number is 9.
+/// The figures add up to 6, 60, 600, 3, 2^64 - 1, 0. [0] of its rows, [8] to [16], its fourth row and its last number are anything.
+#[rustfmt::skip]
+const STRANGE: [u64; 54] = [
+    3, 9, 6, 60, 600, 3, MOST, 0, 91, 92, 93, 94, 95, 96, 97, 98, 99,
+    0,    5, 30, 1, 10, 100, 1, MOST - 30, 0,
+    2,    9, 31, 2, 20, 200, 1, 10, 0,
+    MOST, 5, 31, 3, 30, 300, 1, 20, 0,
+    8,    7, 32, 4, 40, 400, 1, 1, 1,
+    77,
+];
+
+/// A table with other numbers at some places.
+fn with<const LENGTH: usize>(table: [u64; LENGTH], places: &[(usize, u64)]) -> Vec<u64> {
+    let mut changed = table.to_vec();
+    places.iter().for_each(|(place, number)| changed[*place] = *number);
+    changed
+}
+
+/// Zeros behind a number.
+fn alone<const LENGTH: usize>(number: u64) -> [u64; LENGTH] {
+    let mut answer = [0; LENGTH];
+    answer[0] = number;
+    answer
+}
+
+// ---- both sides ----
+
+/// Enters a file on both sides with a row table of this length: the answer, the row table and the book that both give.
+#[track_caller]
+fn entering(file: &[u8], number: u64, rows: usize, book: &[u64]) -> ([u64; 13], Vec<u64>, Vec<u64>) {
+    let paper = Paper::new(file.to_vec());
+    let (mut rows_left, mut book_left) = (vec![BEFORE; rows], book.to_vec());
+    let answer = table::enter(&paper, number, &mut rows_left, &mut book_left);
+    let (mut rows_other, mut book_other) = (vec![BEFORE; rows], book.to_vec());
+    assert_eq!(opinion::enter(&paper, number, &mut rows_other, &mut book_other), answer, "the second opinion");
+    assert_eq!((rows_other, book_other), (rows_left.clone(), book_left.clone()), "the second opinion");
+    (answer, rows_left, book_left)
+}
+
+/// Entering is refused with this answer, and book and row table are as they were.
+#[track_caller]
+fn refuses_with(file: &[u8], number: u64, rows: usize, book: &[u64], refusal: [u64; 13]) {
+    let (answer, rows_left, book_left) = entering(file, number, rows, book);
+    assert_eq!(answer, refusal);
+    assert_eq!(rows_left, vec![BEFORE; rows], "the row table");
+    assert_eq!(book_left, book, "the book");
+}
+
+/// The same for the book's own refusals: 0 in all behind the number.
+#[track_caller]
+fn refuses(file: &[u8], number: u64, rows: usize, book: &[u64], refusal: u64) {
+    refuses_with(file, number, rows, book, alone(refusal));
+}
+
+/// The two letters are entered under this number: the first entry number, and the book as it is left.
+#[track_caller]
+fn enters_two(number: u64, book: &[u64], first: u64, left: &[u64]) {
+    let (answer, rows, book_left) = entering(&two_letters(), number, 119, book);
+    assert_eq!(answer[..12], READ_TWO);
+    assert_eq!(answer[12], first);
+    assert_eq!(rows, ROWS_OF_TWO);
+    assert_eq!(book_left, left);
+}
+
+#[track_caller]
+fn finds(book: &[u64], number: u64, found: [u64; 9]) {
+    assert_eq!(table::find(book, number), found);
+    assert_eq!(opinion::find(book, number), found, "the second opinion");
+}
+
+#[track_caller]
+fn finds_none(book: &[u64], number: u64) {
+    finds(book, number, alone(NOENTRY));
+}
+
+#[track_caller]
+fn totals(book: &[u64], totals: [u64; 8]) {
+    assert_eq!(table::totals(book), totals);
+    assert_eq!(opinion::totals(book), totals, "the second opinion");
+}
+
+/// All three calls refuse with BOOK, whatever they are asked.
+#[track_caller]
+fn no_book(book: &[u64]) {
+    for number in [0, 1, 5, 7, MOST] {
+        finds(book, number, alone(BOOK));
+        refuses(&one_letter(), number, 28, book, BOOK);
+    }
+    totals(book, alone(BOOK));
+    refuses(&two_letters(), 7, 119, book, BOOK);
+    refuses(&[], 8, 0, book, BOOK);
+}
+
+/// No call refuses with BOOK.
+#[track_caller]
+fn a_book(book: &[u64]) {
+    assert_ne!(table::totals(book)[0], BOOK);
+    assert_ne!(table::find(book, 1)[0], BOOK);
+    assert_ne!(entering(&one_letter(), 4_000, 28, book).0[0], BOOK);
+    totals(book, opinion::totals(book));
+    finds(book, 1, opinion::find(book, 1));
+}
+
+// ---- a book from its beginning ----
+
+#[test]
+fn a_table_of_zeros_is_an_empty_book() {
+    let empty = [0; 46];
+    totals(&empty, [0, 0, 0, 0, 0, 0, 0, 0]);
+    [0, 1, 2, MOST].into_iter().for_each(|number| finds_none(&empty, number));
+}
+
+#[test]
+fn two_letters_are_entered() {
+    enters_two(7, &[0; 46], 1, &TWO_ENTERED);
+    finds(&TWO_ENTERED, 1, [0, 1, 7, 1, 2, 1, 1, 180, 7_000]);
+    finds(&TWO_ENTERED, 2, [0, 2, 7, 0, 0, 2, 1, 0, 540]);
+    [0, 3, 7, MOST, 1 << 32 | 1].into_iter().for_each(|number| finds_none(&TWO_ENTERED, number));
+    totals(&TWO_ENTERED, [0, 2, 1, 2, 3, 2, 180, 7_540]);
+}
+
+#[test]
+fn an_ebcdic_file_is_entered_as_its_copy() {
+    let (answer, rows, book) = entering(&to_ebcdic(&two_letters()), 7, 119, &[0; 46]);
+    assert_eq!((&answer[..12], answer[12]), (&READ_TWO[..], 1));
+    assert_eq!(rows, ROWS_OF_TWO);
+    assert_eq!(book, TWO_ENTERED);
+}
+
+/// A day: two letters, one, a number taken, no row left, and what was entered is as it was.
+#[test]
+fn a_day() {
+    let mut book = TWO_ENTERED.to_vec();
+    // One free row, and two letters.
+    refuses(&two_letters(), 8, 119, &book, FULL);
+    refuses(&two_letters(), 7, 119, &book, DUPLICATE);
+    refuses(&one_letter(), 7, 28, &book, DUPLICATE);
+    // The number that was refused as FULL is not taken.
+    let (answer, rows, left) = entering(&one_letter(), 8, 30, &book);
+    assert_eq!((&answer[..12], answer[12]), (&READ_ONE[..], 3));
+    assert_eq!(rows[28..], [BEFORE; 2]);
+    book = with(TWO_ENTERED, &[(0, 3), (1, 3), (35, 1), (36, 3), (37, 8)]);
+    assert_eq!(left, book);
+    finds(&book, 1, [0, 1, 7, 1, 2, 1, 1, 180, 7_000]);
+    finds(&book, 3, [0, 3, 8, 0, 0, 0, 0, 0, 0]);
+    totals(&book, [0, 3, 1, 2, 3, 2, 180, 7_540]);
+    refuses(&one_letter(), 9, 28, &book, FULL);
+    refuses(&one_letter(), 8, 28, &book, DUPLICATE);
+    finds_none(&book, 4);
+}
+
+#[test]
+fn any_number_is_a_file_number() {
+    for number in [0, 1, 1 << 32, MOST] {
+        let (answer, _, book) = entering(&one_letter(), number, 28, &[0; 44]);
+        assert_eq!((answer[0], answer[12]), (0, 1));
+        assert_eq!(book[17..26], [1, 1, number, 0, 0, 0, 0, 0, 0]);
+        refuses(&one_letter(), number, 28, &book, DUPLICATE);
+        assert_eq!(entering(&one_letter(), number ^ 1 << 32, 28, &book).0[12], 2);
+    }
+}
+
+// ---- the reader's refusals ----
+
+#[test]
+fn the_readers_refusals_keep_record_field_and_offset() {
+    let book = TWO_ENTERED;
+    let answer = |number, record, field, offset| {
+        let mut answer = [0; 13];
+        answer[..4].copy_from_slice(&[number, record, field, offset]);
+        answer
+    };
+    refuses_with(&[], 8, 28, &book, answer(SIZE, 0, 0, 0));
+    refuses_with(&[0, 0, 0, 80], 8, 28, &book, answer(CUT, 1, 0, 0));
+    // A row table of 118 numbers has 16 rows, and 17 are needed.
+    refuses_with(&two_letters(), 8, 118, &book, answer(ROOM, 17, 0, 0));
+    refuses_with(&one_letter(), 8, 27, &book, answer(ROOM, 4, 0, 0));
+    refuses_with(&one_letter(), 8, 0, &book, answer(ROOM, 4, 0, 0));
+    // The 90, record 4 at 84 + 84 + 88: field 4 is to state 180.
+    let cents = file(&[
+        file_header(),
+        letter_header('N'),
+        credit('9', 180),
+        letter_sums(0, (1, 179), 0, (0, 0)),
+        file_sums(1, 5, 1, 180, 0),
+    ]);
+    refuses_with(&cents, 8, 28, &book, answer(TOTAL, 4, 4, 256));
+    refuses_with(&one_letter()[..257], 8, 28, &book, answer(OPEN, 4, 0, 257));
+    refuses_with(&[one_letter(), vec![0]].concat(), 8, 28, &book, answer(AFTER, 5, 0, 341));
+}
+
+// ---- the order ----
+
+#[test]
+fn book_comes_before_the_reader_and_the_reader_before_the_rest() {
+    let claims = with(TWO_ENTERED, &[(0, 4)]);
+    refuses(&[], 7, 0, &claims, BOOK);
+    refuses(&two_letters(), 7, 0, &claims, BOOK);
+    refuses(&two_letters(), 7, 119, &claims, BOOK);
+    // 7 is taken, and there is no room for two letters: the reader's own first.
+    assert_eq!(entering(&[], 7, 0, &TWO_ENTERED).0, alone(SIZE));
+    assert_eq!(entering(&two_letters(), 7, 118, &TWO_ENTERED).0[..2], [ROOM, 17]);
+    assert_eq!(entering(&two_letters(), 8, 118, &TWO_ENTERED).0[..2], [ROOM, 17]);
+    refuses(&two_letters(), 7, 119, &TWO_ENTERED, DUPLICATE);
+    refuses(&two_letters(), 8, 119, &TWO_ENTERED, FULL);
+    // DUPLICATE before FULL for the last number and for a running total too.
+    refuses(&one_letter(), 7, 28, &with(TWO_ENTERED, &[(1, MOST)]), DUPLICATE);
+    refuses(&two_letters(), 31, 119, &STRANGE, DUPLICATE);
+}
+
+// ---- BOOK ----
+
+#[test]
+fn more_rows_claimed_than_there_are() {
+    // Three whole rows stand in 46 numbers, and 44 would do; 43 have two.
+    a_book(&TWO_ENTERED[..44]);
+    a_book(&TWO_ENTERED[..43]);
+    a_book(&TWO_ENTERED[..35]);
+    no_book(&TWO_ENTERED[..34]);
+    no_book(&TWO_ENTERED[..17]);
+    let zeros = [0u64; 46];
+    [1, 2, 3].into_iter().for_each(|claimed| a_book(&with(zeros, &[(0, claimed)])));
+    [4, 5, MOST, 1 << 63, 1 << 32, 1 << 32 | 2].into_iter().for_each(|claimed| no_book(&with(zeros, &[(0, claimed)])));
+    // 9 * 0x8E38E38E38E38E39 = 5 * 2^64 + 1: nine times it, and seventeen, are eighteen but for 2^64.
+    no_book(&with(zeros, &[(0, 0x8E38_E38E_38E3_8E39)]));
+    // 9 * 0x1C71C71C71C71C72 = 2^64 + 2.
+    no_book(&with(zeros, &[(0, 0x1C71_C71C_71C7_1C72)]));
+    no_book(&with(TWO_ENTERED, &[(0, 1 << 32 | 2)]));
+    no_book(&with(TWO_ENTERED, &[(0, 1 << 63 | 2)]));
+}
+
+#[test]
+fn a_running_total_that_is_not_the_sum() {
+    a_book(&STRANGE);
+    for place in 2..8 {
+        let (entered, strange) = (TWO_ENTERED[place], STRANGE[place]);
+        for number in [entered + 1, entered.wrapping_sub(1), entered ^ 1 << 32, MOST] {
+            no_book(&with(TWO_ENTERED, &[(place, number)]));
+        }
+        no_book(&with(STRANGE, &[(place, strange.wrapping_add(1))]));
+        no_book(&with(STRANGE, &[(place, strange.wrapping_sub(1))]));
+        no_book(&with([0; 46], &[(place, 1)]));
+    }
+    // Fewer rows claimed: the totals are more than their sums. A row more: the third row of zeros adds nothing.
+    no_book(&with(TWO_ENTERED, &[(0, 1)]));
+    no_book(&with(TWO_ENTERED, &[(0, 0)]));
+    a_book(&with(TWO_ENTERED, &[(0, 3)]));
+    no_book(&with(STRANGE, &[(0, 4)]));
+}
+
+#[test]
+fn a_figure_of_a_row_that_is_another() {
+    for row in 0..2 {
+        for column in 3..9 {
+            let place = 17 + 9 * row + column;
+            no_book(&with(TWO_ENTERED, &[(place, TWO_ENTERED[place] + 1)]));
+        }
+        for column in 0..3 {
+            a_book(&with(TWO_ENTERED, &[(17 + 9 * row + column, 4_711)]));
+        }
+    }
+    // A row that is not claimed, and what is behind the last row.
+    (35..46).for_each(|place| a_book(&with(TWO_ENTERED, &[(place, 4_711)])));
+}
+
+#[test]
+fn a_sum_past_64_bits_is_no_running_total() {
+    // The debit cents of STRANGE are 2^64 - 1: a cent more in any row, and 64 bits leave 0, or what is stated stays 2^64 - 1.
+    for place in [17 + 7, 26 + 7, 35 + 7] {
+        let more = with(STRANGE, &[(place, STRANGE[place] + 1)]);
+        no_book(&more);
+        let mut wrapped = more;
+        wrapped[6] = 0;
+        no_book(&wrapped);
+    }
+    // Two rows of 2^63 are 2^64; and 2^63 and 2^63 - 1 are a running total.
+    for place in 3..9 {
+        let half = 1 << 63;
+        let two = with([0; 35], &[(0, 2), (17 + place, half), (26 + place, half)]);
+        no_book(&two);
+        let less = with([0; 35], &[(0, 2), (place - 1, MOST), (17 + place, half), (26 + place, half - 1)]);
+        a_book(&less);
+        totals(&less, with([0, 2, 0, 0, 0, 0, 0, 0], &[(place - 1, MOST)]).try_into().expect("eight"));
+    }
+}
+
+// ---- what is not looked at ----
+
+#[test]
+fn the_last_number_the_unused_ones_and_marks_are_not_judged() {
+    for place in [1].into_iter().chain(8..17) {
+        [1, 4_711, MOST].into_iter().for_each(|number| a_book(&with(TWO_ENTERED, &[(place, number)])));
+    }
+    let marked = with(TWO_ENTERED, &[(17, 0), (26, MOST), (8, MOST), (16, 3)]);
+    finds(&marked, 1, [0, 1, 7, 1, 2, 1, 1, 180, 7_000]);
+    finds(&marked, 2, [0, 2, 7, 0, 0, 2, 1, 0, 540]);
+    totals(&marked, [0, 2, 1, 2, 3, 2, 180, 7_540]);
+    refuses(&one_letter(), 7, 28, &marked, DUPLICATE);
+    // Entering leaves them as they are, and writes 1 into its own row.
+    let (answer, _, left) = entering(&one_letter(), 9, 28, &with(TWO_ENTERED, &[(17, 0), (26, MOST), (35, 5), (8, 6)]));
+    assert_eq!(answer[12], 3);
+    let places = [(17, 0), (26, MOST), (8, 6), (0, 3), (1, 3), (35, 1), (36, 3), (37, 9)];
+    assert_eq!(left, with(TWO_ENTERED, &places));
+}
+
+#[test]
+fn rows_behind_those_claimed_are_not_there() {
+    // A third row as if it were an entry: number 3 is not found, file number 9 not taken, and entering writes over all of it.
+    let row = [(35, 1), (36, 3), (37, 9), (38, 1), (39, 1), (40, 1), (41, 1), (42, 1), (43, 1), (44, 50), (45, 51)];
+    let book = with(TWO_ENTERED, &row);
+    finds_none(&book, 3);
+    totals(&book, [0, 2, 1, 2, 3, 2, 180, 7_540]);
+    let (answer, _, left) = entering(&one_letter(), 9, 28, &book);
+    assert_eq!(answer[12], 3);
+    let entered = [(0, 3), (1, 3), (35, 1), (36, 3), (37, 9), (44, 50), (45, 51)];
+    assert_eq!(left, with(TWO_ENTERED, &entered));
+    // In an empty book nothing is found in rows of zeros, and the file number 0 is not taken.
+    finds_none(&[0; 44], 0);
+    assert_eq!(entering(&one_letter(), 0, 28, &[0; 44]).0[12], 1);
+}
+
+// ---- short tables ----
+
+#[test]
+fn a_table_without_a_whole_row_is_a_full_book() {
+    for length in 0..26 {
+        let zeros = vec![0; length];
+        totals(&zeros, [0; 8]);
+        [0, 1, MOST].into_iter().for_each(|number| finds_none(&zeros, number));
+        refuses(&one_letter(), 0, 28, &zeros, FULL);
+        refuses(&two_letters(), 1, 119, &zeros, FULL);
+        // The reader comes first.
+        assert_eq!(entering(&[], 0, 28, &zeros).0, alone(SIZE));
+        assert_eq!(entering(&one_letter(), 0, 27, &zeros).0[..2], [ROOM, 4]);
+    }
+    assert_eq!(entering(&one_letter(), 0, 28, &[0; 26]).0[12], 1);
+    refuses(&two_letters(), 0, 119, &[0; 34], FULL);
+    assert_eq!(entering(&two_letters(), 0, 119, &[0; 35]).0[12], 1);
+}
+
+/// A number that is there is judged, one that is lacking counts as 0: a table that ends with it, and one number shorter.
+#[test]
+fn numbers_that_a_short_table_lacks_count_as_0() {
+    for place in [0, 2, 3, 4, 5, 6, 7] {
+        for length in place + 1..26 {
+            let mut book = vec![0; length];
+            book[place] = 1;
+            no_book(&book);
+        }
+        a_book(&vec![0; place]);
+    }
+    for place in [1].into_iter().chain(8..26) {
+        for length in place + 1..30 {
+            let mut book = vec![0; length];
+            book[place] = MOST;
+            a_book(&book);
+        }
+    }
+    // A claim of one with a whole row behind the head, and not.
+    a_book(&with([0; 26], &[(0, 1)]));
+    no_book(&with([0; 25], &[(0, 1)]));
+    finds(&with([0; 26], &[(0, 1), (18, 6)]), 6, [0, 6, 0, 0, 0, 0, 0, 0, 0]);
+}
+
+// ---- finding ----
+
+#[test]
+fn the_first_row_with_the_number_is_found() {
+    finds(&STRANGE, 5, [0, 5, 30, 1, 10, 100, 1, MOST - 30, 0]);
+    finds(&STRANGE, 9, [0, 9, 31, 2, 20, 200, 1, 10, 0]);
+    // 7 stands in the row that is not claimed.
+    [0, 1, 6, 7, 10, 30, 1 << 32 | 5].into_iter().for_each(|number| finds_none(&STRANGE, number));
+    totals(&STRANGE, [0, 3, 6, 60, 600, 3, MOST, 0]);
+    // With other numbers in the rows: 0 and 2^64 - 1 are numbers like any other.
+    let others = with(STRANGE, &[(18, 8), (27, 0), (36, MOST)]);
+    finds(&others, 0, [0, 0, 31, 2, 20, 200, 1, 10, 0]);
+    finds(&others, MOST, [0, MOST, 31, 3, 30, 300, 1, 20, 0]);
+    finds_none(&others, 5);
+    let doubled = with(STRANGE, &[(18, 0), (27, 5), (36, 5)]);
+    finds(&doubled, 5, [0, 5, 31, 2, 20, 200, 1, 10, 0]);
+    finds_none(&doubled, 9);
+}
+
+// ---- DUPLICATE ----
+
+#[test]
+fn a_file_number_in_any_claimed_row_is_taken() {
+    // 30 in the first row, 31 in the second and third; 32 in the one behind.
+    for number in [30, 31] {
+        refuses(&one_letter(), number, 28, &STRANGE, DUPLICATE);
+    }
+    // One letter without anything in it enters, though the debit cents are at the brim.
+    for number in [32, 5, 9, 0, 1 << 32 | 30, MOST] {
+        assert_eq!(entering(&one_letter(), number, 28, &STRANGE).0[12], 10);
+    }
+    let last = with(STRANGE, &[(37, 99)]);
+    refuses(&one_letter(), 99, 28, &last, DUPLICATE);
+    refuses(&one_letter(), 31, 28, &last, DUPLICATE);
+    refuses(&one_letter(), MOST, 28, &with(STRANGE, &[(19, MOST)]), DUPLICATE);
+    refuses(&one_letter(), 0, 28, &with(STRANGE, &[(28, 0)]), DUPLICATE);
+}
+
+// ---- FULL ----
+
+#[test]
+fn more_letters_than_free_rows() {
+    // 46 numbers have three rows, 35 two, 34 one.
+    refuses(&two_letters(), 7, 119, &[0; 34], FULL);
+    enters_two(7, &[0; 35], 1, &TWO_ENTERED[..35]);
+    refuses(&two_letters(), 8, 119, &TWO_ENTERED, FULL);
+    refuses(&one_letter(), 8, 28, &TWO_ENTERED[..43], FULL);
+    assert_eq!(entering(&one_letter(), 8, 28, &TWO_ENTERED[..44]).0[12], 3);
+}
+
+/// A book of one row with a figure, and room for two more.
+fn brimming(figure: usize, total: u64) -> [u64; 44] {
+    let mut book = [0; 44];
+    (book[0], book[1], book[2 + figure]) = (1, 1, total);
+    (book[17], book[18], book[19], book[20 + figure]) = (1, 1, 6, total);
+    book
+}
+
+#[test]
+fn a_running_total_beyond_64_bits() {
+    // What the two letters come to: 1 bundle, 2 debit items, 3 credit items, 2 views, 180 and 7,540 cents.
+    for (figure, sum) in [1, 2, 3, 2, 180, 7_540].into_iter().enumerate() {
+        refuses(&two_letters(), 7, 119, &brimming(figure, MOST), FULL);
+        refuses(&two_letters(), 7, 119, &brimming(figure, MOST - sum + 1), FULL);
+        let book = brimming(figure, MOST - sum);
+        let (answer, _, left) = entering(&two_letters(), 7, 119, &book);
+        assert_eq!((answer[0], answer[12]), (0, 2));
+        let mut head = [3, 3, 1, 2, 3, 2, 180, 7_540, 0, 0, 0, 0, 0, 0, 0, 0, 0];
+        head[2 + figure] = MOST;
+        assert_eq!(left[..17], head);
+        assert_eq!(left[17..26], book[17..26]);
+        assert_eq!(left[26..], [1, 2, 7, 1, 2, 1, 1, 180, 7_000, 1, 3, 7, 0, 0, 2, 1, 0, 540]);
+        // Nothing of the kind enters now, and a letter with nothing in it does not for want of rows alone.
+        refuses(&one_letter(), 8, 28, &left, FULL);
+    }
+    // The first letter alone would fit: 7,000 of 7,540 credit cents, 1 of 3 credits, 1 of 2 views.
+    refuses(&two_letters(), 7, 119, &brimming(5, MOST - 7_000), FULL);
+    refuses(&two_letters(), 7, 119, &brimming(2, MOST - 1), FULL);
+    refuses(&two_letters(), 7, 119, &brimming(3, MOST - 1), FULL);
+    // A letter with nothing in it enters at the brim.
+    (0..6).for_each(|figure| assert_eq!(entering(&one_letter(), 7, 28, &brimming(figure, MOST)).0[12], 2));
+}
+
+#[test]
+fn an_entry_number_beyond_64_bits() {
+    let last = |last| with([0; 46], &[(1, last)]);
+    refuses(&one_letter(), 7, 28, &last(MOST), FULL);
+    refuses(&two_letters(), 7, 119, &last(MOST), FULL);
+    refuses(&two_letters(), 7, 119, &last(MOST - 1), FULL);
+    // The last numbers of all.
+    let left = with(TWO_ENTERED, &[(1, MOST), (18, MOST - 1), (27, MOST)]);
+    enters_two(7, &last(MOST - 2), MOST - 1, &left);
+    finds(&left, MOST, [0, MOST, 7, 0, 0, 2, 1, 0, 540]);
+    finds_none(&left, 0);
+    refuses(&one_letter(), 8, 28, &left, FULL);
+    assert_eq!(entering(&one_letter(), 7, 28, &last(MOST - 1)).0[12], MOST);
+}
+
+// ---- numbering ----
+
+#[test]
+fn numbers_go_on_from_the_last_one_given() {
+    // The rows' own numbers do not matter: 41 was given last, and the row has 3.
+    let book = with(TWO_ENTERED, &[(1, 41), (18, 3)]);
+    let (answer, _, left) = entering(&one_letter(), 8, 28, &book);
+    assert_eq!((answer[0], answer[12]), (0, 42));
+    assert_eq!(left, with(TWO_ENTERED, &[(0, 3), (1, 42), (18, 3), (35, 1), (36, 42), (37, 8)]));
+    // Nor that a row already has the next number: its first row is found, as before.
+    let again = with(TWO_ENTERED, &[(1, 0)]);
+    let (answer, _, left) = entering(&one_letter(), 8, 28, &again);
+    assert_eq!((answer[0], answer[12]), (0, 1));
+    finds(&left, 1, [0, 1, 7, 1, 2, 1, 1, 180, 7_000]);
+    totals(&left, [0, 3, 1, 2, 3, 2, 180, 7_540]);
+    // A book without an entry whose last number is 9: nothing is found, and 10 is next.
+    let none = with([0; 46], &[(1, 9)]);
+    finds_none(&none, 9);
+    let (answer, _, left) = entering(&two_letters(), 7, 119, &none);
+    assert_eq!(answer[12], 10);
+    assert_eq!(left, with(TWO_ENTERED, &[(1, 11), (18, 10), (27, 11)]));
+}
+
+/// The row table is filled as far as the file goes, and the rest is as it was.
+#[test]
+fn the_row_table_behind_the_file_is_as_it_was() {
+    let (_, rows, _) = entering(&two_letters(), 7, 130, &[0; 46]);
+    assert_eq!(rows[..119], ROWS_OF_TWO);
+    assert_eq!(rows[119..], [BEFORE; 11]);
+}

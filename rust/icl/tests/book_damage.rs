@@ -1,0 +1,145 @@
+//! Damaged day books: whatever is wrong with the file, it is told as BOOK (number 20), and the file is never written to.
+
+mod common;
+
+use std::fs;
+
+use common::{read, run, Folder};
+
+const FILE: &str = "peer/samples/sound-11-credits.x9";
+
+/// The commands that take a book.
+const COMMANDS: [&str; 6] = [
+    "enter BOOK peer/samples/sound-2-checks.x9 --number 9",
+    "grow BOOK --rows 9",
+    "show BOOK 1",
+    "list BOOK",
+    "list BOOK --csv",
+    "totals BOOK",
+];
+
+/// A sound book with one entry in two rows, of 24 + 8 x 29 bytes.
+fn sound(folder: &Folder) -> Vec<u8> {
+    let book = folder.path("sound.book");
+    assert_eq!(run(&format!("book new {book} --rows 2")).0, 0);
+    assert_eq!(run(&format!("book enter {book} {FILE} --number 7")).0, 0);
+    let bytes = fs::read(&book).unwrap();
+    assert_eq!(bytes.len(), 256);
+    bytes
+}
+
+/// Runs a command on a book of these bytes, which is to be refused as BOOK and left as it is; gives the words.
+fn words(folder: &Folder, bytes: &[u8], command: &str) -> String {
+    let book = folder.with("damaged.book", bytes);
+    let (status, output, complaint) = run(&format!("book {}", command.replace("BOOK", &book)));
+    assert_eq!((status, output.as_str()), (1, ""), "{command}: {complaint}");
+    assert_eq!(fs::read(&book).unwrap(), bytes, "{command}");
+    let begin = format!("icl: {book}: refused 20 record 0 field 0 offset 0: BOOK: the day book is not sound; ");
+    let words = complaint.strip_prefix(&begin).unwrap_or_else(|| panic!("{command}: {complaint}"));
+    assert_eq!(words.lines().count(), 1);
+    words.trim_end().to_string()
+}
+
+/// Every byte of a small book changed, in turn by one bit, to zero, and wholly. (`book_file` tries every value of every byte.)
+#[test]
+fn each_byte_changed() {
+    let folder = Folder::new("bytes");
+    let sound = sound(&folder);
+    for at in 0..sound.len() {
+        let mut bytes = sound.clone();
+        bytes[at] = match at % 3 {
+            0 => bytes[at] ^ (1 << (at % 8)),
+            1 if bytes[at] != 0 => 0,
+            _ => !bytes[at],
+        };
+        words(&folder, &bytes, COMMANDS[at % COMMANDS.len()]);
+    }
+    assert_eq!(folder.names(""), ["damaged.book", "sound.book"]);
+}
+
+/// A check sum as the XZ format has it, bit by bit.
+fn check_sum(bytes: &[u8]) -> u64 {
+    let bit = |sum: u64| (sum >> 1) ^ if sum & 1 == 1 { 0xC96C_5795_D787_0F42 } else { 0 };
+    !bytes.iter().fold(!0, |sum, byte| (0..8).fold(sum ^ u64::from(*byte), |sum, _| bit(sum)))
+}
+
+/// A file whose check sum is right, with other numbers in the table.
+fn with_numbers(sound: &[u8], changes: &[(usize, u64)]) -> Vec<u8> {
+    let mut bytes = sound[..sound.len() - 8].to_vec();
+    changes.iter().for_each(|(place, number)| bytes[40 + 8 * place..][..8].copy_from_slice(&number.to_le_bytes()));
+    let sum = check_sum(&bytes);
+    bytes.extend(sum.to_le_bytes());
+    bytes
+}
+
+#[test]
+fn each_kind_of_damage() {
+    let folder = Folder::new("kinds");
+    let sound = sound(&folder);
+    assert_eq!(with_numbers(&sound, &[]), sound);
+    let first_line = "it does not begin with the line \"icl day book, version 1\"";
+    let later = [b"icl day book, version 2\n", &sound[24..]].concat();
+    let other_sum = [&sound[..248], &[0; 8]].concat();
+    let sum = check_sum(&sound[..248]);
+    let kinds = [
+        (vec![], "the file is empty".to_string()),
+        (vec![0; 256], first_line.to_string()),
+        (read("README.md"), first_line.to_string()),
+        (read(FILE), first_line.to_string()),
+        (later, "it says that it is of version 2, and this icl reads version 1".to_string()),
+        (sound[..24].to_vec(), "it ends after 24 bytes, before its numbers do".to_string()),
+        (sound[..255].to_vec(), "it has 255 bytes, which is not what its counts ask for: 26 numbers".to_string()),
+        (
+            [&sound[..], b"\n"].concat(),
+            "it has 257 bytes, which is not what its counts ask for: 26 numbers".to_string(),
+        ),
+        (other_sum, format!("its check sum is wrong: 0000000000000000 stands there, and its bytes come to {sum:016x}")),
+        // Here the library judges. The letter has one bundle and 40005 debit cents.
+        (with_numbers(&sound, &[(0, 3)]), "rows claimed: 3; rows there: 2".to_string()),
+        (
+            with_numbers(&sound, &[(6, 40_004)]),
+            "running total of debit cents: 40004; its rows come to: 40005".to_string(),
+        ),
+        (with_numbers(&sound, &[(0, 0)]), "running total of bundles: 1; its rows come to: 0".to_string()),
+    ];
+    for (bytes, expected) in &kinds {
+        for command in COMMANDS {
+            assert_eq!(words(&folder, bytes, command), *expected, "{command}");
+        }
+    }
+    // Not over a damaged one either.
+    let book = folder.with("damaged.book", &kinds[6].0);
+    assert_eq!(run(&format!("book new {book}")).0, 2);
+    assert_eq!(fs::read(&book).unwrap(), kinds[6].0);
+    // BOOK comes before all that is wrong with the file.
+    let large = folder.sparse("large.x9", 300 << 20);
+    for file in ["peer/samples/damaged-02-check-digit.x9", &large] {
+        words(&folder, &kinds[9].0, &format!("enter BOOK {file} --number 7"));
+        words(&folder, &kinds[6].0, &format!("enter BOOK {file} --number 7"));
+    }
+}
+
+/// What the library does not look at may stand in a sound file: it is kept.
+#[test]
+fn numbers_that_are_not_looked_at() {
+    let folder = Folder::new("other-numbers");
+    let bytes = with_numbers(&sound(&folder), &[(8, 5), (16, 6), (17, 7)]);
+    let book = folder.with("other.book", &bytes);
+    assert_eq!(run(&format!("book grow {book} --rows 3")).0, 0);
+    assert_eq!(fs::read(&book).unwrap()[40..248], bytes[40..248]);
+    assert_eq!(run(&format!("book show {book} 1")).0, 0);
+}
+
+/// A file that is longer than any book, of which no more is read.
+#[test]
+fn a_file_too_long() {
+    let folder = Folder::new("long");
+    let book = folder.with("long.book", b"icl day book, version 1\n");
+    fs::File::options().write(true).open(&book).unwrap().set_len(300 << 20).unwrap();
+    for command in ["list BOOK", "enter BOOK peer/samples/sound-2-checks.x9 --number 1"] {
+        let (status, _, complaint) = run(&format!("book {}", command.replace("BOOK", &book)));
+        assert_eq!(status, 1);
+        assert!(complaint.ends_with("; it is longer than 72000184 bytes, and no day book is\n"), "{complaint}");
+    }
+    assert_eq!(fs::metadata(&book).unwrap().len(), 300 << 20);
+}
