@@ -1,31 +1,28 @@
 -- A file that the reader accepts: what entering it answers, and the book and the row table afterwards. Assumes nothing.
 use Prim.Native.Nat.{ℕ, suc, _+_, _*_, _/_, _≤_, _<_}
 use native.Mathlib.Omega.{arith}
-use mathlib.Core.Bool.{Bool, true, false, _&&_, not}
+use mathlib.Core.Bool.{true, false, _&&_}
 use mathlib.Core.List.{List, [], _∷_, _++_}
 use mathlib.Core.Path.{_≡_, refl, sym, ap, _∙_}
 use lib.Dec.{leb}
 use lib.ListN.{length, getD, set, drop}
 use lib.Seq.{sets, length-sets, getD-set-other}
 use borrow.Author.Tests.{leb-true, le-leb, lt-leb}
-use Rattle.frame.specs.Unless.{unless}
 use Rattle.passes.specs.declared.Fault.{Fault}
 use Rattle.passes.specs.declared.Fault.the-variants.{Room, Duplicate, Full, Book}
 use Rattle.passes.specs.declared.Totals.{Totals}
-use Rattle.passes.specs.declared.Answer.{Answer}
 use Rattle.passes.specs.declared.Answer.the-variants.{Accepted}
 use Rattle.passes.specs.Reading.{surveyed, answerOf, tableOf}
 use Rattle.figures.specs.declared.Figures.{Figures}
 use Rattle.figures.specs.Figures.{figures, plus, allOf, fits, numbersOf, figuresAt}
+use Rattle.figures.proofs.Laws.{both}
 use Rattle.letters.specs.Letters.{lettersOf}
 use Rattle.letters.proofs.Theorem.{AcceptedLetters}
-use Rattle.book.specs.declared.Entry.{Entry}
-use Rattle.book.specs.declared.Entering.{Entering}
 use Rattle.book.specs.declared.Entering.the-variants.{Entered, Refused}
 use Rattle.book.specs.PlainList.{totalsOf, isTaken, entriesOn, hasRoom, entering}
 use Rattle.book.specs.Table.{rowsClaimed, lastNumber, runningTotals, rowsThere, rowsOf, entriesOf, plainListOf, isBook, withEntries}
 use Rattle.book.specs.Calls.{enterAnswer}
-use Rattle.book.proofs.Laws.{Sound, sound}
+use Rattle.book.proofs.Laws.{sound}
 use Rattle.passes.specs.declared.Answer.the-variants as answers
 use Rattle.passes.specs.Rows as rows
 
@@ -49,11 +46,6 @@ unfolding figuresAt
 totals-kept book base vs h =
     let there : (j : ℕ) → j < 17 → getD (sets book base vs) j 0 ≡ getD book j 0 = λ j l. kept book base vs j (omega arith) in
     rw (there 2 (omega arith), there 3 (omega arith), there 4 (omega arith), there 5 (omega arith), there 6 (omega arith), there 7 (omega arith))
-
-three : (p q r : Bool) → p && q && r ≡ true → (p ≡ true) × ((q ≡ true) × (r ≡ true))
-three true true r e = (refl, (refl, e))
-three true false r e = (refl, (e, cc))
-three false q r e = (e, ((cc), (cc)))
 
 -- what there is room for
 pub record HasRoom (file book : List ℕ) (t : Totals) : Type 0 where
@@ -100,14 +92,17 @@ module _ (file table book : List ℕ) (m : ℕ) (t : Totals) (b : isBook book �
 
   pub has-room : hasRoom (plainListOf book) (lettersOf file) ≡ true → HasRoom file book t
   has-room r =
-      let u = three (leb (rowsClaimed book + t .letters) (rowsThere book)) (fits (plus (runningTotals book) (figures (t .bundles) (t .sums)))) (leb (lastNumber book + t .letters) 0xFFFF_FFFF_FFFF_FFFF) (sym room-is ∙ r) in
-      let rows = leb-true (rowsClaimed book + t .letters) (rowsThere book) (u .0) in
-      let numbers = leb-true (lastNumber book + t .letters) 0xFFFF_FFFF_FFFF_FFFF (u .1 .1) in
+      let claims = leb (rowsClaimed book + t .letters) (rowsThere book) in
+      let sums = fits (plus (runningTotals book) (figures (t .bundles) (t .sums))) in
+      let u = both (claims && sums) (leb (lastNumber book + t .letters) 0xFFFF_FFFF_FFFF_FFFF) (sym room-is ∙ r) in
+      let v = both claims sums (u .0) in
+      let rows = leb-true (rowsClaimed book + t .letters) (rowsThere book) (v .0) in
+      let numbers = leb-true (lastNumber book + t .letters) 0xFFFF_FFFF_FFFF_FFFF (u .1) in
       record {
         rows = omega (arith, a .some, a .count);
         letters = a .count;
         some = a .some;
-        sums = u .1 .0;
+        sums = v .1;
         numbers = omega arith;
       }
 

@@ -2,15 +2,15 @@
 use Prim.Native.Nat.{ℕ, zero, suc, _+_, _-_, _*_, _≤_, _<_}
 use native.Mathlib.Numerals.{sub-one}
 use native.Mathlib.Omega.{arith}
-use mathlib.Core.Bool.{Bool, true, false, _&&_, _||_, cond}
+use mathlib.Core.Bool.{true, false, _&&_}
 use mathlib.Core.List.{List, [], _∷_}
-use mathlib.Core.Path.{_≡_, refl, sym, ap, _∙_}
+use mathlib.Core.Path.{_≡_, refl, ap, _∙_}
 use lib.Dec.{leb}
 use lib.ListN.{length, getD}
 use borrow.Author.Tests.{leb-true, eq-eqb, ne-eqb}
 use Rattle.figures.specs.declared.Figures.{Figures}
 use Rattle.figures.specs.Figures.{noFigures, minus, same, covers, figuresAt}
-use Rattle.figures.proofs.Laws.{same-true, same-step}
+use Rattle.figures.proofs.Laws.{both, same-true, same-step}
 use Rattle.passes.specs.declared.Fault.the-variants.{NoEntry}
 use Rattle.book.specs.declared.Finding.the-variants.{Found, Refused}
 use Rattle.book.specs.PlainList.{totalsOf, isTaken, finding}
@@ -95,10 +95,6 @@ pub record Sound (book : List ℕ) : Type 0 where
   pub claims : rowsClaimed book ≤ rowsThere book
   pub sums : runningTotals book ≡ totalsOf (entriesOf book)
   pub count : length (entriesOf book) ≡ rowsClaimed book
-
-both : (p q : Bool) → p && q ≡ true → (p ≡ true) × (q ≡ true)
-both true q e = (refl, e)
-both false q e = (e, cc)
 
 pub sound : (book : List ℕ) → isBook book ≡ true → Sound book
 unfolding isBook entriesOf

@@ -45,7 +45,7 @@ unfolding rowsOf entriesOn
 entered-one book place m given f fs = sets-behind book place (rowOf (entry (given + 1) m f)) (rowsOf (entriesOn (given + 1) m fs))
 
 -- the letters so far, and those from here, are all that is entered
-pub record Entering (set : CharacterSet) (file book₀ : List ℕ) (m last base at : ℕ) (s : Standing) (book : List ℕ) (place given : ℕ) : Type 0 where
+pub record Writing (set : CharacterSet) (file book₀ : List ℕ) (m last base at : ℕ) (s : Standing) (book : List ℕ) (place given : ℕ) : Type 0 where
   pub here : Place set file at s
   pub long : length book ≡ length book₀
   pub room : place + 9 * length (lettersFrom set (here .fuel) file at (here .past)) ≤ length book
@@ -53,9 +53,9 @@ pub record Entering (set : CharacterSet) (file book₀ : List ℕ) (m last base 
   pub same : entered book₀ base m last (lettersOf file) ≡ entered book place m given (lettersFrom set (here .fuel) file at (here .past))
 
 module _ (set : CharacterSet) (file book₀ : List ℕ) (m last base : ℕ) where
-  pub entering-first : (s : Standing) → set ≡ setOf file → length file ≤ 268_435_456 → base + 9 * length (lettersOf file) ≤ length book₀
-      → last + length (lettersOf file) < 0x1_0000_0000_0000_0000 → s ≡ cappedFigures (standing set file []) → Entering set file book₀ m last base 0 s book₀ base last
-  entering-first s q h room numbers e =
+  pub writing-first : (s : Standing) → set ≡ setOf file → length file ≤ 268_435_456 → base + 9 * length (lettersOf file) ≤ length book₀
+      → last + length (lettersOf file) < 0x1_0000_0000_0000_0000 → s ≡ cappedFigures (standing set file []) → Writing set file book₀ m last base 0 s book₀ base last
+  writing-first s q h room numbers e =
       let all : lettersFrom set (length file) file 0 [] ≡ lettersOf file = rw q in
       record {
         here = record { past = []; fuel = length file; within = omega arith; limit = h; few = omega arith; enough = omega arith; stands = e };
@@ -65,16 +65,16 @@ module _ (set : CharacterSet) (file book₀ : List ℕ) (m last base : ℕ) wher
         same = ap (entered book₀ base m last) (sym all);
       }
 
-  module _ (at : ℕ) (s : Standing) (book : List ℕ) (place given : ℕ) (v : Entering set file book₀ m last base at s book place given) where
+  module _ (at : ℕ) (s : Standing) (book : List ℕ) (place given : ℕ) (v : Writing set file book₀ m last base at s book place given) where
     more : at < length file → 0 < v .here .fuel
     more h = omega (arith, v .here .enough)
 
-    pub entering-cut : at < length file → frameAt file at ≡ Cut → book ≡ entered book₀ base m last (lettersOf file)
-    entering-cut h e =
+    pub writing-cut : at < length file → frameAt file at ≡ Cut → book ≡ entered book₀ base m last (lettersOf file)
+    writing-cut h e =
         sym (v .same ∙ ap (entered book place m given) (letters-cut set file at (v .here .past) (v .here .fuel) e h) ∙ entered-none book place m given)
 
-    pub entering-end : length file ≤ at → book ≡ entered book₀ base m last (lettersOf file)
-    entering-end h =
+    pub writing-end : length file ≤ at → book ≡ entered book₀ base m last (lettersOf file)
+    writing-end h =
         sym (v .same ∙ ap (entered book place m given) (letters-end set file at (v .here .past) (v .here .fuel) h) ∙ entered-none book place m given)
 
     module _ (h : at < length file) (start size t : ℕ) (e : frameAt file at ≡ Whole start size) (q : typeOf set (part start size file) ≡ t)
@@ -88,14 +88,14 @@ module _ (set : CharacterSet) (file book₀ : List ℕ) (m last base : ℕ) wher
       -- what is left behind the record, from another book, place and number on
       on : (after : List ℕ) (next count : ℕ) → length after ≡ length book₀ → next + 9 * length others ≤ length after
           → count + length others < 0x1_0000_0000_0000_0000 → entered book₀ base m last (lettersOf file) ≡ entered after next m count others
-          → Entering set file book₀ m last base (start + size) r after next count
+          → Writing set file book₀ m last base (start + size) r after next count
       unfolding others
       on after next count long room numbers same =
           let begins = whole-start file at start size e in
           let fits = whole-within file at start size e in
           let there : others ≡ lettersFrom set (v .here .fuel - 1) file (at + 4 + size) (recordEntry t at size ∷ v .here .past) =
           ap (λ (n : ℕ). lettersFrom set (v .here .fuel - 1) file (n + size) (recordEntry t at size ∷ v .here .past)) begins in
-          subst (λ (n : ℕ). Entering set file book₀ m last base (n + size) r after next count) (sym begins)
+          subst (λ (n : ℕ). Writing set file book₀ m last base (n + size) r after next count) (sym begins)
           (record {
             here =
                 record {
@@ -113,9 +113,9 @@ module _ (set : CharacterSet) (file book₀ : List ℕ) (m last base : ℕ) wher
             same = same ∙ ap (entered after next m count) there;
           })
 
-      pub entering-other : (t ≡ 90 → ⊥) → Entering set file book₀ m last base (start + size) r book place given
+      pub writing-other : (t ≡ 90 → ⊥) → Writing set file book₀ m last base (start + size) r book place given
       unfolding others
-      entering-other x =
+      writing-other x =
           let all = letters-other set file at (v .here .past) (v .here .fuel) start size t h (more h) e q x in
           on book place given (v .long) (omega (arith, v .room, ap length all)) (omega (arith, v .numbers, ap length all))
           (v .same ∙ ap (entered book place m given) all)
@@ -125,15 +125,15 @@ module _ (set : CharacterSet) (file book₀ : List ℕ) (m last base : ℕ) wher
         unfolding others
         letters-here = letters-90 set file at (v .here .past) (v .here .fuel) start size t h (more h) e q r stands x
 
-        pub entering-room : place + 9 ≤ length book
-        entering-room = omega (arith, v .room, ap length letters-here)
+        pub writing-room : place + 9 ≤ length book
+        writing-room = omega (arith, v .room, ap length letters-here)
 
-        pub entering-number : given + 1 < 0x1_0000_0000_0000_0000
-        entering-number = omega (arith, v .numbers, ap length letters-here)
+        pub writing-number : given + 1 < 0x1_0000_0000_0000_0000
+        writing-number = omega (arith, v .numbers, ap length letters-here)
 
-        pub entering-one : (after : List ℕ) → after ≡ sets book place (rowOf (entry (given + 1) m (figures (r .opened) (r .letter))))
-            → Entering set file book₀ m last base (start + size) r after (place + 9) (given + 1)
-        entering-one after w =
+        pub writing-one : (after : List ℕ) → after ≡ sets book place (rowOf (entry (given + 1) m (figures (r .opened) (r .letter))))
+            → Writing set file book₀ m last base (start + size) r after (place + 9) (given + 1)
+        writing-one after w =
             let all = letters-here in
             let row = rowOf (entry (given + 1) m (figures (r .opened) (r .letter))) in
             let width = ap length w ∙ length-sets book place row in

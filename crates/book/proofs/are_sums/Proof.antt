@@ -1,14 +1,13 @@
-use borrow.Author.Tests.{not-true, not-false}
-use Prim.Native.Nat.{_+_, _-_, _*_}
-use mathlib.Core.Path.{_≡_, refl, sym, ap, _∙_}
-use native.Mathlib.Omega.{arith}
+use mathlib.Core.Path.{_≡_, sym, ap, _∙_}
+use Prim.Native.Nat.{_+_, _-_}
 use denote.Ref.{now}
+use borrow.Author.Tests.{not-true, not-false}
+use borrow.Author.Needs.{needs}
 use Rattle.figures.specs.declared.Figures.{Figures}
 use Rattle.figures.specs.Figures.{same, covers, minus}
 use Rattle.book.specs.PlainList.{totalsOf}
 use Rattle.book.specs.Table.{runningTotals, entriesFrom}
 use Rattle.book.proofs.Laws.{Walk, sums-none, sums-short, sums-behind}
-use borrow.Author.Needs.{needs}
 use Rattle.book.proofs.are_sums.Statement.{statement}
 use Rattle.book.proofs.are_sums.Tie as tie
 

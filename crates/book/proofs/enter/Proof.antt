@@ -1,10 +1,10 @@
 use mathlib.Core.Path.{refl, sym, _∙_, subst}
 use denote.Ref.{now}
 use borrow.Author.Tests.{not-true, not-false}
+use borrow.Author.Needs.{needs}
 use Rattle.passes.specs.Reading.{Counted}
 use Rattle.letters.proofs.Theorem.{letters-own}
 use Rattle.book.proofs.Accepted.{no-book, refused}
-use borrow.Author.Needs.{needs}
 use Rattle.book.proofs.enter.Statement.{statement}
 use Rattle.book.proofs.enter.Tie as tie
 

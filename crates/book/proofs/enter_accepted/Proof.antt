@@ -5,6 +5,7 @@ use native.Mathlib.Omega.{arith}
 use denote.Ref.{now}
 use lib.Seq.{sets}
 use borrow.Author.Tests.{not-true, not-false}
+use borrow.Author.Needs.{needs}
 use Rattle.passes.proofs.Passes.{accepted-small}
 use Rattle.letters.specs.Letters.{lettersOf}
 use Rattle.letters.proofs.Theorem.{AcceptedLetters, accepted-letters}
@@ -13,7 +14,6 @@ use Rattle.book.specs.PlainList.{isTaken, entriesOn, hasRoom}
 use Rattle.book.specs.Table.{rowsClaimed, lastNumber, entriesFrom, rowsOf, entriesOf, plainListOf}
 use Rattle.book.proofs.Laws.{sound}
 use Rattle.book.proofs.Accepted.{no-room, duplicate, full, enters, filled, room-is, has-room, raisable, book-raised}
-use borrow.Author.Needs.{needs}
 use Rattle.book.proofs.enter_accepted.Statement.{statement}
 use Rattle.book.proofs.enter_accepted.Tie as tie
 

@@ -1,6 +1,6 @@
 use mathlib.Core.Path.{sym}
-use Rattle.book.specs.Table.{entryAt}
 use borrow.Author.Needs.{needs}
+use Rattle.book.specs.Table.{entryAt}
 use Rattle.book.proofs.entry_at.Statement.{statement}
 use Rattle.book.proofs.entry_at.Tie as tie
 

@@ -1,6 +1,6 @@
 use mathlib.Core.Path.{sym}
-use Rattle.figures.specs.Figures.{figuresAt}
 use borrow.Author.Needs.{needs}
+use Rattle.figures.specs.Figures.{figuresAt}
 use Rattle.book.proofs.figures_at.Statement.{statement}
 use Rattle.book.proofs.figures_at.Tie as tie
 

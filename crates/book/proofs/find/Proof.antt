@@ -2,11 +2,11 @@ use mathlib.Core.Path.{sym, ap, _∙_}
 use Prim.Native.Nat.{ℕ}
 use denote.Ref.{now}
 use borrow.Author.Tests.{not-true, not-false}
+use borrow.Author.Needs.{needs}
 use Rattle.book.specs.PlainList.{finding}
 use Rattle.book.specs.Table.{entriesFrom, entriesOf}
 use Rattle.book.specs.Calls.{findAnswer}
 use Rattle.book.proofs.Laws.{sound}
-use borrow.Author.Needs.{needs}
 use Rattle.book.proofs.find.Statement.{statement}
 use Rattle.book.proofs.find.Tie as tie
 

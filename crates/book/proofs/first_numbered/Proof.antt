@@ -1,12 +1,11 @@
-use Prim.Native.Nat.{_+_, _*_}
 use mathlib.Core.Path.{_≡_, refl, sym, ap, _∙_}
 use native.Mathlib.Omega.{arith}
 use denote.Ref.{now}
+use borrow.Author.Needs.{needs}
 use Rattle.book.specs.declared.Finding.the-variants.{Found}
 use Rattle.book.specs.PlainList.{finding}
 use Rattle.book.specs.Table.{entriesFrom}
-use Rattle.book.proofs.Laws.{Walk, row-within, found-none, found-here, found-behind}
-use borrow.Author.Needs.{needs}
+use Rattle.book.proofs.Laws.{Walk, row-within, row-at, found-none, found-here, found-behind}
 use Rattle.book.proofs.first_numbered.Statement.{statement}
 use Rattle.book.proofs.first_numbered.Tie as tie
 
@@ -27,7 +26,7 @@ mul-if1 : tie.Need-mul-if1 Inv-loop μ-loop
 mul-if1 c = search needs
 
 shared-slice-read-if1 : tie.Need-shared-slice-read-if1 Inv-loop μ-loop
-shared-slice-read-if1 c = omega (arith, row-within (now (c .before .before .before .before .args .book)) (c .before .before .before .before .args .claimed) (c .before .before .loop .rows) (c .before .before .loop .at) (c .before .before .before .before .pre) (c .before .before .loop .inv .1) (c .before .loop-test .taken))
+shared-slice-read-if1 c = row-at (now (c .before .before .before .before .args .book)) (c .before .before .before .before .args .claimed) (c .before .before .loop .rows) (c .before .before .loop .at) (c .before .before .before .before .pre) (c .before .before .loop .inv .1) (c .before .loop-test .taken) _ (omega arith)
 
 entry-at-requires : tie.Need-entry-at-requires Inv-loop μ-loop
 entry-at-requires c κs = row-within (now (c .before .before .before .before .before .args .book)) (c .before .before .before .before .before .args .claimed) (c .before .before .before .loop .rows) (c .before .before .before .loop .at) (c .before .before .before .before .before .pre) (c .before .before .before .loop .inv .1) (c .before .before .loop-test .taken)

@@ -1,9 +1,9 @@
 use mathlib.Core.Path.{sym}
 use native.Mathlib.Omega.{arith}
 use denote.Ref.{now}
+use borrow.Author.Needs.{needs}
 use Rattle.figures.proofs.Laws.{room}
 use Rattle.book.specs.Table.{rowsThere, rowsClaimed, lastNumber}
-use borrow.Author.Needs.{needs}
 use Rattle.book.proofs.has_room.Statement.{statement}
 use Rattle.book.proofs.has_room.Tie as tie
 

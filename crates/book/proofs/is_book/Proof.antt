@@ -3,10 +3,10 @@ use Prim.Native.Nat.{ℕ}
 use native.Mathlib.Omega.{arith}
 use denote.Ref.{now}
 use borrow.Author.Tests.{lt-leb, le-leb}
+use borrow.Author.Needs.{needs}
 use Rattle.figures.specs.Figures.{same}
 use Rattle.book.specs.PlainList.{totalsOf}
 use Rattle.book.specs.Table.{rowsClaimed, rowsThere, runningTotals, entriesFrom, entriesOf, isBook}
-use borrow.Author.Needs.{needs}
 use Rattle.book.proofs.is_book.Statement.{statement}
 use Rattle.book.proofs.is_book.Tie as tie
 

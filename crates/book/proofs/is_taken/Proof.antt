@@ -1,11 +1,10 @@
-use Prim.Native.Nat.{_+_, _*_}
 use mathlib.Core.Path.{_≡_, refl, sym, _∙_}
 use native.Mathlib.Omega.{arith}
 use denote.Ref.{now}
+use borrow.Author.Needs.{needs}
 use Rattle.book.specs.PlainList.{isTaken}
 use Rattle.book.specs.Table.{entriesFrom}
-use Rattle.book.proofs.Laws.{Walk, row-within, taken-none, taken-here, taken-behind}
-use borrow.Author.Needs.{needs}
+use Rattle.book.proofs.Laws.{Walk, row-at, taken-none, taken-here, taken-behind}
 use Rattle.book.proofs.is_taken.Statement.{statement}
 use Rattle.book.proofs.is_taken.Tie as tie
 
@@ -26,7 +25,7 @@ mul-if1 : tie.Need-mul-if1 Inv-loop μ-loop
 mul-if1 c = search needs
 
 shared-slice-read-if1 : tie.Need-shared-slice-read-if1 Inv-loop μ-loop
-shared-slice-read-if1 c = omega (arith, row-within (now (c .before .before .before .args .book)) (c .before .before .before .args .claimed) (c .before .before .loop .rows) (c .before .before .loop .at) (c .before .before .before .pre) (c .before .before .loop .inv .1) (c .before .loop-test .taken))
+shared-slice-read-if1 c = row-at (now (c .before .before .before .args .book)) (c .before .before .before .args .claimed) (c .before .before .loop .rows) (c .before .before .loop .at) (c .before .before .before .pre) (c .before .before .loop .inv .1) (c .before .loop-test .taken) _ (omega arith)
 
 returns : tie.Need-returns Inv-loop μ-loop
 returns c = sym (taken-here (now (c .before .before .before .before .args .book)) (c .before .before .before .loop .at) (c .before .before .before .loop .rows) (c .before .before .before .before .args .number) (c .before .before .loop-test .taken) (c .if1 .taken)) ∙ c .before .before .before .loop .inv .0

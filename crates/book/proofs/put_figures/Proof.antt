@@ -1,6 +1,6 @@
 use native.Mathlib.Omega.{arith}
-use lib.ListN.{length-set}
 use native.Mathlib.Numerals.{add-one, add-two, add-three, add-four, add-five}
+use lib.ListN.{length-set}
 use borrow.Author.Needs.{needs}
 use Rattle.book.proofs.put_figures.Statement.{statement}
 use Rattle.book.proofs.put_figures.Tie as tie

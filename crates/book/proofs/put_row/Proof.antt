@@ -1,7 +1,7 @@
 use mathlib.Core.Path.{_∙_}
 use native.Mathlib.Omega.{arith}
-use lib.ListN.{length-set}
 use native.Mathlib.Numerals.{add-one, add-two, add-three}
+use lib.ListN.{length-set}
 use borrow.Author.Needs.{needs}
 use Rattle.book.proofs.put_row.Statement.{statement}
 use Rattle.book.proofs.put_row.Tie as tie

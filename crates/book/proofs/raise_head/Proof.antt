@@ -1,16 +1,13 @@
-use mathlib.Core.Path.{refl, ap, ap₂}
+use mathlib.Core.Path.{refl, ap, ap₂, _∙_}
 use Prim.Native.Nat.{ℕ, _+_}
-use lib.ListN.{getD, set}
-use lib.Seq.{sets}
-use borrow.Author.Tests.{eqb-false}
-use Rattle.figures.specs.declared.Figures.{Figures}
-use Rattle.figures.specs.Figures.{plus, numbersOf}
-use mathlib.Core.Path.{_∙_}
 use native.Mathlib.Omega.{arith}
 use denote.Ref.{now}
-use lib.ListN.{length-set}
-use lib.Seq.{getD-set-other}
+use lib.ListN.{getD, set, length-set}
+use lib.Seq.{sets, getD-set-other}
+use borrow.Author.Tests.{eqb-false}
 use borrow.Author.Needs.{needs}
+use Rattle.figures.specs.declared.Figures.{Figures}
+use Rattle.figures.specs.Figures.{plus, numbersOf}
 use Rattle.book.proofs.raise_head.Statement.{statement}
 use Rattle.book.proofs.raise_head.Tie as tie
 

@@ -1,10 +1,10 @@
 use mathlib.Core.Path.{sym, ap₂, _∙_}
 use denote.Ref.{now}
 use borrow.Author.Tests.{not-true, not-false}
+use borrow.Author.Needs.{needs}
 use Rattle.book.specs.declared.Tally.the-variants.{Totals}
 use Rattle.book.specs.Calls.{totalsAnswer}
 use Rattle.book.proofs.Laws.{sound}
-use borrow.Author.Needs.{needs}
 use Rattle.book.proofs.totals.Statement.{statement}
 use Rattle.book.proofs.totals.Tie as tie
 
