@@ -119,7 +119,8 @@ fn own_figures_at(book: &[u64], owner: u64, at: usize) -> Figures
     requires { ⌜ at + 9 ≤ length (now book) ⌝ }
     ensures { λ r. ⌜ r ≡ ownFiguresAt owner (now (book .entry)) at ⌝ }
 {
-    if book[at] == owner {
+    let whose = book[at];
+    if whose == owner {
         return figures_at(book, at + 3);
     }
     Figures::none()

@@ -10,12 +10,12 @@ use Rattle.book_table.proofs.figures_at.Reads as figures-at-reads
 use Rattle.figures.proofs.Figures.none.Reads as none-reads
 
 -- src/lib.rt:121:8
-mul-if1 : tie.Need-mul-if1
-mul-if1 c = search needs
+mul-whose : tie.Need-mul-whose
+mul-whose c = search needs
 
 -- src/lib.rt:121:8
-shared-slice-read-if1 : tie.Need-shared-slice-read-if1
-shared-slice-read-if1 c = search needs
+shared-slice-read-whose : tie.Need-shared-slice-read-whose
+shared-slice-read-whose c = search needs
 
 -- src/lib.rt:122:33
 add-figures-at : tie.Need-add-figures-at
@@ -41,8 +41,8 @@ pub own-figures-at-spec : {M : Type 1} → statement M
 own-figures-at-spec =
     tie.close
     (tie.spec
-    mul-if1
-    shared-slice-read-if1
+    mul-whose
+    shared-slice-read-whose
     add-figures-at
     figures-at-requires
     returns
