@@ -19,8 +19,9 @@
 #define CONTROL 16
 #define LARGEST ((size_t)268435456)
 
-/* The numbers of the reader and the writer, below NUMBERS, and those that x9_tiff has besides. */
-enum { ACCEPTED, SIZE, ROOM, CUT, LENGTH, TYPE, PLACE, FIELD, LINK, TOTAL, OPEN, AFTER, NUMBERS, TAGORDER = 18, TAGVALUE, ALL_NUMBERS };
+/* The numbers of the reader and the writer, below NUMBERS, and those that the calls of the day book and x9_tiff have besides. */
+enum { ACCEPTED, SIZE, ROOM, CUT, LENGTH, TYPE, PLACE, FIELD, LINK, TOTAL, OPEN, AFTER, NUMBERS };
+enum { DUPLICATE = 12, FULL, NOENTRY = 15, TAGORDER = 18, TAGVALUE, BOOK, ALL_NUMBERS };
 
 /* ---- Failing ---- */
 

@@ -1,5 +1,6 @@
 /* Planted faults, to see that the targets find them: the library's calls are renamed proved_*, and these stand before them. PLANT says
- * which fault: up to 32 those of the target `read`, 33 to 54 those of `write`, from 55 on those of `tiff`. Compiled without AddressSanitizer, like the library. */
+ * which fault: up to 32 those of the target `read`, 33 to 54 those of `write`, 55 to 77 those of `tiff`, from 78 on those of `book`. Compiled without
+ * AddressSanitizer, like the library. */
 #include <stdlib.h>
 #include <string.h>
 
@@ -12,6 +13,10 @@ uint64_t proved_x9_write(const uint8_t *text, size_t text_len, const uint64_t *d
                          uint64_t answer[12]);
 uint64_t proved_x9_draft(const uint8_t *file, size_t file_len, uint64_t *draft, size_t draft_len, uint64_t answer[12]);
 uint64_t proved_x9_tiff(const uint8_t *image, size_t image_len, uint64_t answer[2]);
+uint64_t proved_x9_book_enter(const uint8_t *file, size_t file_len, uint64_t file_number, uint64_t *table, size_t table_len, uint64_t *book,
+                              size_t book_len, uint64_t answer[13]);
+uint64_t proved_x9_book_find(const uint64_t *book, size_t book_len, uint64_t entry_number, uint64_t found[9]);
+uint64_t proved_x9_book_totals(const uint64_t *book, size_t book_len, uint64_t totals[8]);
 
 /* Bytes 5 and 6 say that the file is EBCDIC. */
 static inline int is_ebcdic(const uint8_t *file, size_t file_len) { return file_len >= 6 && file[4] == 0xF0 && file[5] == 0xF1; }
@@ -366,5 +371,174 @@ uint64_t x9_tiff(const uint8_t *image, size_t image_len, uint64_t answer[2]) {
     if (!number && only(entry_of(entries, count, 0, 279)) == 0 && only(entry_of(entries, count, 0, 273)) == (int64_t)image_len) number = answer[0] = 3;
 #endif
     free(copy);
+    return number;
+}
+
+/* ---- The day book ---- */
+
+#define HEAD 17
+#define WIDTH 9
+
+/* The rows of a sound book that are claimed. */
+static inline uint64_t *book_row(uint64_t *book, size_t row) { return book + HEAD + WIDTH * row; }
+static inline size_t claimed(const uint64_t *book, size_t book_len) { return book_len ? (size_t)book[0] : 0; }
+static inline size_t rows_there(size_t book_len) { return book_len < HEAD ? 0 : (book_len - HEAD) / WIDTH; }
+
+/* A file number that no row has. */
+static inline uint64_t unused(uint64_t *book, size_t book_len) {
+    uint64_t number = UINT64_C(0x7E57) << 40;
+    for (size_t row = 0; row < rows_there(book_len); row++)
+        if (book_row(book, row)[2] >= number) number = book_row(book, row)[2] + 1;
+    return number;
+}
+
+/* What is lent to an entering, for one with something changed. */
+typedef struct {
+    const uint8_t *file;
+    size_t file_len;
+    uint64_t file_number;
+    uint64_t *table;
+    size_t table_len;
+    uint64_t *book;
+    size_t book_len;
+    uint64_t *answer;
+} entering;
+
+static inline uint64_t enter_again(const entering *e, uint64_t file_number) {
+    return proved_x9_book_enter(e->file, e->file_len, file_number, e->table, e->table_len, e->book, e->book_len, e->answer);
+}
+
+/* Enters under a number that is not taken, and writes this one into the rows; where they are too few, DUPLICATE stays. */
+static inline uint64_t enter_in_spite(const entering *e) {
+    size_t before = claimed(e->book, e->book_len);
+    uint64_t number = enter_again(e, unused(e->book, e->book_len));
+    for (size_t row = before; !number && row < claimed(e->book, e->book_len); row++) book_row(e->book, row)[2] = e->file_number;
+    return number ? e->answer[0] = 12 : 0;
+}
+
+/* A wrong answer of the book's own in the place of an acceptance. */
+static inline uint64_t refuse_entering(const entering *e, const uint64_t *table, const uint64_t *book, uint64_t number) {
+    memcpy(e->table, table, e->table_len * 8);
+    memcpy(e->book, book, e->book_len * 8);
+    memset(e->answer, 0, 13 * 8);
+    return e->answer[0] = number;
+}
+
+/* Enters a file that a running total has no room for, and lets the total wrap: the figures that are there stand aside for the while. */
+static inline uint64_t enter_wrapped(const entering *e, const uint64_t *book) {
+    size_t rows = claimed(book, e->book_len);
+    for (size_t row = 0; row < rows; row++) memset(book_row(e->book, row) + 3, 0, 48);
+    if (rows) memset(e->book + 2, 0, 48);
+    uint64_t number = enter_again(e, e->file_number);
+    for (size_t row = 0; row < rows; row++) memcpy(book_row(e->book, row) + 3, book + HEAD + WIDTH * row + 3, 48);
+    for (int i = 2; rows && i < 8; i++) e->book[i] += book[i];
+    return number;
+}
+
+/* What the planted fault makes of an answered entering; `table` and `book` are as they were before it. */
+static inline uint64_t spoil_entering(const entering *e, uint64_t number, const uint64_t *table, const uint64_t *book) {
+    size_t before = claimed(book, e->book_len), len = e->book_len;
+    (void)enter_in_spite, (void)refuse_entering, (void)enter_wrapped, (void)table, (void)before, (void)len;
+#if PLANT == 78 /* a duplicate is accepted */
+    if (number == 12) number = enter_in_spite(e);
+#elif PLANT == 79 /* a later file alters an entry, and the total with it */
+    if (!number && before) book_row(e->book, 0)[7] ^= 1, e->book[6] += book_row(e->book, 0)[7] & 1 ? 1 : UINT64_MAX;
+#elif PLANT == 80 /* the totals are not updated */
+    if (!number) memcpy(e->book + 2, book + 2, 48);
+#elif PLANT == 81 /* the row table is filled on DUPLICATE */
+    if (number == 12) {
+        uint64_t answer[12];
+        proved_x9_read(e->file, e->file_len, e->table, e->table_len, answer);
+    }
+#elif PLANT == 83 /* a total wraps */
+    if (number == 13) number = enter_wrapped(e, book);
+#elif PLANT == 84 /* writes a number past the book */
+    if (!number) e->book[len] = 0;
+#elif PLANT == 85 /* writes a number past the row table */
+    if (number == 2) e->table[e->table_len] = 0;
+#elif PLANT == 86 /* reads a number past the book */
+    sink = (uint8_t)e->book[len];
+#elif PLANT == 87 /* a full book has its last number moved on */
+    if (number == 13 && len > 1) e->book[1]++;
+#elif PLANT == 88 /* a file that takes the last free row is too much */
+    if (!number && e->book[0] == rows_there(len)) number = refuse_entering(e, table, book, 13);
+#elif PLANT == 89 /* rows behind those claimed are looked at for duplicates */
+    for (size_t row = before; !number && row < rows_there(len); row++)
+        if (book[HEAD + WIDTH * row + 2] == e->file_number) number = refuse_entering(e, table, book, 12);
+#elif PLANT == 90 /* file numbers are compared in 32 bits */
+    for (size_t row = 0; !number && row < before; row++)
+        if ((uint32_t)book[HEAD + WIDTH * row + 2] == (uint32_t)e->file_number) number = refuse_entering(e, table, book, 12);
+#elif PLANT == 91 /* entries are numbered by the rows claimed, not from the last number given */
+    if (!number && book[1] > before) e->book[1] = e->book[0], book_row(e->book, before)[1] = e->answer[12] = before + 1;
+#elif PLANT == 92 /* a number of the head that is not looked at is written */
+    if (!number) e->book[16] = 0;
+#elif PLANT == 93 /* FULL names a record */
+    if (number == 13) e->answer[1] = 1;
+#elif PLANT == 94 /* what a second letter has is added to the first one's entry */
+    if (!number && e->answer[5] > 1) book_row(e->book, before)[8] += book_row(e->book, before + 1)[8], book_row(e->book, before + 1)[8] = 0;
+#elif PLANT == 95 /* FULL comes before DUPLICATE */
+    if (number == 12 && before == rows_there(len)) number = e->answer[0] = 13;
+#elif PLANT == 96 /* another answer now and then */
+    if (++calls % 5000 == 0) e->answer[12] ^= 1;
+#endif
+    return number;
+}
+
+uint64_t x9_book_enter(const uint8_t *file, size_t file_len, uint64_t file_number, uint64_t *table, size_t table_len, uint64_t *book, size_t book_len,
+                       uint64_t answer[13]) {
+    entering e = {file, file_len, file_number, table, table_len, book, book_len, answer};
+    uint64_t *old_table = malloc(table_len * 8 + 8), *old_book = malloc(book_len * 8 + 8);
+    memcpy(old_table, table, table_len * 8);
+    memcpy(old_book, book, book_len * 8);
+    uint64_t number = spoil_entering(&e, enter_again(&e, file_number), old_table, old_book);
+    free(old_table), free(old_book);
+    return number;
+}
+
+/* A running total is the sum of its rows, if nothing but 64 bits of it is looked at. */
+static inline int sums_wrap(const uint64_t *book, size_t book_len, size_t figure) {
+    uint64_t sum = 0;
+    for (size_t row = 0; row < claimed(book, book_len); row++) sum += book[HEAD + WIDTH * row + 3 + figure];
+    return sum == book[2 + figure];
+}
+
+uint64_t x9_book_find(const uint64_t *book, size_t book_len, uint64_t entry_number, uint64_t found[9]) {
+    uint64_t number = proved_x9_book_find(book, book_len, entry_number, found);
+    size_t rows = number == 20 ? 0 : claimed(book, book_len);
+    (void)rows;
+#if PLANT == 82 /* the last row is found, not the first */
+    for (size_t row = 0; row < rows; row++)
+        if (book[HEAD + WIDTH * row + 1] == entry_number) memcpy(found + 1, book + HEAD + WIDTH * row + 1, 64);
+#elif PLANT == 97 /* entry numbers are compared in 32 bits */
+    for (size_t row = 0; number == 15 && row < rows; row++)
+        if ((uint32_t)book[HEAD + WIDTH * row + 1] == (uint32_t)entry_number) {
+            number = found[0] = 0;
+            memcpy(found + 1, book + HEAD + WIDTH * row + 1, 64);
+        }
+#elif PLANT == 98 /* a row behind those claimed is found */
+    const uint64_t *behind = book + HEAD + WIDTH * rows;
+    if (number == 15 && rows < rows_there(book_len) && behind[1] == entry_number) {
+        number = found[0] = 0;
+        memcpy(found + 1, behind + 1, 64);
+    }
+#elif PLANT == 99 /* the entry number asked for is given with NOENTRY */
+    if (number == 15) found[1] = entry_number;
+#endif
+    return number;
+}
+
+uint64_t x9_book_totals(const uint64_t *book, size_t book_len, uint64_t totals[8]) {
+    uint64_t number = proved_x9_book_totals(book, book_len, totals);
+    size_t right = 0;
+#if PLANT == 100 /* sums past 64 bits are taken for what these leave of them */
+    for (size_t figure = 0; number == 20 && book_len > HEAD && claimed(book, book_len) <= rows_there(book_len) && figure < 6; figure++)
+        right += (size_t)sums_wrap(book, book_len, figure);
+    if (right == 6) number = totals[0] = 0, totals[1] = book[0], memcpy(totals + 2, book + 2, 48);
+#elif PLANT == 101 /* the last entry number is given, not how many entries there are */
+    if (!number && book_len > 1) totals[1] = book[1];
+#elif PLANT == 102 /* reads a number before the book */
+    sink = (uint8_t)book[-1];
+#endif
+    (void)right, (void)sums_wrap;
     return number;
 }

@@ -1,6 +1,8 @@
-//! The independent reader, the independent writer and the independent judge of tags behind C calls, for the fuzz targets.
+//! The independent reader, the independent writer, the independent judge of tags and the independent day book behind C calls, for the fuzz targets.
 
+mod daybook;
 pub mod drafts;
+pub mod histories;
 mod images;
 mod mutate;
 mod repair;

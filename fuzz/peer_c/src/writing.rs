@@ -18,7 +18,7 @@ unsafe fn give(given: Answer, answer: *mut u64) -> u64 {
 ///
 /// # Safety
 /// `at` points to `len` elements.
-unsafe fn lent<'a, T>(at: *const T, len: usize) -> &'a [T] {
+pub unsafe fn lent<'a, T>(at: *const T, len: usize) -> &'a [T] {
     match len {
         0 => &[],
         _ => from_raw_parts(at, len),

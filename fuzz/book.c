@@ -1,0 +1,499 @@
+/* The target `book`: one input is sixteen control bytes, the numbers of a book, calls on it, and the files that they enter.
+ *
+ * The calls are put to the proved library one after the other on the one book (x9_book_enter, x9_book_find, x9_book_totals), each twice, and to the
+ * independent day book. The target aborts with
+ *   ORACLE      an answer, a book or a row table other than what include/x9180.h promises, whatever any other book says
+ *   DIFFERENCE  one other than the independent book's
+ * and a read or write outside what was lent ends at a page without access, in a margin that was changed, or in AddressSanitizer's report.
+ *
+ * Control bytes: 0 where buffers stand; 1-2 how many numbers of the book stand in the input, if as many do; 3 the pattern of what is untouched; 4-5 how
+ * many zeros follow them in the book; 6 how many calls there are, 7 how many files. Numbers are eight bytes; everything has its low byte first. Behind
+ * the book stand the calls, sixteen bytes each; behind them the lengths of the files but the last, two bytes each; then the files, the last of which has
+ * all that is left.
+ * A call: 0 which; 1 the file; 2 how the length of the row table is taken; 3 how the number is taken; 4-5 a length; 6-7 not looked at; 8-15 a number, the
+ * file's or the entry's.
+ *
+ * Requests 8 to 10 join here: an owner is byte 6 of a call and one more member of `call`, withdrawing and tidying are two more kinds, the list of numbers
+ * taken is one more thing that is lent, and what they ask of a book and of an entering has its functions under "What the header promises". */
+#define FILE_MOST ((size_t)1 << 17)
+#define INPUT_MOST (CONTROL + FILE_MOST)
+#define FILES_MOST 8
+#define CALLS_MOST 128
+#define CALL 16 /* bytes */
+#define BOOK_CAUSES 128
+#define FULL_CAUSES 256
+#define CLAIMS 64
+#define COUNTERS                                                   \
+    uint8_t pairs[KINDS * ALL_NUMBERS * KINDS * ALL_NUMBERS];      \
+    uint8_t no_book[BOOK_CAUSES];                                  \
+    uint8_t full[FULL_CAUSES];                                     \
+    uint8_t claims[CLAIMS];
+#define MUTATE peer_mutate_history
+#define CROSS peer_cross_histories
+
+enum { ENTER, FIND, SUM_UP, KINDS };
+
+#include "common.h"
+
+/* The independent day book (peer_c). A paper is a file, read once. */
+typedef struct paper paper;
+paper *peer_paper(const uint8_t *file, size_t len);
+void peer_drop_paper(paper *p);
+uint64_t peer_enter(const paper *p, uint64_t file_number, uint64_t *table, size_t table_len, uint64_t *book, size_t book_len, uint64_t *answer);
+uint64_t peer_find(const uint64_t *book, size_t book_len, uint64_t entry_number, uint64_t *found);
+uint64_t peer_totals(const uint64_t *book, size_t book_len, uint64_t *totals);
+
+static uint64_t enterings, look_ups, sums, entered;
+
+/* ---- The table that holds a book, as the header lays it out ---- */
+
+#define HEAD 17
+#define WIDTH 9
+#define SIX 6
+enum { CLAIMED, LAST, TOTALS };                  /* in the head */
+enum { MARK, ENTRY_NUMBER, FILE_NUMBER, FIGURES }; /* in a row */
+
+#define BOOK_MOST ((size_t)1 << 13)  /* numbers */
+#define TABLE_MOST ((size_t)1 << 14) /* numbers; a sound record is at least 77 bytes with its length */
+#define TABLE_ROW 7
+
+/* The book at hand, as the last call left it. */
+static uint64_t book[BOOK_MOST];
+static size_t book_len;
+
+static uint64_t head_of(size_t place) { return place < book_len ? book[place] : 0; }
+static size_t rows_there(void) { return book_len < HEAD ? 0 : (book_len - HEAD) / WIDTH; }
+static const uint64_t *row_of(size_t row) { return book + HEAD + WIDTH * row; }
+
+/* Wide enough for any sum of numbers here. */
+typedef unsigned __int128 wide;
+
+static wide sum_of(size_t figure) {
+    wide sum = 0;
+    for (size_t row = 0; row < head_of(CLAIMED); row++) sum += row_of(row)[FIGURES + figure];
+    return sum;
+}
+
+/* The first claimed row that has a number at a place; NULL if there is none. */
+static const uint64_t *first_with(size_t place, uint64_t number) {
+    for (size_t row = 0; row < head_of(CLAIMED); row++)
+        if (row_of(row)[place] == number) return row_of(row);
+    return NULL;
+}
+
+/* Why the table is no book, a bit for each cause; 0 for a book. */
+static unsigned why_no_book(void) {
+    unsigned causes = 0;
+    if (head_of(CLAIMED) > rows_there()) return 1;
+    for (size_t figure = 0; figure < SIX; figure++)
+        if (sum_of(figure) != head_of(TOTALS + figure)) causes |= 2u << figure;
+    return causes;
+}
+
+/* ---- The files, and what the library's own reading says of them ---- */
+
+typedef struct {
+    const uint8_t *bytes;
+    size_t len;
+    uint8_t *lent[PLACES];
+    paper *peer;
+    uint64_t answer[ANSWER]; /* with an ample row table */
+    uint64_t rows[TABLE_MOST];
+    size_t letters;
+    uint64_t figures[TABLE_MOST / TABLE_ROW][SIX]; /* each letter's own */
+} file;
+
+static file files[FILES_MOST];
+static size_t file_count;
+
+enum { BUNDLES, DEBIT_ITEMS, CREDIT_ITEMS, VIEWS, DEBIT_CENTS, CREDIT_CENTS };
+
+/* A record of an accepted file, by its row, counted in its letter's figures. Of a 61 the third character says whether it is a debit. */
+static void count_record(file *f, const uint64_t row[TABLE_ROW]) {
+    int nine = f->bytes[4] == 0xF0 ? 0xF9 : '9';
+    uint64_t *own = row[3] ? f->figures[row[3] - 1] : NULL;
+    int debit = row[0] != 61 || f->bytes[row[1] + 6] == nine;
+    if (row[0] == 10) memset(f->figures[f->letters++], 0, sizeof f->figures[0]);
+    if (row[0] == 20) own[BUNDLES]++;
+    if (row[0] == 50) own[VIEWS]++;
+    if (row[0] == 25 || row[0] == 31 || row[0] == 61) {
+        own[debit ? DEBIT_ITEMS : CREDIT_ITEMS]++;
+        own[debit ? DEBIT_CENTS : CREDIT_CENTS] += row[6];
+    }
+}
+
+static uint64_t sum_of_letters(const file *f, size_t figure) {
+    uint64_t sum = 0;
+    for (size_t letter = 0; letter < f->letters; letter++) sum += f->figures[letter][figure];
+    return sum;
+}
+
+static void read_file(file *f) {
+    x9_read(f->lent[HEAP], f->len, f->rows, TABLE_MOST, f->answer);
+    f->letters = 0;
+    if (f->answer[0] != ACCEPTED) return;
+    for (size_t row = 0; row < f->answer[4]; row++) count_record(f, f->rows + TABLE_ROW * row);
+    const uint64_t *a = f->answer, totals[SIX] = {a[6], a[7] - a[10], a[10], a[8], a[9], a[11]};
+    MUST(f->letters == a[5], "%zu letters by the rows, %" PRIu64 " by the answer", f->letters, a[5]);
+    for (size_t figure = 0; figure < SIX; figure++)
+        MUST(sum_of_letters(f, figure) == totals[figure], "figure %zu of the letters is not that of the file", figure);
+}
+
+/* ---- What the header promises, worked out without any other book ---- */
+
+typedef struct {
+    unsigned kind;
+    const file *of;  /* entering: the file */
+    size_t room;     /* and the numbers of the row table */
+    uint64_t number; /* the file's, or the entry's */
+} call;
+
+/* The numbers of an answer, by kind. */
+static const size_t answer_len[KINDS] = {13, 9, 8};
+
+typedef struct {
+    uint64_t answer[13];
+    size_t used; /* numbers of the row table that are written */
+    uint64_t after[BOOK_MOST];
+} outcome;
+
+/* Why a file does not fit behind what is there, a bit for each cause; 0 if it does. */
+static unsigned why_full(const file *f) {
+    unsigned causes = f->letters > rows_there() - head_of(CLAIMED);
+    if ((wide)head_of(LAST) + f->letters > UINT64_MAX) causes |= 2;
+    for (size_t figure = 0; figure < SIX; figure++)
+        if ((wide)head_of(TOTALS + figure) + sum_of_letters(f, figure) > UINT64_MAX) causes |= 4u << figure;
+    return causes;
+}
+
+/* Each letter in a row of its own, numbered on, and the running totals updated where they stand. */
+static void set_down(const call *c, uint64_t after[BOOK_MOST]) {
+    for (size_t letter = 0; letter < c->of->letters; letter++) {
+        uint64_t *row = after + HEAD + WIDTH * after[CLAIMED]++;
+        row[MARK] = 1, row[ENTRY_NUMBER] = ++after[LAST], row[FILE_NUMBER] = c->number;
+        memcpy(row + FIGURES, c->of->figures[letter], SIX * 8);
+    }
+    for (size_t figure = 0; figure < SIX; figure++) after[TOTALS + figure] += sum_of_letters(c->of, figure);
+}
+
+static void due_of_entering(const call *c, outcome *due) {
+    const uint64_t *read = c->of->answer;
+    int lacks_room = read[0] == ACCEPTED && read[4] > c->room / TABLE_ROW;
+    if (read[0] != ACCEPTED) {
+        memcpy(due->answer, read, ANSWER * 8);
+    } else if (lacks_room) {
+        due->answer[0] = ROOM, due->answer[1] = read[4];
+    } else if (first_with(FILE_NUMBER, c->number)) {
+        due->answer[0] = DUPLICATE;
+    } else if (why_full(c->of)) {
+        due->answer[0] = FULL;
+        COUNT(full, why_full(c->of));
+    } else {
+        memcpy(due->answer, read, ANSWER * 8);
+        due->answer[ANSWER] = head_of(LAST) + 1;
+        due->used = TABLE_ROW * (size_t)read[4];
+        set_down(c, due->after);
+    }
+}
+
+static void due_of_finding(uint64_t number, uint64_t answer[]) {
+    const uint64_t *row = first_with(ENTRY_NUMBER, number);
+    answer[0] = row ? ACCEPTED : NOENTRY;
+    if (row) memcpy(answer + 1, row + ENTRY_NUMBER, (WIDTH - 1) * 8);
+}
+
+static void due_of_totals(uint64_t answer[]) {
+    answer[0] = ACCEPTED, answer[1] = head_of(CLAIMED);
+    for (size_t figure = 0; figure < SIX; figure++) answer[2 + figure] = (uint64_t)sum_of(figure);
+}
+
+/* What a call is to answer and to leave. A refusal leaves everything as it was, and the book's own have 0 in all behind the number. */
+static void work_out(const call *c, outcome *due) {
+    unsigned causes = why_no_book();
+    memset(due->answer, 0, sizeof due->answer);
+    due->used = 0;
+    memcpy(due->after, book, book_len * 8);
+    COUNT(no_book, causes);
+    if (causes) due->answer[0] = BOOK;
+    else if (c->kind == ENTER) due_of_entering(c, due);
+    else if (c->kind == FIND) due_of_finding(c->number, due->answer);
+    else due_of_totals(due->answer);
+}
+
+/* ---- What is lent ---- */
+
+static region file_regions[FILES_MOST][2], book_regions[2], book_region, table_region;
+static uint64_t *lent_book[PLACES]; /* to be read */
+
+/* Beside what is lent to be written stands, where no page without access does, a margin that no call may touch. */
+#define MARGIN (2 * WIDTH)
+
+static void make_regions(void) {
+    for (size_t i = 0; i < FILES_MOST; i++)
+        file_regions[i][END] = region_of(FILE_MOST), file_regions[i][BEGIN] = region_of(FILE_MOST);
+    book_regions[END] = region_of(BOOK_MOST * 8), book_regions[BEGIN] = region_of(BOOK_MOST * 8);
+    book_region = region_of(2 * BOOK_MOST * 8);
+    table_region = region_of(2 * TABLE_MOST * 8);
+    now_what = "input";
+}
+
+static uint64_t *margin_of(int place, uint64_t *lent, size_t count) { return place == END ? lent - MARGIN : lent + count; }
+
+/* Numbers to be written: those given, or, where none are, a pattern. */
+static uint64_t *lend_numbers(region r, int place, const uint64_t *from, size_t count, uint64_t pattern) {
+    uint64_t *lent = place == HEAP ? malloc(count * 8) : (uint64_t *)stand(r, place, count * 8);
+    for (size_t i = 0; i < count; i++) lent[i] = from ? from[i] : pattern;
+    for (size_t i = 0; place != HEAP && i < MARGIN; i++) margin_of(place, lent, count)[i] = ~pattern + i;
+    return lent;
+}
+
+static void check_margin(int place, uint64_t *lent, size_t count, uint64_t pattern, const char *what) {
+    for (size_t i = 0; place != HEAP && i < MARGIN; i++)
+        MUST(margin_of(place, lent, count)[i] == ~pattern + i, "a number beside the %s was changed", what);
+}
+
+/* ---- The calls ---- */
+
+static const char *const names[KINDS] = {"x9_book_enter", "x9_book_find", "x9_book_totals"};
+
+static void check_answer(const call *c, uint64_t number, const uint64_t *answer, const outcome *due) {
+    MUST(number == answer[0], "%s returns %" PRIu64 ", answer %" PRIu64, names[c->kind], number, answer[0]);
+    MUST(number == due->answer[0], "%s gives %" PRIu64 " where %" PRIu64 " is due", names[c->kind], number, due->answer[0]);
+    for (size_t i = 1; i < answer_len[c->kind]; i++)
+        MUST(answer[i] == due->answer[i], "%s with %" PRIu64 ": [%zu] is %" PRIu64 ", due %" PRIu64, names[c->kind], number, i, answer[i], due->answer[i]);
+}
+
+static void check_rows(const call *c, const uint64_t *rows, const outcome *due, uint64_t pattern) {
+    for (size_t i = 0; i < due->used; i++) MUST(rows[i] == c->of->rows[i], "number %zu of the row table is not as x9_read leaves it", i);
+    for (size_t i = due->used; i < c->room; i++)
+        MUST(rows[i] == pattern, "number %zu of the row table was written, answer %" PRIu64, i, due->answer[0]);
+}
+
+static void check_book(const uint64_t *after, const outcome *due) {
+    for (size_t i = 0; i < book_len; i++)
+        MUST(after[i] == due->after[i], "number %zu of the book is %" PRIu64 ", due %" PRIu64 ", answer %" PRIu64, i, after[i], due->after[i], due->answer[0]);
+}
+
+/* One entering with everything lent at one place. */
+static void enter_at(int place, const call *c, uint64_t pattern, const outcome *due) {
+    uint64_t *a = lend_answer(place, answer_len[ENTER], pattern);
+    uint64_t *rows = lend_numbers(table_region, place, NULL, c->room, pattern);
+    uint64_t *lent = lend_numbers(book_region, place, book, book_len, pattern);
+    uint64_t number = x9_book_enter(c->of->lent[place], c->of->len, c->number, rows, c->room, lent, book_len, a);
+    enterings++;
+    check_answer(c, number, a, due);
+    check_rows(c, rows, due, pattern);
+    check_book(lent, due);
+    check_margin(place, rows, c->room, pattern, "row table");
+    check_margin(place, lent, book_len, pattern, "book");
+    drop(place, lent), drop(place, rows), drop(place, a);
+}
+
+/* One call that only reads the book, which stands at all places where it cannot be written. */
+static void ask_at(int place, const call *c, uint64_t pattern, const outcome *due) {
+    uint64_t *a = lend_answer(place, answer_len[c->kind], pattern);
+    uint64_t number = c->kind == FIND ? x9_book_find(lent_book[place], book_len, c->number, a) : x9_book_totals(lent_book[place], book_len, a);
+    ++*(c->kind == FIND ? &look_ups : &sums);
+    check_answer(c, number, a, due);
+    drop(place, a);
+}
+
+/* A call twice, at two places and with two patterns. */
+static void put_twice(const call *c, uint64_t pattern, const outcome *due) {
+    int first = turn++ % PLACES, second = turn % PLACES;
+    if (c->kind == ENTER) {
+        enter_at(first, c, pattern, due), enter_at(second, c, ~pattern, due);
+        return;
+    }
+    lend(book_regions, (uint8_t **)lent_book, book, book_len * 8);
+    ask_at(first, c, pattern, due), ask_at(second, c, ~pattern, due);
+    take_back((uint8_t **)lent_book, book, book_len * 8, "book");
+}
+
+/* What was due, and so was answered, beside the independent book's answer. */
+static void compare(const call *c, uint64_t pattern, const outcome *due) {
+    static uint64_t rows[TABLE_MOST], after[BOOK_MOST];
+    uint64_t answer[13] = {0};
+    memcpy(after, book, book_len * 8);
+    for (size_t i = 0; i < c->room; i++) rows[i] = pattern;
+    if (c->kind == ENTER) peer_enter(c->of->peer, c->number, rows, c->room, after, book_len, answer);
+    else if (c->kind == FIND) peer_find(after, book_len, c->number, answer);
+    else peer_totals(after, book_len, answer);
+    int alike = !memcmp(answer, due->answer, sizeof answer) && !memcmp(after, due->after, book_len * 8) && !memcmp(rows, c->of->rows, due->used * 8);
+    for (size_t i = due->used; i < c->room; i++) alike &= rows[i] == pattern;
+    if (alike) return;
+    show("proved     ", due->answer, (int)answer_len[c->kind]);
+    show("independent", answer, (int)answer_len[c->kind]);
+    fail("DIFFERENCE", "%s: answer, book or row table", names[c->kind]);
+}
+
+/* ---- The plain list of entries, which no call is lent ---- */
+
+static uint64_t list[BOOK_MOST / WIDTH][WIDTH];
+static size_t list_len;
+
+/* Takes down the rows from the end of the list on. */
+static void take_down(void) {
+    while (list_len < head_of(CLAIMED)) {
+        memcpy(list[list_len], row_of(list_len), sizeof list[0]);
+        list_len++;
+    }
+}
+
+/* The first of the list with the entry number of this one. */
+static const uint64_t *first_in_list(const uint64_t *entry) {
+    size_t i = 0;
+    while (list[i][ENTRY_NUMBER] != entry[ENTRY_NUMBER]) i++;
+    return list[i];
+}
+
+static wide sum_of_list(size_t figure) {
+    wide sum = 0;
+    for (size_t i = 0; i < list_len; i++) sum += list[i][FIGURES + figure];
+    return sum;
+}
+
+/* The history is over: entries, LOOKED_UP or somewhat fewer of more than that, are still found as entered. */
+#define LOOKED_UP 64
+static void find_again(void) {
+    uint64_t found[9];
+    for (size_t i = 0; i < list_len; i += 1 + list_len / LOOKED_UP) {
+        const uint64_t *first = first_in_list(list[i]);
+        uint64_t number = x9_book_find(book, book_len, first[ENTRY_NUMBER], found);
+        look_ups++;
+        MUST(number == ACCEPTED && found[0] == ACCEPTED, "entry %" PRIu64 " is no longer found: %" PRIu64, first[ENTRY_NUMBER], number);
+        MUST(!memcmp(found + 1, first + ENTRY_NUMBER, (WIDTH - 1) * 8), "entry %" PRIu64 " is no longer found as entered", first[ENTRY_NUMBER]);
+    }
+}
+
+/* And the totals are the sums of the list. */
+static void sum_up_again(void) {
+    uint64_t totals[8];
+    x9_book_totals(book, book_len, totals);
+    sums++;
+    MUST(totals[0] == ACCEPTED && totals[1] == list_len, "%" PRIu64 " entries of %zu, answer %" PRIu64, totals[1], list_len, totals[0]);
+    for (size_t figure = 0; figure < SIX; figure++) MUST(totals[2 + figure] == sum_of_list(figure), "total %zu is not the sum of the entries", figure);
+}
+
+/* ---- One input ---- */
+
+static size_t two(const uint8_t *at) { return (size_t)at[0] | (size_t)at[1] << 8; }
+
+static uint64_t eight(const uint8_t *at) {
+    uint64_t number = 0;
+    for (int byte = 7; byte >= 0; byte--) number = number << 8 | at[byte];
+    return number;
+}
+
+/* What is left of an input, taken from its front. */
+typedef struct {
+    const uint8_t *at;
+    size_t left;
+} bytes;
+
+static const uint8_t *take(bytes *from, size_t count) {
+    const uint8_t *taken = from->at;
+    from->at += count, from->left -= count;
+    return taken;
+}
+
+static size_t least(size_t one, size_t other) { return one < other ? one : other; }
+
+static void take_book(bytes *from, const uint8_t c[CONTROL]) {
+    size_t given = least(least(two(c + 1), from->left / 8), BOOK_MOST);
+    book_len = least(given + two(c + 4), BOOK_MOST);
+    for (size_t i = 0; i < book_len; i++) book[i] = i < given ? eight(take(from, 8)) : 0;
+}
+
+static void take_files(bytes *from, size_t count) {
+    size_t told_len[FILES_MOST] = {0};
+    file_count = least(count, FILES_MOST);
+    for (size_t i = 0; i + 1 < file_count && from->left >= 2; i++) told_len[i] = two(take(from, 2));
+    for (size_t i = 0; i < file_count; i++) {
+        file *f = &files[i];
+        f->len = i + 1 == file_count ? from->left : least(told_len[i], from->left);
+        f->bytes = take(from, f->len);
+        lend(file_regions[i], f->lent, f->bytes, f->len);
+        f->peer = peer_paper(f->bytes, f->len);
+        read_file(f);
+    }
+}
+
+static void drop_files(void) {
+    for (size_t i = 0; i < file_count; i++) {
+        take_back(files[i].lent, files[i].bytes, files[i].len, "file");
+        peer_drop_paper(files[i].peer);
+    }
+}
+
+/* The length of a row table: the bytes' own, ample, short, exact. */
+static size_t room_of(const uint8_t c[CALL], const file *f) {
+    size_t own = two(c + 4), enough = f->answer[0] == ACCEPTED ? TABLE_ROW * (size_t)f->answer[4] : 0;
+    size_t lengths[] = {own, enough + own % 30, enough - least(1 + own % 8, enough), enough};
+    return least(lengths[c[2] % 4], TABLE_MOST);
+}
+
+/* A number: the bytes' own; that of a claimed row; a small one, or one near the last entry number; that of a row but for one high bit. */
+static uint64_t number_of(const uint8_t c[CALL], unsigned kind) {
+    uint64_t own = eight(c + 8), rows = least((size_t)head_of(CLAIMED), rows_there());
+    uint64_t of_row = rows ? row_of(own % rows)[kind == ENTER ? FILE_NUMBER : ENTRY_NUMBER] : own;
+    uint64_t numbers[] = {own, of_row, own % 8 + (kind == ENTER ? 0 : head_of(LAST) - 4), of_row ^ UINT64_C(1) << (32 + own % 32)};
+    return numbers[c[3] % 4];
+}
+
+static call call_of(const uint8_t c[CALL]) {
+    static const file no_file;
+    unsigned kind = c[0] % KINDS;
+    if (kind == ENTER && !file_count) kind = SUM_UP;
+    const file *of = kind == ENTER ? &files[c[1] % file_count] : &no_file;
+    return (call){kind, of, kind == ENTER ? room_of(c, of) : 0, number_of(c, kind)};
+}
+
+/* A call is put to both sides; the book goes on as it was left. Gives what guidance tells calls apart by. */
+static size_t go_on(const call *c, uint64_t pattern, size_t before) {
+    static outcome due;
+    work_out(c, &due);
+    put_twice(c, pattern, &due);
+    compare(c, pattern, &due);
+    memcpy(book, due.after, book_len * 8);
+    if (due.used) entered++;
+    by_number[due.answer[0]]++;
+    size_t told_apart = c->kind * ALL_NUMBERS + (size_t)due.answer[0];
+    COUNT(pairs, before * KINDS * ALL_NUMBERS + told_apart);
+    if (due.answer[0] < NUMBERS) COUNT(answers, due.answer[0] * TYPES * FIELDS + (c->kind == ENTER ? due.answer[2] : 0) % FIELDS);
+    COUNT(claims, least((size_t)head_of(CLAIMED), CLAIMS - 1));
+    return told_apart;
+}
+
+int LLVMFuzzerTestOneInput(const uint8_t *data, size_t size) {
+    uint8_t c[CONTROL] = {0};
+    size_t held = least(size, CONTROL), before = 0;
+    if (size > INPUT_MOST) return -1;
+    memcpy(c, data, held);
+    bytes left = {data + held, size - held};
+    uint64_t pattern = c[3] * UINT64_C(0x0101010101010101) ^ UINT64_C(0x9E3779B97F4A7C15);
+    inputs++;
+    now_len = size;
+    turn = c[0] % PLACES;
+    take_book(&left, c);
+    size_t calls = least(least(c[6], CALLS_MOST), left.left / CALL);
+    const uint8_t *of_calls = take(&left, calls * CALL);
+    take_files(&left, c[7]);
+
+    int is_book = !why_no_book();
+    list_len = 0;
+    if (is_book) take_down();
+    for (size_t i = 0; i < calls; i++) {
+        call next = call_of(of_calls + i * CALL);
+        before = go_on(&next, pattern + i, before);
+        if (is_book) take_down();
+    }
+    if (is_book) find_again(), sum_up_again();
+    drop_files();
+    return 0;
+}
+
+static void tell_counts(FILE *to) {
+    fprintf(to, " enterings %" PRIu64 " entered %" PRIu64 " look_ups %" PRIu64 " sums %" PRIu64, enterings, entered, look_ups, sums);
+    fprintf(to, " no_book %zu full %zu pairs %zu", held_in(seen.no_book, BOOK_CAUSES), held_in(seen.full, FULL_CAUSES), held_in(seen.pairs, sizeof seen.pairs));
+}

@@ -1,0 +1,70 @@
+//! Writes the seeds of the target `book`: histories of every shape of the generator, a day made of the accepted files of a folder, and two edge inputs.
+//! Use: write_histories OUT FOLDER
+
+use std::collections::BTreeMap;
+use std::path::Path;
+
+use peer_book::generate::history;
+use peer_book::paper::Paper;
+use peer_c::histories::{Input, Step};
+
+/// The histories of which the first ones of each shape are taken.
+const HISTORIES: u64 = 2_400;
+
+/// How many of a shape, and the bytes of the largest. Files in which every letter has all six figures are long, and a full book has eight causes.
+fn wanted(shape: &str) -> (usize, usize) {
+    match shape {
+        "full" => (24, 9_000),
+        "grown" => (12, 12_000),
+        _ => (9, 4_000),
+    }
+}
+
+fn main() -> std::io::Result<()> {
+    let words: Vec<String> = std::env::args().skip(1).collect();
+    let [out, folder] = &words[..] else {
+        eprintln!("use: write_histories OUT FOLDER");
+        std::process::exit(2);
+    };
+    let out = Path::new(out);
+    std::fs::create_dir_all(out)?;
+    let mut made: BTreeMap<&str, usize> = BTreeMap::new();
+    // A step that is prime to the length of a round.
+    for index in (0..HISTORIES).map(|turn| turn * 7) {
+        let history = history(6, index);
+        let (most, largest) = wanted(history.shape);
+        let count = made.entry(history.shape).or_default();
+        let input = Input::of_history(&history, control(index)).map(|input| input.put_together());
+        if let Some(input) = input.filter(|input| *count < most && input.len() <= largest) {
+            *count += 1;
+            std::fs::write(out.join(format!("{}-{index}", history.shape.replace(' ', "-"))), input)?;
+        }
+    }
+    std::fs::write(out.join("a-day"), a_day(folder)?.put_together())?;
+    std::fs::write(out.join("control-only"), control(5))?;
+    std::fs::write(out.join("empty"), [])
+}
+
+fn control(index: u64) -> [u8; 16] {
+    let mut control = [0; 16];
+    (control[0], control[3]) = (index as u8, (index * 11) as u8);
+    control
+}
+
+/// A book with room for twelve entries and the accepted samples: each entered, some again under their own number and under another, everything looked up.
+fn a_day(folder: &str) -> std::io::Result<Input> {
+    let mut names: Vec<_> =
+        std::fs::read_dir(folder)?.map(|entry| Ok(entry?.path())).collect::<std::io::Result<_>>()?;
+    names.sort();
+    let samples = names.iter().filter(|name| name.extension().is_some_and(|extension| extension == "x9"));
+    let files: Vec<Vec<u8>> = samples.map(std::fs::read).collect::<std::io::Result<_>>()?;
+    let files: Vec<Vec<u8>> = files.into_iter().filter(|file| Paper::new(file.clone()).accepted()).take(8).collect();
+    let mut steps = vec![Step::sum_up(), Step::find(1)];
+    for file in 0..files.len() {
+        let number = 100 + file as u64;
+        steps.extend([Step::enter(file, number), Step::enter(file, number), Step::find(file as u64 + 1)]);
+    }
+    steps.extend((0..3).map(|file| Step::enter(file, 200 + file as u64)));
+    steps.extend([Step::find(12), Step::find(13), Step::sum_up()]);
+    Ok(Input { control: control(1), book: Vec::new(), zeros: 17 + 9 * 12, steps, files })
+}

@@ -1,0 +1,79 @@
+//! The independent day book behind C calls. Every answer, and what it leaves, is held against the second opinion.
+
+use std::slice::from_raw_parts_mut;
+
+use peer_book::layout::{ENTER_ANSWER, FIND_ANSWER, TOTALS_ANSWER};
+use peer_book::paper::Paper;
+use peer_book::{opinion, table};
+
+use crate::writing::lent;
+
+/// # Safety
+/// `to` points to as many numbers as the answer has.
+unsafe fn give(answer: &[u64], to: *mut u64) -> u64 {
+    from_raw_parts_mut(to, answer.len()).copy_from_slice(answer);
+    answer[0]
+}
+
+/// Reads a file once; the paper is then entered any number of times.
+///
+/// # Safety
+/// `file` points to `len` bytes.
+#[no_mangle]
+pub unsafe extern "C" fn peer_paper(file: *const u8, len: usize) -> *mut Paper {
+    Box::into_raw(Box::new(Paper::new(lent(file, len).to_vec())))
+}
+
+/// # Safety
+/// `paper` came from `peer_paper` and is not used again.
+#[no_mangle]
+pub unsafe extern "C" fn peer_drop_paper(paper: *mut Paper) {
+    drop(Box::from_raw(paper));
+}
+
+/// Enters a paper.
+///
+/// # Safety
+/// `paper` came from `peer_paper`; `rows` points to `rows_len` numbers, `book` to `book_len`, `answer` to thirteen.
+#[no_mangle]
+pub unsafe extern "C" fn peer_enter(
+    paper: *const Paper,
+    file_number: u64,
+    rows: *mut u64,
+    rows_len: usize,
+    book: *mut u64,
+    book_len: usize,
+    answer: *mut u64,
+) -> u64 {
+    let (rows, book) = (from_raw_parts_mut(rows, rows_len), from_raw_parts_mut(book, book_len));
+    let (mut other_rows, mut other_book) = (rows.to_vec(), book.to_vec());
+    let given: [u64; ENTER_ANSWER] = table::enter(&*paper, file_number, rows, book);
+    let other = opinion::enter(&*paper, file_number, &mut other_rows, &mut other_book);
+    assert_eq!(other, given, "the second opinion is another");
+    assert!(rows == other_rows && book == other_book, "the second opinion leaves something else");
+    give(&given, answer)
+}
+
+/// Looks an entry up.
+///
+/// # Safety
+/// `book` points to `book_len` numbers, `found` to nine.
+#[no_mangle]
+pub unsafe extern "C" fn peer_find(book: *const u64, book_len: usize, entry_number: u64, found: *mut u64) -> u64 {
+    let book = lent(book, book_len);
+    let given: [u64; FIND_ANSWER] = table::find(book, entry_number);
+    assert_eq!(opinion::find(book, entry_number), given, "the second opinion is another");
+    give(&given, found)
+}
+
+/// The running totals.
+///
+/// # Safety
+/// `book` points to `book_len` numbers, `totals` to eight.
+#[no_mangle]
+pub unsafe extern "C" fn peer_totals(book: *const u64, book_len: usize, totals: *mut u64) -> u64 {
+    let book = lent(book, book_len);
+    let given: [u64; TOTALS_ANSWER] = table::totals(book);
+    assert_eq!(opinion::totals(book), given, "the second opinion is another");
+    give(&given, totals)
+}

@@ -1,0 +1,426 @@
+//! Inputs of the target `book`, and their mutator: by number of the book, by call, and by file. An input is sixteen control bytes, the numbers of the
+//! book, the calls, the lengths of the files but the last, and the files.
+
+use std::slice::{from_raw_parts, from_raw_parts_mut};
+
+use peer_book::call::{Call, History};
+use peer_book::files::{any_paper, sound_paper};
+use peer_book::generate::{history, ROUND};
+use peer_book::layout::{row_start, rows_there, CLAIMED, FIGURES, FILE_NUMBER, HEAD, LAST, NUMBER, SIX, TOTALS, WIDTH};
+use peer_book::paper::Paper;
+use peer_book::sheet::{another, junk};
+use peer_reader::random::Random;
+
+use crate::mutate::{by_record, bytes, tried, Bytewise, CONTROL};
+
+/// The most that the target looks at.
+const FILES: usize = 8;
+const CALLS: usize = 128;
+
+/// The bytes of a call.
+const CALL: usize = 16;
+
+/// A call as the input has it. Requests 8 to 10 have the owner in the seventh byte, and two kinds more.
+#[derive(Clone, Copy)]
+pub struct Step {
+    pub kind: u8,
+    pub file: u8,
+    /// How the length of the row table is taken, and a length.
+    pub room: (u8, u16),
+    /// How the number is taken, and a number.
+    pub number: (u8, u64),
+}
+
+pub const ENTER: u8 = 0;
+pub const FIND: u8 = 1;
+pub const SUM_UP: u8 = 2;
+const KINDS: usize = 3;
+
+/// How the length of a row table and a number are taken.
+const AS_TOLD: u8 = 0;
+const AMPLE: u8 = 1;
+const HOWS: usize = 4;
+
+impl Step {
+    fn of(laid: &[u8]) -> Step {
+        let number = laid[8..CALL].try_into().expect("eight bytes");
+        Step {
+            kind: laid[0],
+            file: laid[1],
+            room: (laid[2], u16::from_le_bytes([laid[4], laid[5]])),
+            number: (laid[3], u64::from_le_bytes(number)),
+        }
+    }
+
+    fn laid(&self) -> Vec<u8> {
+        let mut laid = vec![self.kind, self.file, self.room.0, self.number.0];
+        laid.extend(self.room.1.to_le_bytes());
+        laid.extend([0, 0]);
+        laid.extend(self.number.1.to_le_bytes());
+        laid
+    }
+
+    /// A file entered under a number with an ample row table.
+    pub fn enter(file: usize, number: u64) -> Step {
+        Step { kind: ENTER, file: file as u8, room: (AMPLE, 0), number: (AS_TOLD, number) }
+    }
+
+    pub fn find(number: u64) -> Step {
+        Step { kind: FIND, file: 0, room: (AS_TOLD, 0), number: (AS_TOLD, number) }
+    }
+
+    pub fn sum_up() -> Step {
+        Step { kind: SUM_UP, ..Step::find(0) }
+    }
+
+    /// A call of a history. A row table that is longer than two bytes tell is ample.
+    fn of_call(call: &Call) -> Step {
+        match *call {
+            Call::Enter { paper, file_number, rows } => {
+                let told = u16::try_from(rows).map_or((AMPLE, 0), |rows| (AS_TOLD, rows));
+                Step { room: told, ..Step::enter(paper, file_number) }
+            }
+            Call::Find { entry_number } => Step::find(entry_number),
+            Call::Totals => Step::sum_up(),
+        }
+    }
+}
+
+/// A history with its control bytes.
+#[derive(Clone)]
+pub struct Input {
+    pub control: [u8; CONTROL],
+    pub book: Vec<u64>,
+    /// So many zeros follow in the book.
+    pub zeros: u16,
+    pub steps: Vec<Step>,
+    pub files: Vec<Vec<u8>>,
+}
+
+/// Takes so many bytes from the front, or all that are there.
+fn take<'a>(from: &mut &'a [u8], count: usize) -> &'a [u8] {
+    let (taken, left) = from.split_at(count.min(from.len()));
+    *from = left;
+    taken
+}
+
+fn two(laid: &[u8]) -> usize {
+    laid.iter().rev().fold(0, |so_far, byte| so_far << 8 | usize::from(*byte))
+}
+
+impl Input {
+    /// As the target takes an input apart.
+    pub fn taken_apart(given: &[u8]) -> Input {
+        let mut left = given;
+        let mut control = [0; CONTROL];
+        let held = take(&mut left, CONTROL);
+        control[..held.len()].copy_from_slice(held);
+        let numbers = two(&control[1..3]).min(left.len() / 8);
+        let book = take(&mut left, 8 * numbers).chunks_exact(8);
+        let book = book.map(|number| u64::from_le_bytes(number.try_into().expect("eight bytes"))).collect();
+        let calls = usize::from(control[6]).min(CALLS).min(left.len() / CALL);
+        let steps = take(&mut left, CALL * calls).chunks_exact(CALL).map(Step::of).collect();
+        let count = usize::from(control[7]).min(FILES);
+        let lengths: Vec<usize> = (1..count).map(|_| two(take(&mut left, 2))).collect();
+        let mut files: Vec<Vec<u8>> = lengths.into_iter().map(|length| take(&mut left, length).to_vec()).collect();
+        if count > 0 {
+            files.push(left.to_vec());
+        }
+        Input { control, book, zeros: two(&control[4..6]) as u16, steps, files }
+    }
+
+    /// The bytes of the input. Files that two bytes do not tell the length of are cut.
+    pub fn put_together(&self) -> Vec<u8> {
+        let (steps, files) = (&self.steps[..self.steps.len().min(CALLS)], &self.files[..self.files.len().min(FILES)]);
+        let numbers = u16::try_from(self.book.len()).unwrap_or(u16::MAX);
+        let mut made = self.control.to_vec();
+        made[1..3].copy_from_slice(&numbers.to_le_bytes());
+        made[4..6].copy_from_slice(&self.zeros.to_le_bytes());
+        (made[6], made[7]) = (steps.len() as u8, files.len() as u8);
+        made.extend(self.book[..usize::from(numbers)].iter().flat_map(|number| number.to_le_bytes()));
+        made.extend(steps.iter().flat_map(Step::laid));
+        let cut = |file: &Vec<u8>| file.len().min(usize::from(u16::MAX));
+        let but_the_last = &files[..files.len().saturating_sub(1)];
+        made.extend(but_the_last.iter().flat_map(|file| (cut(file) as u16).to_le_bytes()));
+        files.iter().for_each(|file| made.extend(&file[..cut(file)]));
+        made
+    }
+
+    /// A history of the generator; none where it has more calls or files than an input.
+    pub fn of_history(history: &History, control: [u8; CONTROL]) -> Option<Input> {
+        if history.papers.len() > FILES || history.calls.len() > CALLS {
+            return None;
+        }
+        // Zeros at the end are told, not set down.
+        let end = history.book.iter().rposition(|number| *number != 0).map_or(0, |last| last + 1);
+        Some(Input {
+            control,
+            book: history.book[..end].to_vec(),
+            zeros: u16::try_from(history.book.len() - end).ok()?,
+            steps: history.calls.iter().map(Step::of_call).collect(),
+            files: history.papers.iter().map(|paper| paper.bytes.clone()).collect(),
+        })
+    }
+
+    /// The table that the target lends.
+    fn table(&self) -> Vec<u64> {
+        let mut table = self.book.clone();
+        table.resize(table.len() + usize::from(self.zeros), 0);
+        table
+    }
+}
+
+/// # Safety
+/// `data` points to `max` bytes of which `size` are given.
+#[no_mangle]
+pub unsafe extern "C" fn peer_mutate_history(
+    data: *mut u8,
+    size: usize,
+    max: usize,
+    seed: u32,
+    bytewise: Bytewise,
+) -> usize {
+    let given = from_raw_parts(data, size).to_vec();
+    let mut random = Random::for_file(u64::from(seed), size as u64);
+    let made = tried(|| mutated(Input::taken_apart(&given), &mut random, bytewise).put_together());
+    match made {
+        Some(made) if made.len() <= max && made != given => {
+            from_raw_parts_mut(data, made.len()).copy_from_slice(&made);
+            made.len()
+        }
+        _ => bytewise(data, size, max),
+    }
+}
+
+/// # Safety
+/// The pointers go with their lengths.
+#[no_mangle]
+pub unsafe extern "C" fn peer_cross_histories(
+    one: *const u8,
+    one_size: usize,
+    two: *const u8,
+    two_size: usize,
+    out: *mut u8,
+    max: usize,
+    seed: u32,
+) -> usize {
+    let (one, two) = (from_raw_parts(one, one_size).to_vec(), from_raw_parts(two, two_size).to_vec());
+    let mut random = Random::for_file(u64::from(seed), one_size as u64);
+    let joined = tried(|| crossed(Input::taken_apart(&one), Input::taken_apart(&two), &mut random).put_together());
+    let made = joined.filter(|made| made.len() <= max).unwrap_or(one);
+    let length = made.len().min(max);
+    from_raw_parts_mut(out, length).copy_from_slice(&made[..length]);
+    length
+}
+
+fn mutated(mut input: Input, random: &mut Random, bytewise: Bytewise) -> Input {
+    if random.percent(15) {
+        let place = random.pick(&[0, 3]);
+        input.control[place] = random.byte();
+    }
+    let times = random.pick(&[1, 1, 1, 2, 3]);
+    match random.below(100) {
+        0..=5 => {
+            let all = input.put_together();
+            return Input::taken_apart(&bytes(bytewise, &all, all.len() + 64));
+        }
+        6..=11 => return fresh(input, random),
+        12..=34 => (0..times).for_each(|_| change_book(&mut input, random)),
+        35..=64 => (0..times).for_each(|_| change_steps(&mut input, random)),
+        65..=84 => change_files(&mut input, random, bytewise),
+        _ => to_the_brim(&mut input, random),
+    }
+    if random.percent(65) {
+        make_sound(&mut input, random);
+    }
+    input
+}
+
+/// A history of the generator, a long one aside.
+fn fresh(input: Input, random: &mut Random) -> Input {
+    let index = random.draw() % (1_000 * ROUND as u64);
+    let made = history(random.draw(), index);
+    Input::of_history(&made, input.control).unwrap_or(input)
+}
+
+/// One number of the table, or its length.
+fn change_book(input: &mut Input, random: &mut Random) {
+    let mut table = input.table();
+    let there = rows_there(table.len());
+    let place = match random.below(4) {
+        0 => random.below(TOTALS + SIX),
+        1 => CLAIMED,
+        _ => row_start(random.below(there + 1)) + random.below(WIDTH),
+    };
+    let other = table.get(random.below(table.len())).copied().unwrap_or(1);
+    match random.below(12) {
+        0 => table.truncate(random.below(table.len() + 1)),
+        1 => table.extend(vec![0; random.between(1, 3 * WIDTH)]),
+        2 => table.extend(std::array::from_fn::<u64, WIDTH, _>(|_| junk(random))),
+        3 if there > 0 => {
+            let start = row_start(random.below(there));
+            let row = table[start..start + WIDTH].to_vec();
+            drop(table.splice(start..start, row));
+        }
+        4 if there > 0 => {
+            let start = row_start(random.below(there));
+            drop(table.drain(start..start + WIDTH));
+        }
+        _ if place >= table.len() => table.resize(place + 1, 0),
+        5 => table[place] = other,
+        6 | 7 => table[place] = junk(random),
+        8 => table[place] = u64::MAX - random.draw() % 1_000_000,
+        9 if place == CLAIMED => table[place] = there as u64 + random.draw() % 3,
+        _ => table[place] = another(random, table[place]),
+    }
+    put_table(input, table);
+}
+
+/// The table of an input, with the zeros at its end told, not set down.
+fn put_table(input: &mut Input, table: Vec<u64>) {
+    let end = table.iter().rposition(|number| *number != 0).map_or(0, |last| last + 1);
+    input.zeros = u16::try_from(table.len() - end).unwrap_or(u16::MAX);
+    input.book = table[..end].to_vec();
+}
+
+/// Calls dropped, doubled, swapped, inserted, or one part of a call changed.
+fn change_steps(input: &mut Input, random: &mut Random) {
+    let steps = &mut input.steps;
+    let (at, other) = (random.below(steps.len()), random.below(steps.len()));
+    let files = input.files.len();
+    match random.below(12) {
+        0..=2 => {
+            let step = any_step(&input.book, files, random);
+            steps.insert(random.below(steps.len() + 1), step);
+        }
+        _ if steps.is_empty() => steps.push(Step::enter(0, 1)),
+        3 => drop(steps.remove(at)),
+        4 => steps.insert(other, steps[at]),
+        5 => steps.swap(at, other),
+        6 => steps[at].kind = random.below(KINDS) as u8,
+        7 => steps[at].file = random.below(files.max(1)) as u8,
+        8 => steps[at].room = (random.below(HOWS) as u8, random.draw() as u16 >> random.below(16)),
+        9 => steps[at].number.0 = random.below(HOWS) as u8,
+        10 => steps[at].number.1 = steps[other].number.1,
+        _ => steps[at].number.1 = another(random, steps[at].number.1),
+    }
+}
+
+/// Any call, with a number that means something in the book or with any.
+fn any_step(book: &[u64], files: usize, random: &mut Random) -> Step {
+    let row = random.below(rows_there(book.len()).max(1));
+    let kind = random.pick(&[ENTER, ENTER, FIND, SUM_UP]);
+    let near = book.get(row_start(row) + if kind == ENTER { FILE_NUMBER } else { NUMBER }).copied();
+    let number = match random.below(4) {
+        0 => near.unwrap_or(1),
+        1 => junk(random),
+        _ => random.draw() % 12,
+    };
+    let mut step = Step { kind, ..Step::enter(random.below(files.max(1)), number) };
+    if random.percent(25) {
+        (step.number.0, step.room.0) = (random.below(HOWS) as u8, random.below(HOWS) as u8);
+    }
+    step
+}
+
+/// A file changed by its records, another in its place, one more, or one fewer.
+fn change_files(input: &mut Input, random: &mut Random, bytewise: Bytewise) {
+    let at = random.below(input.files.len());
+    match random.below(10) {
+        0 | 1 => input.files.push(sound_paper(random, (1, 3)).bytes),
+        _ if input.files.is_empty() => input.files.push(any_paper(random).bytes),
+        2 => drop(input.files.remove(at)),
+        3 => input.files[at] = any_paper(random).bytes,
+        4 => input.files[at] = sound_paper(random, (1, 4)).bytes,
+        _ => input.files[at] = by_record(&input.files[at], random, bytewise),
+    }
+}
+
+/// The running totals, as far as they are there, are made the sums of the rows claimed, and no more rows are claimed than there are. A sum that 64 bits
+/// do not hold is stated as what they leave of it, or a row is lowered.
+fn make_sound(input: &mut Input, random: &mut Random) {
+    let mut table = input.table();
+    let rows = table.first().map_or(0, |claimed| (*claimed).min(rows_there(table.len()) as u64)) as usize;
+    for place in 0..table.len().min(TOTALS + SIX) {
+        match place {
+            CLAIMED => table[CLAIMED] = rows as u64,
+            LAST => {}
+            _ => table[place] = sound_total(&mut table, rows, place - TOTALS, random),
+        }
+    }
+    put_table(input, table);
+}
+
+fn sum_of(table: &[u64], rows: usize, figure: usize) -> u128 {
+    (0..rows).map(|row| u128::from(table[row_start(row) + FIGURES + figure])).sum()
+}
+
+fn sound_total(table: &mut [u64], rows: usize, figure: usize, random: &mut Random) -> u64 {
+    let lower = random.percent(80);
+    for row in 0..rows {
+        if lower && sum_of(table, rows, figure) > u128::from(u64::MAX) {
+            table[row_start(row) + FIGURES + figure] >>= 32;
+        }
+    }
+    sum_of(table, rows, figure) as u64
+}
+
+/// A book that one of the files makes full, or just does not: by its rows, its last number, or a running total. The file is entered at the end.
+fn to_the_brim(input: &mut Input, random: &mut Random) {
+    make_sound(input, random);
+    let mut table = input.table();
+    let at = random.below(input.files.len());
+    let Some(paper) = input.files.get(at).map(|file| Paper::new(file.clone())).filter(Paper::accepted) else {
+        return input.files.insert(0, sound_paper(random, (1, 3)).bytes);
+    };
+    let letters = paper.letters.len();
+    table.resize(table.len().max(row_start(letters + 1)), 0);
+    let near = |most: u64, random: &mut Random| most.wrapping_add(random.draw() % 3).wrapping_sub(1);
+    let claimed = table[CLAIMED] as usize;
+    match random.below(2 + SIX) {
+        0 => table.resize(row_start(claimed + letters).saturating_sub(random.below(2)), 0),
+        1 => table[LAST] = near(u64::MAX - letters as u64, random),
+        figure => {
+            let figure = figure - 2;
+            table[CLAIMED] = table[CLAIMED].max(1);
+            let start = row_start(random.below(table[CLAIMED] as usize));
+            table[start + FIGURES + figure] = 0;
+            let most = u64::MAX - paper.sums()[figure] as u64;
+            let others = sum_of(&table, table[CLAIMED] as usize, figure);
+            table[start + FIGURES + figure] = near(most, random).saturating_sub(others as u64);
+        }
+    }
+    input.steps.push(Step::enter(at, random.draw()));
+    put_table(input, table);
+    make_sound(input, random);
+}
+
+/// One history with the other's book, with its calls and files behind its own, or with one of its files in the place of one.
+fn crossed(mut one: Input, two: Input, random: &mut Random) -> Input {
+    match random.below(4) {
+        0 => {
+            (one.book, one.zeros) = (two.book, two.zeros);
+        }
+        1 if !one.files.is_empty() && !two.files.is_empty() => {
+            let place = random.below(one.files.len());
+            one.files[place] = two.files[random.below(two.files.len())].clone();
+        }
+        2 => {
+            let rows: Vec<u64> = two.book.get(HEAD..).unwrap_or_default().to_vec();
+            let mut table = one.table();
+            table.resize(table.len().max(HEAD), 0);
+            table.extend(rows.chunks_exact(WIDTH).take(4).flatten());
+            put_table(&mut one, table);
+            make_sound(&mut one, random);
+        }
+        _ => {
+            let behind = one.files.len() as u8;
+            let shifted = |step: &Step| Step { file: step.file.saturating_add(behind), ..*step };
+            let keep = random.below(one.steps.len() + 1);
+            one.steps.truncate(keep);
+            one.steps.extend(two.steps.iter().map(shifted));
+            one.files.extend(two.files);
+        }
+    }
+    one
+}
