@@ -10,28 +10,30 @@
  * many zeros follow them in the book; 6 how many calls there are, 7 how many files. Numbers are eight bytes; everything has its low byte first. Behind
  * the book stand the calls, sixteen bytes each; behind them the lengths of the files but the last, two bytes each; then the files, the last of which has
  * all that is left.
- * A call: 0 which; 1 the file; 2 how the length of the row table is taken; 3 how the number is taken; 4-5 a length; 6-7 not looked at; 8-15 a number, the
- * file's or the entry's.
+ * A call: 0 which; 1 the file; 2 how the length of the row table is taken; 3 how the number is taken; 4-5 a length; 6 the owner; 7 not looked at; 8-15 a
+ * number, the file's or the entry's.
  *
- * Requests 8 to 10 join here: an owner is byte 6 of a call and one more member of `call`, withdrawing and tidying are two more kinds, the list of numbers
- * taken is one more thing that is lent, and what they ask of a book and of an entering has its functions under "What the header promises". */
+ * Request 10 joins here: withdrawing and tidying are two more kinds, the list of numbers taken is one more thing that is lent, and what it asks of a book
+ * and of an entering has its functions under "What the header promises". */
 #define FILE_MOST ((size_t)1 << 17)
 #define INPUT_MOST (CONTROL + FILE_MOST)
-#define FILES_MOST 8
+#define FILES_MOST 10
 #define CALLS_MOST 128
 #define CALL 16 /* bytes */
-#define BOOK_CAUSES 128
+#define OWNERS 2 /* their numbers are 1 and 2 */
+#define BOOK_CAUSES 128 /* of each owner */
 #define FULL_CAUSES 256
 #define CLAIMS 64
-#define COUNTERS                                                   \
-    uint8_t pairs[KINDS * ALL_NUMBERS * KINDS * ALL_NUMBERS];      \
-    uint8_t no_book[BOOK_CAUSES];                                  \
-    uint8_t full[FULL_CAUSES];                                     \
+#define COUNTERS                                                                \
+    uint8_t pairs[KINDS * ALL_NUMBERS * KINDS * ALL_NUMBERS * RELATIONS];       \
+    uint8_t no_book[OWNERS * BOOK_CAUSES];                                      \
+    uint8_t full[FULL_CAUSES];                                                  \
     uint8_t claims[CLAIMS];
 #define MUTATE peer_mutate_history
 #define CROSS peer_cross_histories
 
 enum { ENTER, FIND, SUM_UP, KINDS };
+enum { SAME_OWNER, OTHER_OWNER, NO_OWNER, RELATIONS }; /* of a call to the one before it */
 
 #include "common.h"
 
@@ -39,9 +41,9 @@ enum { ENTER, FIND, SUM_UP, KINDS };
 typedef struct paper paper;
 paper *peer_paper(const uint8_t *file, size_t len);
 void peer_drop_paper(paper *p);
-uint64_t peer_enter(const paper *p, uint64_t file_number, uint64_t *table, size_t table_len, uint64_t *book, size_t book_len, uint64_t *answer);
-uint64_t peer_find(const uint64_t *book, size_t book_len, uint64_t entry_number, uint64_t *found);
-uint64_t peer_totals(const uint64_t *book, size_t book_len, uint64_t *totals);
+uint64_t peer_enter(const paper *p, uint64_t file_number, uint64_t owner, uint64_t *table, size_t table_len, uint64_t *book, size_t book_len, uint64_t *answer);
+uint64_t peer_find(const uint64_t *book, size_t book_len, uint64_t owner, uint64_t entry_number, uint64_t *found);
+uint64_t peer_totals(const uint64_t *book, size_t book_len, uint64_t owner, uint64_t *totals);
 
 static uint64_t enterings, look_ups, sums, entered;
 
@@ -50,8 +52,9 @@ static uint64_t enterings, look_ups, sums, entered;
 #define HEAD 17
 #define WIDTH 9
 #define SIX 6
-enum { CLAIMED, LAST, TOTALS };                  /* in the head */
-enum { MARK, ENTRY_NUMBER, FILE_NUMBER, FIGURES }; /* in a row */
+#define CLAIMED 0                                 /* in the head; then each owner's part */
+enum { LAST, TOTALS, NOT_LOOKED_AT = TOTALS + SIX, PART }; /* in a part */
+enum { OWNER, ENTRY_NUMBER, FILE_NUMBER, FIGURES };  /* in a row */
 
 #define BOOK_MOST ((size_t)1 << 13)  /* numbers */
 #define TABLE_MOST ((size_t)1 << 14) /* numbers; a sound record is at least 77 bytes with its length */
@@ -61,34 +64,49 @@ enum { MARK, ENTRY_NUMBER, FILE_NUMBER, FIGURES }; /* in a row */
 static uint64_t book[BOOK_MOST];
 static size_t book_len;
 
+static int is_owner(uint64_t number) { return number == 1 || number == 2; }
+
 static uint64_t head_of(size_t place) { return place < book_len ? book[place] : 0; }
+/* Where a number of an owner's part stands in the head, and that number. */
+static size_t place_of(uint64_t owner, size_t place) { return CLAIMED + 1 + PART * (size_t)(owner - 1) + place; }
+static uint64_t part_of(uint64_t owner, size_t place) { return head_of(place_of(owner, place)); }
 static size_t rows_there(void) { return book_len < HEAD ? 0 : (book_len - HEAD) / WIDTH; }
 static const uint64_t *row_of(size_t row) { return book + HEAD + WIDTH * row; }
 
 /* Wide enough for any sum of numbers here. */
 typedef unsigned __int128 wide;
 
-static wide sum_of(size_t figure) {
+/* Of the claimed rows an owner's own alone count for it. */
+static wide sum_of(uint64_t owner, size_t figure) {
     wide sum = 0;
-    for (size_t row = 0; row < head_of(CLAIMED); row++) sum += row_of(row)[FIGURES + figure];
+    for (size_t row = 0; row < head_of(CLAIMED); row++)
+        if (row_of(row)[OWNER] == owner) sum += row_of(row)[FIGURES + figure];
     return sum;
 }
 
-/* The first claimed row that has a number at a place; NULL if there is none. */
-static const uint64_t *first_with(size_t place, uint64_t number) {
+static uint64_t entries_of(uint64_t owner) {
+    uint64_t entries = 0;
+    for (size_t row = 0; row < head_of(CLAIMED); row++) entries += row_of(row)[OWNER] == owner;
+    return entries;
+}
+
+/* The first claimed row of an owner that has a number at a place; NULL if there is none. */
+static const uint64_t *first_with(uint64_t owner, size_t place, uint64_t number) {
     for (size_t row = 0; row < head_of(CLAIMED); row++)
-        if (row_of(row)[place] == number) return row_of(row);
+        if (row_of(row)[OWNER] == owner && row_of(row)[place] == number) return row_of(row);
     return NULL;
 }
 
-/* Why the table is no book, a bit for each cause; 0 for a book. */
-static unsigned why_no_book(void) {
+/* Why the table is no book by an owner's part of it, a bit for each cause; 0 if it is one. */
+static unsigned why_no_book(uint64_t owner) {
     unsigned causes = 0;
     if (head_of(CLAIMED) > rows_there()) return 1;
     for (size_t figure = 0; figure < SIX; figure++)
-        if (sum_of(figure) != head_of(TOTALS + figure)) causes |= 2u << figure;
+        if (sum_of(owner, figure) != part_of(owner, TOTALS + figure)) causes |= 2u << figure;
     return causes;
 }
+
+static int is_book(void) { return !why_no_book(1) && !why_no_book(2); }
 
 /* ---- The files, and what the library's own reading says of them ---- */
 
@@ -145,6 +163,7 @@ typedef struct {
     unsigned kind;
     const file *of;  /* entering: the file */
     size_t room;     /* and the numbers of the row table */
+    uint64_t owner;  /* any number */
     uint64_t number; /* the file's, or the entry's */
 } call;
 
@@ -157,23 +176,24 @@ typedef struct {
     uint64_t after[BOOK_MOST];
 } outcome;
 
-/* Why a file does not fit behind what is there, a bit for each cause; 0 if it does. */
-static unsigned why_full(const file *f) {
+/* Why an owner's file does not fit behind what is there, a bit for each cause; 0 if it does. Rows are free for both owners alike. */
+static unsigned why_full(const file *f, uint64_t owner) {
     unsigned causes = f->letters > rows_there() - head_of(CLAIMED);
-    if ((wide)head_of(LAST) + f->letters > UINT64_MAX) causes |= 2;
+    if ((wide)part_of(owner, LAST) + f->letters > UINT64_MAX) causes |= 2;
     for (size_t figure = 0; figure < SIX; figure++)
-        if ((wide)head_of(TOTALS + figure) + sum_of_letters(f, figure) > UINT64_MAX) causes |= 4u << figure;
+        if ((wide)part_of(owner, TOTALS + figure) + sum_of_letters(f, figure) > UINT64_MAX) causes |= 4u << figure;
     return causes;
 }
 
-/* Each letter in a row of its own, numbered on, and the running totals updated where they stand. */
+/* Each letter in a row of its own, numbered on from the owner's last, and the owner's running totals updated where they stand. */
 static void set_down(const call *c, uint64_t after[BOOK_MOST]) {
+    uint64_t *part = after + place_of(c->owner, 0);
     for (size_t letter = 0; letter < c->of->letters; letter++) {
         uint64_t *row = after + HEAD + WIDTH * after[CLAIMED]++;
-        row[MARK] = 1, row[ENTRY_NUMBER] = ++after[LAST], row[FILE_NUMBER] = c->number;
+        row[OWNER] = c->owner, row[ENTRY_NUMBER] = ++part[LAST], row[FILE_NUMBER] = c->number;
         memcpy(row + FIGURES, c->of->figures[letter], SIX * 8);
     }
-    for (size_t figure = 0; figure < SIX; figure++) after[TOTALS + figure] += sum_of_letters(c->of, figure);
+    for (size_t figure = 0; figure < SIX; figure++) part[TOTALS + figure] += sum_of_letters(c->of, figure);
 }
 
 static void due_of_entering(const call *c, outcome *due) {
@@ -183,41 +203,42 @@ static void due_of_entering(const call *c, outcome *due) {
         memcpy(due->answer, read, ANSWER * 8);
     } else if (lacks_room) {
         due->answer[0] = ROOM, due->answer[1] = read[4];
-    } else if (first_with(FILE_NUMBER, c->number)) {
+    } else if (first_with(c->owner, FILE_NUMBER, c->number)) {
         due->answer[0] = DUPLICATE;
-    } else if (why_full(c->of)) {
+    } else if (why_full(c->of, c->owner)) {
         due->answer[0] = FULL;
-        COUNT(full, why_full(c->of));
+        COUNT(full, why_full(c->of, c->owner));
     } else {
         memcpy(due->answer, read, ANSWER * 8);
-        due->answer[ANSWER] = head_of(LAST) + 1;
+        due->answer[ANSWER] = part_of(c->owner, LAST) + 1;
         due->used = TABLE_ROW * (size_t)read[4];
         set_down(c, due->after);
     }
 }
 
-static void due_of_finding(uint64_t number, uint64_t answer[]) {
-    const uint64_t *row = first_with(ENTRY_NUMBER, number);
+static void due_of_finding(const call *c, uint64_t answer[]) {
+    const uint64_t *row = first_with(c->owner, ENTRY_NUMBER, c->number);
     answer[0] = row ? ACCEPTED : NOENTRY;
     if (row) memcpy(answer + 1, row + ENTRY_NUMBER, (WIDTH - 1) * 8);
 }
 
-static void due_of_totals(uint64_t answer[]) {
-    answer[0] = ACCEPTED, answer[1] = head_of(CLAIMED);
-    for (size_t figure = 0; figure < SIX; figure++) answer[2 + figure] = (uint64_t)sum_of(figure);
+static void due_of_totals(uint64_t owner, uint64_t answer[]) {
+    answer[0] = ACCEPTED, answer[1] = entries_of(owner);
+    for (size_t figure = 0; figure < SIX; figure++) answer[2 + figure] = (uint64_t)sum_of(owner, figure);
 }
 
 /* What a call is to answer and to leave. A refusal leaves everything as it was, and the book's own have 0 in all behind the number. */
 static void work_out(const call *c, outcome *due) {
-    unsigned causes = why_no_book();
     memset(due->answer, 0, sizeof due->answer);
     due->used = 0;
     memcpy(due->after, book, book_len * 8);
-    COUNT(no_book, causes);
-    if (causes) due->answer[0] = BOOK;
+    COUNT(no_book, why_no_book(1));
+    COUNT(no_book, BOOK_CAUSES + why_no_book(2));
+    if (!is_book()) due->answer[0] = BOOK;
+    else if (!is_owner(c->owner)) due->answer[0] = NOENTRY;
     else if (c->kind == ENTER) due_of_entering(c, due);
-    else if (c->kind == FIND) due_of_finding(c->number, due->answer);
-    else due_of_totals(due->answer);
+    else if (c->kind == FIND) due_of_finding(c, due->answer);
+    else due_of_totals(c->owner, due->answer);
 }
 
 /* ---- What is lent ---- */
@@ -279,7 +300,7 @@ static void enter_at(int place, const call *c, uint64_t pattern, const outcome *
     uint64_t *a = lend_answer(place, answer_len[ENTER], pattern);
     uint64_t *rows = lend_numbers(table_region, place, NULL, c->room, pattern);
     uint64_t *lent = lend_numbers(book_region, place, book, book_len, pattern);
-    uint64_t number = x9_book_enter(c->of->lent[place], c->of->len, c->number, rows, c->room, lent, book_len, a);
+    uint64_t number = x9_book_enter(c->of->lent[place], c->of->len, c->number, c->owner, rows, c->room, lent, book_len, a);
     enterings++;
     check_answer(c, number, a, due);
     check_rows(c, rows, due, pattern);
@@ -292,7 +313,7 @@ static void enter_at(int place, const call *c, uint64_t pattern, const outcome *
 /* One call that only reads the book, which stands at all places where it cannot be written. */
 static void ask_at(int place, const call *c, uint64_t pattern, const outcome *due) {
     uint64_t *a = lend_answer(place, answer_len[c->kind], pattern);
-    uint64_t number = c->kind == FIND ? x9_book_find(lent_book[place], book_len, c->number, a) : x9_book_totals(lent_book[place], book_len, a);
+    uint64_t number = c->kind == FIND ? x9_book_find(lent_book[place], book_len, c->owner, c->number, a) : x9_book_totals(lent_book[place], book_len, c->owner, a);
     ++*(c->kind == FIND ? &look_ups : &sums);
     check_answer(c, number, a, due);
     drop(place, a);
@@ -316,9 +337,9 @@ static void compare(const call *c, uint64_t pattern, const outcome *due) {
     uint64_t answer[13] = {0};
     memcpy(after, book, book_len * 8);
     for (size_t i = 0; i < c->room; i++) rows[i] = pattern;
-    if (c->kind == ENTER) peer_enter(c->of->peer, c->number, rows, c->room, after, book_len, answer);
-    else if (c->kind == FIND) peer_find(after, book_len, c->number, answer);
-    else peer_totals(after, book_len, answer);
+    if (c->kind == ENTER) peer_enter(c->of->peer, c->number, c->owner, rows, c->room, after, book_len, answer);
+    else if (c->kind == FIND) peer_find(after, book_len, c->owner, c->number, answer);
+    else peer_totals(after, book_len, c->owner, answer);
     int alike = !memcmp(answer, due->answer, sizeof answer) && !memcmp(after, due->after, book_len * 8) && !memcmp(rows, c->of->rows, due->used * 8);
     for (size_t i = due->used; i < c->room; i++) alike &= rows[i] == pattern;
     if (alike) return;
@@ -340,39 +361,51 @@ static void take_down(void) {
     }
 }
 
-/* The first of the list with the entry number of this one. */
-static const uint64_t *first_in_list(const uint64_t *entry) {
-    size_t i = 0;
-    while (list[i][ENTRY_NUMBER] != entry[ENTRY_NUMBER]) i++;
-    return list[i];
+/* The first of an owner's in the list with an entry number; NULL if there is none. */
+static const uint64_t *first_in_list(uint64_t owner, uint64_t entry_number) {
+    for (size_t i = 0; i < list_len; i++)
+        if (list[i][OWNER] == owner && list[i][ENTRY_NUMBER] == entry_number) return list[i];
+    return NULL;
 }
 
-static wide sum_of_list(size_t figure) {
+static wide sum_of_list(uint64_t owner, size_t figure) {
     wide sum = 0;
-    for (size_t i = 0; i < list_len; i++) sum += list[i][FIGURES + figure];
+    for (size_t i = 0; i < list_len; i++)
+        if (list[i][OWNER] == owner) sum += list[i][FIGURES + figure];
     return sum;
 }
 
-/* The history is over: entries, LOOKED_UP or somewhat fewer of more than that, are still found as entered. */
-#define LOOKED_UP 64
-static void find_again(void) {
-    uint64_t found[9];
-    for (size_t i = 0; i < list_len; i += 1 + list_len / LOOKED_UP) {
-        const uint64_t *first = first_in_list(list[i]);
-        uint64_t number = x9_book_find(book, book_len, first[ENTRY_NUMBER], found);
-        look_ups++;
-        MUST(number == ACCEPTED && found[0] == ACCEPTED, "entry %" PRIu64 " is no longer found: %" PRIu64, first[ENTRY_NUMBER], number);
-        MUST(!memcmp(found + 1, first + ENTRY_NUMBER, (WIDTH - 1) * 8), "entry %" PRIu64 " is no longer found as entered", first[ENTRY_NUMBER]);
-    }
+static size_t entries_in_list(uint64_t owner) {
+    size_t entries = 0;
+    for (size_t i = 0; i < list_len; i++) entries += list[i][OWNER] == owner;
+    return entries;
 }
 
-/* And the totals are the sums of the list. */
-static void sum_up_again(void) {
+/* An owner is given what the list has of it under a number, and nothing where it has none, the other owner's entry no more than any. */
+static void find_once_more(uint64_t owner, uint64_t entry_number) {
+    uint64_t found[9], number = x9_book_find(book, book_len, owner, entry_number, found);
+    const uint64_t *first = first_in_list(owner, entry_number);
+    uint64_t due = first ? ACCEPTED : NOENTRY;
+    look_ups++;
+    MUST(number == due && found[0] == due, "entry %" PRIu64 " of owner %" PRIu64 " gives %" PRIu64 " in the end", entry_number, owner, number);
+    MUST(!first || !memcmp(found + 1, first + ENTRY_NUMBER, (WIDTH - 1) * 8), "entry %" PRIu64 " of owner %" PRIu64 " is not found as entered", entry_number, owner);
+}
+
+/* The history is over: the numbers of entries, LOOKED_UP or somewhat fewer of more than that, are looked up for both owners. */
+#define LOOKED_UP 64
+static void find_again(void) {
+    for (size_t i = 0; i < list_len; i += 1 + list_len / LOOKED_UP)
+        for (uint64_t owner = 1; owner <= OWNERS; owner++) find_once_more(owner, list[i][ENTRY_NUMBER]);
+}
+
+/* And an owner's totals are the sums of what the list has of it. */
+static void sum_up_again(uint64_t owner) {
     uint64_t totals[8];
-    x9_book_totals(book, book_len, totals);
+    x9_book_totals(book, book_len, owner, totals);
     sums++;
-    MUST(totals[0] == ACCEPTED && totals[1] == list_len, "%" PRIu64 " entries of %zu, answer %" PRIu64, totals[1], list_len, totals[0]);
-    for (size_t figure = 0; figure < SIX; figure++) MUST(totals[2 + figure] == sum_of_list(figure), "total %zu is not the sum of the entries", figure);
+    MUST(totals[0] == ACCEPTED && totals[1] == entries_in_list(owner), "%" PRIu64 " entries of %zu, answer %" PRIu64, totals[1], entries_in_list(owner), totals[0]);
+    for (size_t figure = 0; figure < SIX; figure++)
+        MUST(totals[2 + figure] == sum_of_list(owner, figure), "total %zu is not the sum of the owner's entries", figure);
 }
 
 /* ---- One input ---- */
@@ -433,12 +466,20 @@ static size_t room_of(const uint8_t c[CALL], const file *f) {
     return least(lengths[c[2] % 4], TABLE_MOST);
 }
 
-/* A number: the bytes' own; that of a claimed row; a small one, or one near the last entry number; that of a row but for one high bit. */
-static uint64_t number_of(const uint8_t c[CALL], unsigned kind) {
+/* A number: the bytes' own; that of a claimed row, whosesoever; a small one, or one near the owner's last entry number; that of a row but for one high
+ * bit. */
+static uint64_t number_of(const uint8_t c[CALL], unsigned kind, uint64_t owner) {
     uint64_t own = eight(c + 8), rows = least((size_t)head_of(CLAIMED), rows_there());
     uint64_t of_row = rows ? row_of(own % rows)[kind == ENTER ? FILE_NUMBER : ENTRY_NUMBER] : own;
-    uint64_t numbers[] = {own, of_row, own % 8 + (kind == ENTER ? 0 : head_of(LAST) - 4), of_row ^ UINT64_C(1) << (32 + own % 32)};
+    uint64_t last = part_of(is_owner(owner) ? owner : 1, LAST);
+    uint64_t numbers[] = {own, of_row, own % 8 + (kind == ENTER ? 0 : last - 4), of_row ^ UINT64_C(1) << (32 + own % 32)};
     return numbers[c[3] % 4];
+}
+
+/* An owner by its byte: below 128 the number itself; above, 1 or 2 but for one high bit; at the top the largest number. */
+static uint64_t owner_of(uint8_t told) {
+    if (told < 128) return told;
+    return told == 255 ? UINT64_MAX : (1u + (told & 1)) | UINT64_C(1) << (32 + (told >> 1 & 31));
 }
 
 static call call_of(const uint8_t c[CALL]) {
@@ -446,11 +487,23 @@ static call call_of(const uint8_t c[CALL]) {
     unsigned kind = c[0] % KINDS;
     if (kind == ENTER && !file_count) kind = SUM_UP;
     const file *of = kind == ENTER ? &files[c[1] % file_count] : &no_file;
-    return (call){kind, of, kind == ENTER ? room_of(c, of) : 0, number_of(c, kind)};
+    uint64_t owner = owner_of(c[6]);
+    return (call){kind, of, kind == ENTER ? room_of(c, of) : 0, owner, number_of(c, kind, owner)};
 }
 
-/* A call is put to both sides; the book goes on as it was left. Gives what guidance tells calls apart by. */
-static size_t go_on(const call *c, uint64_t pattern, size_t before) {
+/* What guidance tells calls apart by: which call and which number, and whose it was beside the call before it. */
+typedef struct {
+    size_t told_apart;
+    uint64_t owner;
+} trace;
+
+static size_t relation_of(uint64_t owner, uint64_t before) {
+    if (!is_owner(owner)) return NO_OWNER;
+    return owner == before ? SAME_OWNER : OTHER_OWNER;
+}
+
+/* A call is put to both sides; the book goes on as it was left. */
+static trace go_on(const call *c, uint64_t pattern, trace before) {
     static outcome due;
     work_out(c, &due);
     put_twice(c, pattern, &due);
@@ -459,15 +512,16 @@ static size_t go_on(const call *c, uint64_t pattern, size_t before) {
     if (due.used) entered++;
     by_number[due.answer[0]]++;
     size_t told_apart = c->kind * ALL_NUMBERS + (size_t)due.answer[0];
-    COUNT(pairs, before * KINDS * ALL_NUMBERS + told_apart);
+    COUNT(pairs, (before.told_apart * KINDS * ALL_NUMBERS + told_apart) * RELATIONS + relation_of(c->owner, before.owner));
     if (due.answer[0] < NUMBERS) COUNT(answers, due.answer[0] * TYPES * FIELDS + (c->kind == ENTER ? due.answer[2] : 0) % FIELDS);
     COUNT(claims, least((size_t)head_of(CLAIMED), CLAIMS - 1));
-    return told_apart;
+    return (trace){told_apart, c->owner};
 }
 
 int LLVMFuzzerTestOneInput(const uint8_t *data, size_t size) {
     uint8_t c[CONTROL] = {0};
-    size_t held = least(size, CONTROL), before = 0;
+    size_t held = least(size, CONTROL);
+    trace before = {0, 1};
     if (size > INPUT_MOST) return -1;
     memcpy(c, data, held);
     bytes left = {data + held, size - held};
@@ -480,20 +534,20 @@ int LLVMFuzzerTestOneInput(const uint8_t *data, size_t size) {
     const uint8_t *of_calls = take(&left, calls * CALL);
     take_files(&left, c[7]);
 
-    int is_book = !why_no_book();
+    int began_as_book = is_book();
     list_len = 0;
-    if (is_book) take_down();
+    if (began_as_book) take_down();
     for (size_t i = 0; i < calls; i++) {
         call next = call_of(of_calls + i * CALL);
         before = go_on(&next, pattern + i, before);
-        if (is_book) take_down();
+        if (began_as_book) take_down();
     }
-    if (is_book) find_again(), sum_up_again();
+    if (began_as_book) find_again(), sum_up_again(1), sum_up_again(2);
     drop_files();
     return 0;
 }
 
 static void tell_counts(FILE *to) {
     fprintf(to, " enterings %" PRIu64 " entered %" PRIu64 " look_ups %" PRIu64 " sums %" PRIu64, enterings, entered, look_ups, sums);
-    fprintf(to, " no_book %zu full %zu pairs %zu", held_in(seen.no_book, BOOK_CAUSES), held_in(seen.full, FULL_CAUSES), held_in(seen.pairs, sizeof seen.pairs));
+    fprintf(to, " no_book %zu full %zu pairs %zu", held_in(seen.no_book, OWNERS * BOOK_CAUSES), held_in(seen.full, FULL_CAUSES), held_in(seen.pairs, sizeof seen.pairs));
 }

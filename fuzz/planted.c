@@ -13,10 +13,10 @@ uint64_t proved_x9_write(const uint8_t *text, size_t text_len, const uint64_t *d
                          uint64_t answer[12]);
 uint64_t proved_x9_draft(const uint8_t *file, size_t file_len, uint64_t *draft, size_t draft_len, uint64_t answer[12]);
 uint64_t proved_x9_tiff(const uint8_t *image, size_t image_len, uint64_t answer[2]);
-uint64_t proved_x9_book_enter(const uint8_t *file, size_t file_len, uint64_t file_number, uint64_t *table, size_t table_len, uint64_t *book,
-                              size_t book_len, uint64_t answer[13]);
-uint64_t proved_x9_book_find(const uint64_t *book, size_t book_len, uint64_t entry_number, uint64_t found[9]);
-uint64_t proved_x9_book_totals(const uint64_t *book, size_t book_len, uint64_t totals[8]);
+uint64_t proved_x9_book_enter(const uint8_t *file, size_t file_len, uint64_t file_number, uint64_t owner, uint64_t *table, size_t table_len,
+                              uint64_t *book, size_t book_len, uint64_t answer[13]);
+uint64_t proved_x9_book_find(const uint64_t *book, size_t book_len, uint64_t owner, uint64_t entry_number, uint64_t found[9]);
+uint64_t proved_x9_book_totals(const uint64_t *book, size_t book_len, uint64_t owner, uint64_t totals[8]);
 
 /* Bytes 5 and 6 say that the file is EBCDIC. */
 static inline int is_ebcdic(const uint8_t *file, size_t file_len) { return file_len >= 6 && file[4] == 0xF0 && file[5] == 0xF1; }
@@ -378,11 +378,17 @@ uint64_t x9_tiff(const uint8_t *image, size_t image_len, uint64_t answer[2]) {
 
 #define HEAD 17
 #define WIDTH 9
+#define TOTALS (6 * sizeof(uint64_t)) /* the running totals of an owner, in bytes */
 
 /* The rows of a sound book that are claimed. */
 static inline uint64_t *book_row(uint64_t *book, size_t row) { return book + HEAD + WIDTH * row; }
 static inline size_t claimed(const uint64_t *book, size_t book_len) { return book_len ? (size_t)book[0] : 0; }
 static inline size_t rows_there(size_t book_len) { return book_len < HEAD ? 0 : (book_len - HEAD) / WIDTH; }
+
+static inline int is_owner(uint64_t number) { return number == 1 || number == 2; }
+static inline uint64_t other_than(uint64_t owner) { return 3 - owner; }
+/* Where the last number given to an owner stands; its running totals stand behind it. */
+static inline size_t last_of(uint64_t owner) { return owner == 2 ? 9 : 1; }
 
 /* A file number that no row has. */
 static inline uint64_t unused(uint64_t *book, size_t book_len) {
@@ -397,6 +403,7 @@ typedef struct {
     const uint8_t *file;
     size_t file_len;
     uint64_t file_number;
+    uint64_t owner;
     uint64_t *table;
     size_t table_len;
     uint64_t *book;
@@ -405,7 +412,7 @@ typedef struct {
 } entering;
 
 static inline uint64_t enter_again(const entering *e, uint64_t file_number) {
-    return proved_x9_book_enter(e->file, e->file_len, file_number, e->table, e->table_len, e->book, e->book_len, e->answer);
+    return proved_x9_book_enter(e->file, e->file_len, file_number, e->owner, e->table, e->table_len, e->book, e->book_len, e->answer);
 }
 
 /* Enters under a number that is not taken, and writes this one into the rows; where they are too few, DUPLICATE stays. */
@@ -427,24 +434,30 @@ static inline uint64_t refuse_entering(const entering *e, const uint64_t *table,
 /* Enters a file that a running total has no room for, and lets the total wrap: the figures that are there stand aside for the while. */
 static inline uint64_t enter_wrapped(const entering *e, const uint64_t *book) {
     size_t rows = claimed(book, e->book_len);
-    for (size_t row = 0; row < rows; row++) memset(book_row(e->book, row) + 3, 0, 48);
-    if (rows) memset(e->book + 2, 0, 48);
+    for (size_t row = 0; row < rows; row++) memset(book_row(e->book, row) + 3, 0, TOTALS);
+    for (uint64_t owner = 1; rows && owner <= 2; owner++) memset(e->book + last_of(owner) + 1, 0, TOTALS);
     uint64_t number = enter_again(e, e->file_number);
-    for (size_t row = 0; row < rows; row++) memcpy(book_row(e->book, row) + 3, book + HEAD + WIDTH * row + 3, 48);
-    for (int i = 2; rows && i < 8; i++) e->book[i] += book[i];
+    for (size_t row = 0; row < rows; row++) memcpy(book_row(e->book, row) + 3, book + HEAD + WIDTH * row + 3, TOTALS);
+    for (size_t i = 0; rows && i < 12; i++) e->book[2 + i + i / 6 * 2] += book[2 + i + i / 6 * 2];
     return number;
+}
+
+/* The numbers of a file just entered go on from a number this much higher. */
+static inline void number_on(const entering *e, size_t before, uint64_t more) {
+    for (size_t row = before; row < claimed(e->book, e->book_len); row++) book_row(e->book, row)[1] += more;
+    e->book[last_of(e->owner)] += more, e->answer[12] += more;
 }
 
 /* What the planted fault makes of an answered entering; `table` and `book` are as they were before it. */
 static inline uint64_t spoil_entering(const entering *e, uint64_t number, const uint64_t *table, const uint64_t *book) {
-    size_t before = claimed(book, e->book_len), len = e->book_len;
-    (void)enter_in_spite, (void)refuse_entering, (void)enter_wrapped, (void)table, (void)before, (void)len;
+    size_t before = claimed(book, e->book_len), len = e->book_len, last = last_of(e->owner);
+    (void)enter_in_spite, (void)refuse_entering, (void)enter_wrapped, (void)number_on, (void)other_than, (void)table, (void)before, (void)len, (void)last;
 #if PLANT == 78 /* a duplicate is accepted */
     if (number == 12) number = enter_in_spite(e);
 #elif PLANT == 79 /* a later file alters an entry, and the total with it */
-    if (!number && before) book_row(e->book, 0)[7] ^= 1, e->book[6] += book_row(e->book, 0)[7] & 1 ? 1 : UINT64_MAX;
+    if (!number && before && book_row(e->book, 0)[0] == e->owner) book_row(e->book, 0)[7] ^= 1, e->book[last + 5] += book_row(e->book, 0)[7] & 1 ? 1 : UINT64_MAX;
 #elif PLANT == 80 /* the totals are not updated */
-    if (!number) memcpy(e->book + 2, book + 2, 48);
+    if (!number) memcpy(e->book + last + 1, book + last + 1, TOTALS);
 #elif PLANT == 81 /* the row table is filled on DUPLICATE */
     if (number == 12) {
         uint64_t answer[12];
@@ -459,7 +472,7 @@ static inline uint64_t spoil_entering(const entering *e, uint64_t number, const 
 #elif PLANT == 86 /* reads a number past the book */
     sink = (uint8_t)e->book[len];
 #elif PLANT == 87 /* a full book has its last number moved on */
-    if (number == 13 && len > 1) e->book[1]++;
+    if (number == 13 && len > last) e->book[last]++;
 #elif PLANT == 88 /* a file that takes the last free row is too much */
     if (!number && e->book[0] == rows_there(len)) number = refuse_entering(e, table, book, 13);
 #elif PLANT == 89 /* rows behind those claimed are looked at for duplicates */
@@ -467,9 +480,9 @@ static inline uint64_t spoil_entering(const entering *e, uint64_t number, const 
         if (book[HEAD + WIDTH * row + 2] == e->file_number) number = refuse_entering(e, table, book, 12);
 #elif PLANT == 90 /* file numbers are compared in 32 bits */
     for (size_t row = 0; !number && row < before; row++)
-        if ((uint32_t)book[HEAD + WIDTH * row + 2] == (uint32_t)e->file_number) number = refuse_entering(e, table, book, 12);
+        if (book[HEAD + WIDTH * row] == e->owner && (uint32_t)book[HEAD + WIDTH * row + 2] == (uint32_t)e->file_number) number = refuse_entering(e, table, book, 12);
 #elif PLANT == 91 /* entries are numbered by the rows claimed, not from the last number given */
-    if (!number && book[1] > before) e->book[1] = e->book[0], book_row(e->book, before)[1] = e->answer[12] = before + 1;
+    if (!number) number_on(e, before, before - book[last]);
 #elif PLANT == 92 /* a number of the head that is not looked at is written */
     if (!number) e->book[16] = 0;
 #elif PLANT == 93 /* FULL names a record */
@@ -480,13 +493,29 @@ static inline uint64_t spoil_entering(const entering *e, uint64_t number, const 
     if (number == 12 && before == rows_there(len)) number = e->answer[0] = 13;
 #elif PLANT == 96 /* another answer now and then */
     if (++calls % 5000 == 0) e->answer[12] ^= 1;
+#elif PLANT == 103 /* a duplicate is judged over both owners */
+    for (size_t row = 0; !number && row < before; row++)
+        if (book[HEAD + WIDTH * row] == other_than(e->owner) && book[HEAD + WIDTH * row + 2] == e->file_number) number = refuse_entering(e, table, book, 12);
+#elif PLANT == 104 /* entry numbers count for both owners */
+    if (!number) number_on(e, before, book[last_of(other_than(e->owner))]);
+#elif PLANT == 107 /* the reader's answer comes before NOENTRY */
+    if (number == 15) {
+        uint64_t answer[12], read = proved_x9_read(e->file, e->file_len, e->table, 0, answer);
+        if (read && read != 2) number = read, memcpy(e->answer, answer, sizeof answer);
+    }
+#elif PLANT == 108 /* owner 2's entries are set down as owner 1's */
+    if (!number && e->owner == 2) for (size_t row = before; row < e->book[0]; row++) book_row(e->book, row)[0] = 1;
+#elif PLANT == 109 /* each owner has half of the rows */
+    size_t own = 0;
+    for (size_t row = 0; !number && row < before; row++) own += book[HEAD + WIDTH * row] == e->owner;
+    if (!number && own + e->answer[5] > (rows_there(len) + 1) / 2) number = refuse_entering(e, table, book, 13);
 #endif
     return number;
 }
 
-uint64_t x9_book_enter(const uint8_t *file, size_t file_len, uint64_t file_number, uint64_t *table, size_t table_len, uint64_t *book, size_t book_len,
-                       uint64_t answer[13]) {
-    entering e = {file, file_len, file_number, table, table_len, book, book_len, answer};
+uint64_t x9_book_enter(const uint8_t *file, size_t file_len, uint64_t file_number, uint64_t owner, uint64_t *table, size_t table_len, uint64_t *book,
+                       size_t book_len, uint64_t answer[13]) {
+    entering e = {file, file_len, file_number, owner, table, table_len, book, book_len, answer};
     uint64_t *old_table = malloc(table_len * 8 + 8), *old_book = malloc(book_len * 8 + 8);
     memcpy(old_table, table, table_len * 8);
     memcpy(old_book, book, book_len * 8);
@@ -495,50 +524,81 @@ uint64_t x9_book_enter(const uint8_t *file, size_t file_len, uint64_t file_numbe
     return number;
 }
 
-/* A running total is the sum of its rows, if nothing but 64 bits of it is looked at. */
-static inline int sums_wrap(const uint64_t *book, size_t book_len, size_t figure) {
+/* A running total of an owner is the sum of its rows, if nothing but 64 bits of it is looked at. */
+static inline int sums_wrap(const uint64_t *book, size_t book_len, uint64_t owner, size_t figure) {
     uint64_t sum = 0;
-    for (size_t row = 0; row < claimed(book, book_len); row++) sum += book[HEAD + WIDTH * row + 3 + figure];
-    return sum == book[2 + figure];
+    for (size_t row = 0; row < claimed(book, book_len); row++)
+        if (book[HEAD + WIDTH * row] == owner) sum += book[HEAD + WIDTH * row + 3 + figure];
+    return sum == book[last_of(owner) + 1 + figure];
 }
 
-uint64_t x9_book_find(const uint64_t *book, size_t book_len, uint64_t entry_number, uint64_t found[9]) {
-    uint64_t number = proved_x9_book_find(book, book_len, entry_number, found);
-    size_t rows = number == 20 ? 0 : claimed(book, book_len);
+uint64_t x9_book_find(const uint64_t *book, size_t book_len, uint64_t owner, uint64_t entry_number, uint64_t found[9]) {
+    uint64_t number = proved_x9_book_find(book, book_len, owner, entry_number, found);
+    size_t rows = number == 20 || !is_owner(owner) ? 0 : claimed(book, book_len);
     (void)rows;
 #if PLANT == 82 /* the last row is found, not the first */
     for (size_t row = 0; row < rows; row++)
-        if (book[HEAD + WIDTH * row + 1] == entry_number) memcpy(found + 1, book + HEAD + WIDTH * row + 1, 64);
+        if (book[HEAD + WIDTH * row] == owner && book[HEAD + WIDTH * row + 1] == entry_number) memcpy(found + 1, book + HEAD + WIDTH * row + 1, 64);
 #elif PLANT == 97 /* entry numbers are compared in 32 bits */
     for (size_t row = 0; number == 15 && row < rows; row++)
-        if ((uint32_t)book[HEAD + WIDTH * row + 1] == (uint32_t)entry_number) {
+        if (book[HEAD + WIDTH * row] == owner && (uint32_t)book[HEAD + WIDTH * row + 1] == (uint32_t)entry_number) {
             number = found[0] = 0;
             memcpy(found + 1, book + HEAD + WIDTH * row + 1, 64);
         }
 #elif PLANT == 98 /* a row behind those claimed is found */
     const uint64_t *behind = book + HEAD + WIDTH * rows;
-    if (number == 15 && rows < rows_there(book_len) && behind[1] == entry_number) {
+    if (number == 15 && is_owner(owner) && rows < rows_there(book_len) && behind[1] == entry_number) {
         number = found[0] = 0;
         memcpy(found + 1, behind + 1, 64);
     }
 #elif PLANT == 99 /* the entry number asked for is given with NOENTRY */
     if (number == 15) found[1] = entry_number;
+#elif PLANT == 106 /* the other owner's entry is found */
+    if (number == 15 && is_owner(owner)) number = proved_x9_book_find(book, book_len, other_than(owner), entry_number, found);
+#elif PLANT == 110 /* of the owner 32 bits are looked at */
+    if (number == 15) number = proved_x9_book_find(book, book_len, (uint32_t)owner, entry_number, found);
+#elif PLANT == 111 /* a row of neither owner is found for owner 1 */
+    for (size_t row = 0; number == 15 && owner == 1 && row < rows; row++)
+        if (!is_owner(book[HEAD + WIDTH * row]) && book[HEAD + WIDTH * row + 1] == entry_number) {
+            number = found[0] = 0;
+            memcpy(found + 1, book + HEAD + WIDTH * row + 1, 64);
+        }
 #endif
     return number;
 }
 
-uint64_t x9_book_totals(const uint64_t *book, size_t book_len, uint64_t totals[8]) {
-    uint64_t number = proved_x9_book_totals(book, book_len, totals);
+/* The totals as if the other owner's were the sums of its rows: its rows are taken for no one's, its totals for 0. */
+static inline uint64_t totals_of_one(const uint64_t *book, size_t book_len, uint64_t owner, uint64_t totals[8]) {
+    uint64_t *copy = malloc(book_len * 8 + 8), other = other_than(owner);
+    memcpy(copy, book, book_len * 8);
+    if (book_len >= HEAD) memset(copy + last_of(other) + 1, 0, TOTALS);
+    for (size_t row = 0; row < rows_there(book_len); row++)
+        if (book_row(copy, row)[0] == other) book_row(copy, row)[0] = 0;
+    uint64_t number = proved_x9_book_totals(copy, book_len, owner, totals);
+    free(copy);
+    return number;
+}
+
+uint64_t x9_book_totals(const uint64_t *book, size_t book_len, uint64_t owner, uint64_t totals[8]) {
+    uint64_t number = proved_x9_book_totals(book, book_len, owner, totals);
     size_t right = 0;
 #if PLANT == 100 /* sums past 64 bits are taken for what these leave of them */
-    for (size_t figure = 0; number == 20 && book_len > HEAD && claimed(book, book_len) <= rows_there(book_len) && figure < 6; figure++)
-        right += (size_t)sums_wrap(book, book_len, figure);
-    if (right == 6) number = totals[0] = 0, totals[1] = book[0], memcpy(totals + 2, book + 2, 48);
+    for (size_t i = 0; number == 20 && is_owner(owner) && book_len > HEAD && claimed(book, book_len) <= rows_there(book_len) && i < 12; i++)
+        right += (size_t)sums_wrap(book, book_len, 1 + i / 6, i % 6);
+    if (right == 12) number = totals[0] = 0, totals[1] = book[0], memcpy(totals + 2, book + last_of(owner) + 1, TOTALS);
 #elif PLANT == 101 /* the last entry number is given, not how many entries there are */
-    if (!number && book_len > 1) totals[1] = book[1];
+    if (!number && book_len > last_of(owner)) totals[1] = book[last_of(owner)];
 #elif PLANT == 102 /* reads a number before the book */
     sink = (uint8_t)book[-1];
+#elif PLANT == 105 /* a total is that of both owners */
+    for (size_t i = 0; !number && book_len >= HEAD && i < 6; i++) totals[2 + i] += book[last_of(other_than(owner)) + 1 + i];
+#elif PLANT == 112 /* the rows claimed are given, not the owner's own */
+    if (!number && book_len) totals[1] = book[0];
+#elif PLANT == 113 /* the other owner's totals are not judged */
+    if (number == 20 && is_owner(owner)) number = totals_of_one(book, book_len, owner, totals);
+#elif PLANT == 114 /* NOENTRY comes before BOOK */
+    if (number == 20 && !is_owner(owner)) number = totals[0] = 15;
 #endif
-    (void)right, (void)sums_wrap;
+    (void)right, (void)sums_wrap, (void)totals_of_one;
     return number;
 }

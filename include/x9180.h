@@ -91,37 +91,42 @@ uint64_t x9_draft(const uint8_t *file, size_t file_len, uint64_t *draft, size_t 
  * offset, parts that overlap, a strip of 0 bytes, the two bytes behind a SHORT, and the compressed data. The variances of Table 3 are wrong values. */
 uint64_t x9_tiff(const uint8_t *image, size_t image_len, uint64_t answer[2]);
 
-/* The day book: a lent table of 64-bit numbers, which keeps the figures of cash letters as they were when their files were entered. A table of zeros is
- * an empty book. A head of 17 numbers:
- *   [0] the rows claimed   [1] the last entry number given
- *   [2] bundles   [3] debit items   [4] credit items   [5] views   [6] debit cents   [7] credit cents: the running totals, the sums of the rows claimed
- *   [8] to [16] are not looked at and left as they are
+/* The day book: a lent table of 64-bit numbers, which keeps the figures of cash letters as they were when their files were entered. Two owners, 1 and 2,
+ * share it: each has entries, entry numbers, file numbers and running totals of its own. A table of zeros is an empty book. A head of 17 numbers:
+ *   [0] the rows claimed, for both owners
+ *   of owner 1:   [1] the last entry number given
+ *                 [2] bundles   [3] debit items   [4] credit items   [5] views   [6] debit cents   [7] credit cents: the running totals, the sums of its rows
+ *                 [8] not looked at and left as it is
+ *   of owner 2:   [9] to [16] the same
  * and then rows of 9, one for each cash letter entered:
- *   [0] 1, and not looked at   [1] the entry number, from 1 on   [2] the file number that the caller gave
+ *   [0] the owner; a row with any other number than 1 or 2 here is no one's   [1] the entry number, from 1 on   [2] the file number that the caller gave
  *   [3] bundles   [4] debit items   [5] credit items   [6] views   [7] debit cents   [8] credit cents: the letter's own
  * `book_len` counts numbers. Numbers of the head that a short table lacks count as 0, and such a table has no rows; the rows there are the whole nines
  * behind the head. What stands behind the rows claimed, and behind the last whole row, is not looked at.
- * Every call first asks whether the table is a book: BOOK where it claims more rows than there are, or a running total is not the sum of its rows. So the
- * time of a call grows with the rows claimed. On the book's own refusals (BOOK, DUPLICATE, FULL, NOENTRY) all behind the number is 0.
+ * Every call first asks whether the table is a book: BOOK where it claims more rows than there are, or a running total of either owner is not the sum of
+ * its own rows. So the time of a call grows with the rows claimed. Then NOENTRY, where the owner is neither 1 nor 2. What an owner is answered depends on
+ * its own calls and on how many rows are free, and on nothing else that the other did. On the book's own refusals (BOOK, DUPLICATE, FULL, NOENTRY) all
+ * behind the number is 0. A table that was filled before there were owners (request 6) is a book in which all
+ * entries are owner 1's, as long as [8] to [16] are 0 in it.
  *
- * Entering a file: reads it as x9_read does, with its row table, and enters each of its cash letters in a row of its own, numbered on from the last number
- * given. Returns the number and fills `answer` as x9_read does, with
+ * Entering a file for an owner: reads it as x9_read does, with its row table, and enters each of its cash letters in a row of its own, numbered on from the
+ * last number given to the owner. Returns the number and fills `answer` as x9_read does, with
  *   [12] the first entry number given, 0 where nothing was entered
- * Refused, book and table untouched: BOOK; then x9_read's own answers, with record, field and offset; DUPLICATE, the file number stands in a row already;
- * FULL, more letters than free rows, or a running total or the last entry number would pass 64 bits. */
-uint64_t x9_book_enter(const uint8_t *file, size_t file_len, uint64_t file_number, uint64_t *table, size_t table_len, uint64_t *book, size_t book_len,
-                       uint64_t answer[13]);
+ * Refused, book and table untouched: BOOK; NOENTRY; then x9_read's own answers, with record, field and offset; DUPLICATE, the file number stands in a row of
+ * the owner already; FULL, more letters than free rows, or a running total or the last entry number of the owner would pass 64 bits. */
+uint64_t x9_book_enter(const uint8_t *file, size_t file_len, uint64_t file_number, uint64_t owner, uint64_t *table, size_t table_len, uint64_t *book,
+                       size_t book_len, uint64_t answer[13]);
 
-/* Looking up an entry: the first row that has the entry number. Returns the number and fills `found` with
+/* Looking up an entry: the first row of the owner that has the entry number. Returns the number and fills `found` with
  *   [0] the number   [1] the entry number   [2] the file number
  *   [3] bundles   [4] debit items   [5] credit items   [6] views   [7] debit cents   [8] credit cents
- * NOENTRY where no row has it. */
-uint64_t x9_book_find(const uint64_t *book, size_t book_len, uint64_t entry_number, uint64_t found[9]);
+ * NOENTRY where no row of the owner has it. */
+uint64_t x9_book_find(const uint64_t *book, size_t book_len, uint64_t owner, uint64_t entry_number, uint64_t found[9]);
 
-/* The running totals. Returns the number and fills `totals` with
- *   [0] the number   [1] the entries
+/* The running totals of an owner. Returns the number and fills `totals` with
+ *   [0] the number   [1] its entries
  *   [2] bundles   [3] debit items   [4] credit items   [5] views   [6] debit cents   [7] credit cents */
-uint64_t x9_book_totals(const uint64_t *book, size_t book_len, uint64_t totals[8]);
+uint64_t x9_book_totals(const uint64_t *book, size_t book_len, uint64_t owner, uint64_t totals[8]);
 
 #ifdef __cplusplus
 }

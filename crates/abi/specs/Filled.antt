@@ -11,15 +11,15 @@ use Rattle.tiff.specs.declared.Tags.{Tags}
 use Rattle.passes.specs.Answers.{numberOf, numbersOf}
 use Rattle.draft.specs.declared.Outcome.{Outcome}
 use Rattle.draft.specs.declared.Outcome.the-variants.{Written, Refused}
-use Rattle.book.specs.declared.Entering.{Entering}
-use Rattle.book.specs.declared.Finding.{Finding}
-use Rattle.book.specs.declared.Tally.{Tally}
+use Rattle.book_table.specs.declared.Entering.{Entering}
+use Rattle.book_table.specs.declared.Finding.{Finding}
+use Rattle.book_table.specs.declared.Tally.{Tally}
 use Rattle.judge.specs.Alone as alone
 use Rattle.passes.specs.declared.Answer.the-variants as answers
 use Rattle.picture.specs.Picture as picture
-use Rattle.book.specs.declared.Entering.the-variants as entering
-use Rattle.book.specs.declared.Finding.the-variants as finding
-use Rattle.book.specs.declared.Tally.the-variants as tally
+use Rattle.book_table.specs.declared.Entering.the-variants as entering
+use Rattle.book_table.specs.declared.Finding.the-variants as finding
+use Rattle.book_table.specs.declared.Tally.the-variants as tally
 use Rattle.figures.specs.Figures as figures
 use Rattle.tiff.specs.Judged as tiff
 

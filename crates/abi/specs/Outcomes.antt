@@ -89,34 +89,34 @@ pub one-drafting : (file draft : List ℕ) {n m : ℕ} {after later answer other
 one-drafting file draft r s = (one (r .number) (s .number), one (r .rows) (s .rows), one (r .answer) (s .answer))
 
 -- x9_book_enter: the number, the row table, the book, the thirteen numbers, and that the letters entered are those of the file's arrangement
-pub record Booking (file : List ℕ) (m : ℕ) (table book : List ℕ) (n : ℕ) (rows after numbers : List ℕ) : Type 0 where
-  pub number : n ≡ enteringNumber (enterAnswer file m (length table) book)
-  pub rows-after : rows ≡ rowsAfter file table (enterAnswer file m (length table) book)
-  pub book-after : after ≡ bookAfter file m book (enterAnswer file m (length table) book)
-  pub answer : numbers ≡ enteringNumbers (length file) (enterAnswer file m (length table) book)
+pub record Booking (file : List ℕ) (m o : ℕ) (table book : List ℕ) (n : ℕ) (rows after numbers : List ℕ) : Type 0 where
+  pub number : n ≡ enteringNumber (enterAnswer file m o (length table) book)
+  pub rows-after : rows ≡ rowsAfter file table (enterAnswer file m o (length table) book)
+  pub book-after : after ≡ bookAfter file m o book (enterAnswer file m o (length table) book)
+  pub answer : numbers ≡ enteringNumbers (length file) (enterAnswer file m o (length table) book)
   pub own : LettersOwn file
 
-pub one-booking : (file : List ℕ) (m : ℕ) (table book : List ℕ) {n k : ℕ} {rows others after later answer other : List ℕ}
-    → Booking file m table book n rows after answer → Booking file m table book k others later other
+pub one-booking : (file : List ℕ) (m o : ℕ) (table book : List ℕ) {n k : ℕ} {rows others after later answer other : List ℕ}
+    → Booking file m o table book n rows after answer → Booking file m o table book k others later other
     → (n ≡ k) × (rows ≡ others) × (after ≡ later) × (answer ≡ other)
-one-booking file m table book r s =
+one-booking file m o table book r s =
     (one (r .number) (s .number), one (r .rows-after) (s .rows-after), one (r .book-after) (s .book-after), one (r .answer) (s .answer))
 
 -- x9_book_find and x9_book_totals: the number and the numbers
-pub record LookingUp (book : List ℕ) (m n : ℕ) (numbers : List ℕ) : Type 0 where
-  pub number : n ≡ findingNumber (findAnswer book m)
-  pub found : numbers ≡ findingNumbers (findAnswer book m)
+pub record LookingUp (book : List ℕ) (o m n : ℕ) (numbers : List ℕ) : Type 0 where
+  pub number : n ≡ findingNumber (findAnswer book o m)
+  pub found : numbers ≡ findingNumbers (findAnswer book o m)
 
-pub one-looking-up : (book : List ℕ) (m : ℕ) {n k : ℕ} {found other : List ℕ} → LookingUp book m n found → LookingUp book m k other
+pub one-looking-up : (book : List ℕ) (o m : ℕ) {n k : ℕ} {found other : List ℕ} → LookingUp book o m n found → LookingUp book o m k other
     → (n ≡ k) × (found ≡ other)
-one-looking-up book m r s = (one (r .number) (s .number), one (r .found) (s .found))
+one-looking-up book o m r s = (one (r .number) (s .number), one (r .found) (s .found))
 
-pub record Tallying (book : List ℕ) (n : ℕ) (numbers : List ℕ) : Type 0 where
-  pub number : n ≡ tallyNumber (totalsAnswer book)
-  pub totals : numbers ≡ tallyNumbers (totalsAnswer book)
+pub record Tallying (book : List ℕ) (o n : ℕ) (numbers : List ℕ) : Type 0 where
+  pub number : n ≡ tallyNumber (totalsAnswer book o)
+  pub totals : numbers ≡ tallyNumbers (totalsAnswer book o)
 
-pub one-tallying : (book : List ℕ) {n k : ℕ} {totals other : List ℕ} → Tallying book n totals → Tallying book k other → (n ≡ k) × (totals ≡ other)
-one-tallying book r s = (one (r .number) (s .number), one (r .totals) (s .totals))
+pub one-tallying : (book : List ℕ) (o : ℕ) {n k : ℕ} {totals other : List ℕ} → Tallying book o n totals → Tallying book o k other → (n ≡ k) × (totals ≡ other)
+one-tallying book o r s = (one (r .number) (s .number), one (r .totals) (s .totals))
 
 -- the calls of the Rattle crates: writer::write and drafting::draft_of; reader::read, picture::picture, picture::find_picture and
 -- tiff::judge_tags

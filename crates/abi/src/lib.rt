@@ -1,7 +1,7 @@
 // The calls for C and Rust (include/x9180.h).
-use book::Entering;
-use book::Finding;
-use book::Tally;
+use book_table::Entering;
+use book_table::Finding;
+use book_table::Tally;
 use draft::Outcome;
 use passes::Answer;
 use passes::Fault;
@@ -12,7 +12,7 @@ ghost use Rattle.text.specs.declared.character_set.CharacterSet.the-variants.{A
 ghost use Prim.Native.Nat.{ℕ};
 ghost use Rattle.passes.specs.Answers.{numberOf, numbersOf};
 ghost use Rattle.passes.specs.declared.Answer.the-variants.{Accepted, Refused};
-ghost use Rattle.book.specs.declared.Entering.the-variants.{Entered, Refused as NotEntered};
+ghost use Rattle.book_table.specs.declared.Entering.the-variants.{Entered, Refused as NotEntered};
 ghost use Rattle.abi.specs.Filled.{setNumbered, enteringNumbers};
 ghost use Rattle.abi.specs.Outcomes.{Reading, Writing, Drafting, Picturing, Judging, Tagging, Booking, LookingUp, Tallying};
 
@@ -220,20 +220,21 @@ fn fill_not_entered(fault: Fault, place: u64, offset: usize, answer: &mut [u64; 
     number
 }
 
-// Entering a file into a day book: the number, in `table` its rows, in `book` its letters, and in `answer` the numbers of the reading and the first
+// An owner enters a file into a day book: the number, in `table` its rows, in `book` its letters, and in `answer` the numbers of the reading and the first
 // entry number given.
 #[no_mangle]
 pub extern "C" fn x9_book_enter(
     file: &[u8],
     number: u64,
+    owner: u64,
     table: &mut [u64],
     book: &mut [u64],
     answer: &mut [u64; 13],
 ) -> u64
-    ensures { λ r. ⌜ Booking (now (file .entry)) number (now (table .entry)) (now (book .entry)) r (now (table .exit)) (now (book .exit)) (now (answer .exit)) ⌝ }
+    ensures { λ r. ⌜ Booking (now (file .entry)) number owner (now (table .entry)) (now (book .entry)) r (now (table .exit)) (now (book .exit)) (now (answer .exit)) ⌝ }
 {
     let bytes = file.len() as u64;
-    match book::enter(file, number, table, book) {
+    match book::enter(file, number, owner, table, book) {
         Entering::Entered(first, totals) => {
             fill_entered(bytes, totals, first, answer);
             0
@@ -242,12 +243,12 @@ pub extern "C" fn x9_book_enter(
     }
 }
 
-// Looking up an entry of a day book: the number, and in `found` number, entry number, file number, and the letter's figures.
+// Looking up one of an owner's entries in a day book: the number, and in `found` number, entry number, file number, and the letter's figures.
 #[no_mangle]
-pub extern "C" fn x9_book_find(book: &[u64], number: u64, found: &mut [u64; 9]) -> u64
-    ensures { λ r. ⌜ LookingUp (now (book .entry)) number r (now (found .exit)) ⌝ }
+pub extern "C" fn x9_book_find(book: &[u64], owner: u64, number: u64, found: &mut [u64; 9]) -> u64
+    ensures { λ r. ⌜ LookingUp (now (book .entry)) owner number r (now (found .exit)) ⌝ }
 {
-    match book::find(book, number) {
+    match book::find(book, owner, number) {
         Finding::Found(e) => {
             let figures = e.figures;
             let sums = figures.sums;
@@ -272,12 +273,12 @@ pub extern "C" fn x9_book_find(book: &[u64], number: u64, found: &mut [u64; 9]) 
     }
 }
 
-// The running totals of a day book: the number, and in `totals` number, entries, and the six figures.
+// An owner's running totals in a day book: the number, and in `totals` number, entries, and the six figures.
 #[no_mangle]
-pub extern "C" fn x9_book_totals(book: &[u64], totals: &mut [u64; 8]) -> u64
-    ensures { λ r. ⌜ Tallying (now (book .entry)) r (now (totals .exit)) ⌝ }
+pub extern "C" fn x9_book_totals(book: &[u64], owner: u64, totals: &mut [u64; 8]) -> u64
+    ensures { λ r. ⌜ Tallying (now (book .entry)) owner r (now (totals .exit)) ⌝ }
 {
-    match book::totals(book) {
+    match book::totals(book, owner) {
         Tally::Totals(entries, figures) => {
             let sums = figures.sums;
             *totals = [

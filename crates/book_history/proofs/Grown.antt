@@ -1,86 +1,71 @@
--- A table that holds a plain list, and with more entries holds the longer one. Assumes nothing.
-use Prim.Native.Nat.{ℕ, zero, suc, _+_, _-_, _*_, _/_, _≤_, _<_}
-use native.Mathlib.Nat.{add-zero, add-assoc}
+-- A book, and what it is for a table to have grown by entries of one owner. Assumes nothing.
+use Prim.Native.Nat.{ℕ, _+_, _-_, _/_, _≤_}
+use native.Mathlib.Nat.{add-zero}
 use native.Mathlib.Omega.{arith}
-use mathlib.Core.Bool.{Bool, true, false, _&&_}
+use mathlib.Core.Bool.{Bool, true, false, cond}
 use mathlib.Core.Path.{_≡_, refl, sym, ap, _∙_}
-use mathlib.Core.List.{List, [], _∷_, _++_}
-use lib.Dec.{leb, eqb}
-use lib.ListN.{length, getD, set, length-append}
-use lib.Seq.{sets, length-sets, set-getD}
-use borrow.Author.Tests.{leb-true, le-leb, eqb-true, eq-eqb}
-use Rattle.measure.specs.Measures.{sums, noSums, together}
+use mathlib.Core.List.{List, [], _∷_, _++_, append-nil}
+use lib.Dec.{eqb}
+use lib.ListN.{length}
+use borrow.Author.Tests.{le-leb}
 use Rattle.figures.specs.declared.Figures.{Figures}
-use Rattle.figures.specs.Figures.{figures, noFigures, plus, same, numbersOf, figuresAt}
-use Rattle.book.specs.declared.Entry.{Entry}
-use Rattle.book.specs.PlainList.{PlainList, totalsOf}
-use Rattle.book.specs.Table.{rowsClaimed, lastNumber, runningTotals, rowsThere, rowsOf, entriesFrom, entriesOf, plainListOf, isBook, withEntries}
-use Rattle.book_history.proofs.Stores.{stored-before, stored-behind, stored-in, stored-apart}
-use Rattle.book_history.proofs.Rows.{entries-alike, entries-apart, entries-back, rows-length, figures-back}
+use Rattle.figures.specs.Figures.{plus}
+use Rattle.figures.proofs.Laws.{same-refl, plus-none, none-plus, plus-apart}
+use Rattle.book_table.specs.declared.Entry.{Entry}
+use Rattle.book_table.specs.PlainList.{Own, totalsOf, withNew}
+use Rattle.book_table.specs.Table.{isOwner, rowsClaimed, runningTotals, rowsThere, freeRows, entriesOf, ownOf, addsUp, isBook}
+use Rattle.book_table.proofs.Laws.{Sound, sound}
+use Rattle.book_history.proofs.Rows.{shareOf}
 
-pub both : (p q : Bool) → p && q ≡ true → (p ≡ true) × (q ≡ true)
-both true q e = (refl, e)
-both false q e = (e, cc)
-
--- figures are the same where the test says so
-figures-eq : (a b : Figures) → a .bundles ≡ b .bundles → a .sums .debits .0 ≡ b .sums .debits .0 → a .sums .debit .0 ≡ b .sums .debit .0
-    → a .sums .credits .0 ≡ b .sums .credits .0 → a .sums .credit .0 ≡ b .sums .credit .0 → a .sums .views .0 ≡ b .sums .views .0 → a ≡ b
-figures-eq a b p q r s t u = λ i. figures (p i) (sums (q i) (r i) (s i) (t i) (u i))
-
-pub same-eq : (a b : Figures) → same a b ≡ true → a ≡ b
-unfolding same
-same-eq a b e =
-    let u = both _ (eqb (a .sums .credit .0) (b .sums .credit .0)) e in
-    let v = both _ (eqb (a .sums .debit .0) (b .sums .debit .0)) (u .0) in
-    let w = both _ (eqb (a .sums .views .0) (b .sums .views .0)) (v .0) in
-    let x = both _ (eqb (a .sums .credits .0) (b .sums .credits .0)) (w .0) in
-    let y = both (eqb (a .bundles) (b .bundles)) (eqb (a .sums .debits .0) (b .sums .debits .0)) (x .0) in
-    figures-eq a b (eqb-true (a .bundles) (b .bundles) (y .0)) (eqb-true (a .sums .debits .0) (b .sums .debits .0) (y .1))
-    (eqb-true (a .sums .debit .0) (b .sums .debit .0) (v .1)) (eqb-true (a .sums .credits .0) (b .sums .credits .0) (x .1))
-    (eqb-true (a .sums .credit .0) (b .sums .credit .0) (u .1)) (eqb-true (a .sums .views .0) (b .sums .views .0) (w .1))
-
-pub same-refl : (a : Figures) → same a a ≡ true
-unfolding same
-same-refl a =
-    rw (
-      eq-eqb (a .bundles) (a .bundles) refl,
-      eq-eqb (a .sums .debits .0) (a .sums .debits .0) refl,
-      eq-eqb (a .sums .credits .0) (a .sums .credits .0) refl,
-      eq-eqb (a .sums .views .0) (a .sums .views .0) refl,
-      eq-eqb (a .sums .debit .0) (a .sums .debit .0) refl,
-      eq-eqb (a .sums .credit .0) (a .sums .credit .0) refl,
-    )
-
-none-left : (n : ℕ) → 0 + n ≡ n
-none-left n = omega arith
-
-pub plus-none : (a : Figures) → plus a noFigures ≡ a
-plus-none a = figures-eq (plus a noFigures) a (add-zero _) (add-zero _) (add-zero _) (add-zero _) (add-zero _) (add-zero _)
-
-none-plus : (a : Figures) → plus noFigures a ≡ a
-none-plus a = figures-eq (plus noFigures a) a (none-left _) (none-left _) (none-left _) (none-left _) (none-left _) (none-left _)
-
-plus-apart : (a b c : Figures) → plus (plus a b) c ≡ plus a (plus b c)
-plus-apart a b c =
-    figures-eq (plus (plus a b) c) (plus a (plus b c)) (add-assoc _ _ _) (add-assoc _ _ _) (add-assoc _ _ _) (add-assoc _ _ _) (add-assoc _ _ _) (add-assoc _ _ _)
-
-pub totals-apart : (es fs : List Entry) → totalsOf (es ++ fs) ≡ plus (totalsOf es) (totalsOf fs)
+totals-apart : (es fs : List Entry) → totalsOf (es ++ fs) ≡ plus (totalsOf es) (totalsOf fs)
 unfolding totalsOf
 totals-apart [] fs = sym (none-plus (totalsOf fs))
 totals-apart (e ∷ es) fs = ap (λ (f : Figures). plus (e .figures) f) (totals-apart es fs) ∙ sym (plus-apart (e .figures) (totalsOf es) (totalsOf fs))
 
--- a book: no more rows claimed than there are, and running totals that are the sums
-pub record IsBook (book : List ℕ) : Type 0 where
-  pub claim : rowsClaimed book ≤ rowsThere book
-  pub summed : runningTotals book ≡ totalsOf (entriesOf book)
+-- nothing new leaves an owner's list as it is
+pub none-new : (own : Own) → withNew own [] ≡ own
+none-new own = λ i. record { entries = append-nil (own .entries) i; last = add-zero (own .last) i }
 
-pub is-book : (book : List ℕ) → isBook book ≡ true → IsBook book
-unfolding isBook
-is-book book e =
-    let b = both (leb (rowsClaimed book) (rowsThere book)) (same (runningTotals book) (totalsOf (entriesOf book))) e in
-    record { claim = leb-true (rowsClaimed book) (rowsThere book) (b .0); summed = same-eq (runningTotals book) (totalsOf (entriesOf book)) (b .1) }
+-- the converse of what a book promises
+adds-up : (o : ℕ) (book : List ℕ) → runningTotals o book ≡ totalsOf (entriesOf o book) → addsUp o book ≡ true
+unfolding addsUp
+adds-up o book e = rw e (same-refl (totalsOf (entriesOf o book)))
 
-pub book-is : (book : List ℕ) → IsBook book → isBook book ≡ true
-unfolding isBook
-book-is book b =
-    rw (le-leb (rowsClaimed book) (rowsThere book) (b .claim), b .summed) (same-refl (totalsOf (entriesOf book)))
+pub sound-is : (book : List ℕ) → Sound book → isBook book ≡ true
+unfolding isBook isOwner
+sound-is book s =
+    rw (le-leb (rowsClaimed book) (rowsThere book) (s .claims), adds-up 1 book (s .sums 1 refl), adds-up 2 book (s .sums 2 refl))
+
+-- an owner's part of the table, longer by some entries
+pub record Longer (p : ℕ) (book after : List ℕ) (es : List Entry) : Type 0 where
+  pub own : ownOf p after ≡ withNew (ownOf p book) es
+  pub totals : runningTotals p after ≡ plus (runningTotals p book) (totalsOf es)
+
+-- the table, longer by some entries of one owner: each owner has its share of them
+pub record Grown (o : ℕ) (book after : List ℕ) (es : List Entry) : Type 0 where
+  pub long : length after ≡ length book
+  pub claimed : rowsClaimed after ≡ rowsClaimed book + length es
+  pub shares : (p : ℕ) → isOwner p ≡ true → Longer p book after (shareOf p o es)
+
+pub not-grown : (o : ℕ) (book : List ℕ) → Grown o book book []
+unfolding totalsOf
+not-grown o book = record { long = refl; claimed = sym (add-zero (rowsClaimed book)); shares = λ p who. by-owner p (eqb o p) }
+  where
+    by-owner : (p : ℕ) (t : Bool) → Longer p book book (cond t [] [])
+    by-owner p true = record { own = sym (none-new (ownOf p book)); totals = sym (plus-none (runningTotals p book)) }
+    by-owner p false = record { own = sym (none-new (ownOf p book)); totals = sym (plus-none (runningTotals p book)) }
+
+module _ (o : ℕ) (book after : List ℕ) (es : List Entry) (g : Grown o book after es) where
+  as-there : rowsThere after ≡ rowsThere book
+  as-there = ap (λ (n : ℕ). (n - 17) / 9) (g .long)
+
+  pub fewer-free : freeRows after ≡ freeRows book - length es
+  fewer-free = omega (arith, as-there, g .claimed)
+
+  pub still-book : isBook book ≡ true → rowsClaimed book + length es ≤ rowsThere book → isBook after ≡ true
+  still-book good room = sound-is after (record { claims = omega (arith, as-there, g .claimed); sums = summed })
+    where
+      summed : (p : ℕ) → isOwner p ≡ true → runningTotals p after ≡ totalsOf (entriesOf p after)
+      summed p who =
+          g .shares p who .totals ∙ ap (λ (f : Figures). plus f (totalsOf (shareOf p o es))) (sound book good .sums p who)
+          ∙ sym (totals-apart (entriesOf p book) (shareOf p o es)) ∙ ap (λ (own : Own). totalsOf (own .entries)) (sym (g .shares p who .own))

@@ -2,4 +2,8 @@ pub mod Stores
 pub mod Rows
 pub mod Grown
 pub mod MoreEntries
+pub mod EachCall
+pub mod Empty
+pub mod Lasting
 pub mod Theorem
+pub mod Separate

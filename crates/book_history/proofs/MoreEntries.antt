@@ -1,118 +1,157 @@
--- A table with more entries: what it claims, its last number, its running totals and its entries. Assumes nothing.
-use Prim.Native.Nat.{ℕ, zero, suc, _+_, _-_, _*_, _/_, _≤_, _<_}
+-- A table with more entries of an owner has grown by them, and the other owner's block of the head and entries are as they were. Assumes nothing.
+use Prim.Native.Nat.{ℕ, _+_, _*_, _≤_}
 use native.Mathlib.Nat.{add-zero}
+use native.Mathlib.Numerals.{towards-suc}
 use native.Mathlib.Omega.{arith}
-use mathlib.Core.Path.{_≡_, refl, sym, ap, _∙_}
-use mathlib.Core.List.{List, [], _∷_, _++_, append-nil}
-use lib.ListN.{length, getD}
-use lib.Seq.{sets, length-sets, set-getD}
-use Rattle.figures.specs.declared.Figures.{Figures}
+use mathlib.Core.Bool.{Bool, true, false, cond}
+use mathlib.Core.Path.{_≡_, refl, sym, ap, _∙_, subst}
+use mathlib.Core.List.{List, [], _∷_, _++_}
+use lib.Dec.{eqb}
+use lib.ListN.{length, getD, set, length-set}
+use lib.Seq.{sets, length-sets, set-getD, getD-set-same, getD-set-other}
+use borrow.Author.Tests.{eqb-true}
 use Rattle.figures.specs.Figures.{plus, numbersOf, figuresAt}
-use Rattle.book.specs.declared.Entry.{Entry}
-use Rattle.book.specs.PlainList.{totalsOf}
-use Rattle.book.specs.Table.{rowsClaimed, lastNumber, runningTotals, rowsThere, rowsOf, entriesFrom, entriesOf, withEntries}
-use Rattle.book_history.proofs.Stores.{stored-before, stored-behind, stored-in, stored-apart}
-use Rattle.book_history.proofs.Rows.{entries-alike, entries-apart, entries-back, rows-length, figures-back}
-use Rattle.book_history.proofs.Grown.{IsBook, plus-none, totals-apart}
-
-pub record Longer (book after : List ℕ) (es : List Entry) : Type 0 where
-  pub long : length after ≡ length book
-  pub claimed : rowsClaimed after ≡ rowsClaimed book + length es
-  pub last : lastNumber after ≡ lastNumber book + length es
-  pub totals : runningTotals after ≡ plus (runningTotals book) (totalsOf es)
-  pub entries : entriesOf after ≡ entriesOf book ++ es
+use Rattle.figures.proofs.Laws.{plus-none}
+use Rattle.book_table.specs.declared.Entry.{Entry}
+use Rattle.book_table.specs.PlainList.{totalsOf}
+use Rattle.book_table.specs.Table.{isOwner, blockOf, rowsClaimed, lastNumber, runningTotals, rowsThere, rowsOf, entriesFrom, entriesOf, withEntries}
+use Rattle.book_table.proofs.Laws.{block-within, of-either}
+use Rattle.book_history.proofs.Stores.{stored-before, stored-behind, stored-first, stored-apart}
+use Rattle.book_history.proofs.Rows.{Alike, figures-alike, entries-alike, entries-apart, entries-back, figures-back, shareOf}
+use Rattle.book_history.proofs.Grown.{Grown, not-grown}
 
 -- nothing more: the head is written as it stands, however short the table
-head-kept : (book : List ℕ) → sets book 0 (rowsClaimed book ∷ lastNumber book ∷ numbersOf (runningTotals book)) ≡ book
+block-kept : (book : List ℕ) (at : ℕ) → sets book at (getD book at 0 ∷ numbersOf (figuresAt book (at + 1))) ≡ book
 unfolding figuresAt
-head-kept book =
-    rw (set-getD book 0 0, set-getD book 1 0, set-getD book 2 0, set-getD book 3 0, set-getD book 4 0, set-getD book 5 0, set-getD book 6 0, set-getD book 7 0)
+block-kept book at = simp (towards-suc, set-getD)
 
-nothing-more : (book : List ℕ) → withEntries book [] ≡ book
+pub nothing-more : (o : ℕ) (book : List ℕ) → withEntries o book [] ≡ book
 unfolding withEntries rowsOf totalsOf
-nothing-more book =
-    (λ i. sets book 0 (add-zero (rowsClaimed book) i ∷ add-zero (lastNumber book) i ∷ numbersOf (plus-none (runningTotals book) i)))
-    ∙ head-kept book
+nothing-more o book =
+    (λ i. sets (set book 0 (add-zero (rowsClaimed book) i)) (blockOf o) (add-zero (lastNumber o book) i ∷ numbersOf (plus-none (runningTotals o book) i)))
+    ∙ ap (λ (l : List ℕ). sets l (blockOf o) (lastNumber o book ∷ numbersOf (runningTotals o book))) (set-getD book 0 0)
+    ∙ block-kept book (blockOf o)
 
-same-longer : (book : List ℕ) → Longer book book []
-unfolding totalsOf
-same-longer book =
-    record {
-      long = refl;
-      claimed = sym (add-zero (rowsClaimed book));
-      last = sym (add-zero (lastNumber book));
-      totals = sym (plus-none (runningTotals book));
-      entries = sym (append-nil (entriesOf book));
-    }
+-- seven numbers written into an owner's block are not in the other's
+module _ (vs l : List ℕ) (seven : length vs ≡ 7) where
+  abbrev Apart : ℕ → ℕ → Type 0
+  Apart o p = eqb o p ≡ false → Alike (sets l (blockOf o) vs) l (blockOf p) (blockOf p + 7)
 
-module _ (book : List ℕ) (es : List Entry) (room : rowsClaimed book + length es ≤ rowsThere book) (some : 1 ≤ length es) where
-  rows-end : 17 + 9 * rowsClaimed book + 9 * length es ≤ length book
-  rows-end = omega arith
+  blocks-apart : (o p : ℕ) → isOwner o ≡ true → isOwner p ≡ true → Apart o p
+  unfolding blockOf
+  blocks-apart o p q r =
+      of-either (λ (a : ℕ). Apart a p) (of-either (Apart 1) never (λ e k a b. stored-behind vs l 1 k (omega arith)) p r)
+      (of-either (Apart 2) (λ e k a b. stored-before vs l 9 k (omega arith)) never p r) o q
+    where
+      never : {A : Type 0} → _≡_ {A = Bool} true false → A
+      never e = absurd (let z : _≡_ {A = ℕ} 0 1 = cc in omega arith)
 
-  head : List ℕ
-  head = (rowsClaimed book + length es) ∷ (lastNumber book + length es) ∷ numbersOf (plus (runningTotals book) (totalsOf es))
-
+module _ (o : ℕ) (book : List ℕ) (es : List Entry) where
   written : List ℕ
-  written = sets book (17 + 9 * rowsClaimed book) (rowsOf es)
+  written = sets book (17 + 9 * rowsClaimed book) (rowsOf o es)
+
+  counted : List ℕ
+  counted = set written 0 (rowsClaimed book + length es)
+
+  block : List ℕ
+  block = (lastNumber o book + length es) ∷ numbersOf (plus (runningTotals o book) (totalsOf es))
 
   after : List ℕ
-  after = sets written 0 head
+  after = sets counted (blockOf o) block
 
-  written-long : length written ≡ length book
-  unfolding written
-  written-long = length-sets book (17 + 9 * rowsClaimed book) (rowsOf es)
+  counted-long : length counted ≡ length book
+  unfolding counted written
+  counted-long = length-set written 0 (rowsClaimed book + length es) ∙ length-sets book (17 + 9 * rowsClaimed book) (rowsOf o es)
 
-  head-fits : 0 + 8 ≤ length written
-  head-fits = omega (arith, written-long, rows-end)
+  after-long : length after ≡ length book
+  unfolding after
+  after-long = length-sets counted (blockOf o) block ∙ counted-long
 
-  after-claimed : rowsClaimed after ≡ rowsClaimed book + length es
-  unfolding after head
-  after-claimed = stored-in (head) written 0 0 head-fits (omega arith)
+  -- the head apart from the count and the block, and what is behind the head
+  head-kept : Alike counted book 1 17
+  unfolding counted written
+  head-kept k a b =
+      getD-set-other written 0 k (rowsClaimed book + length es) 0 (λ e. omega arith)
+      ∙ stored-before (rowsOf o es) book (17 + 9 * rowsClaimed book) k (omega arith)
 
-  after-last : lastNumber after ≡ lastNumber book + length es
-  unfolding after head
-  after-last = stored-in (head) written 0 1 head-fits (omega arith)
-
-  after-totals : runningTotals after ≡ plus (runningTotals book) (totalsOf es)
-  unfolding after head
-  after-totals =
-      ap (λ (t : List ℕ). figuresAt t 2)
-      (stored-apart ((rowsClaimed book + length es) ∷ (lastNumber book + length es) ∷ []) (numbersOf (plus (runningTotals book) (totalsOf es))) written 0)
-      ∙ figures-back (sets written 0 ((rowsClaimed book + length es) ∷ (lastNumber book + length es) ∷ [])) 2 (plus (runningTotals book) (totalsOf es))
-      (omega (arith, length-sets written 0 ((rowsClaimed book + length es) ∷ (lastNumber book + length es) ∷ []), head-fits))
-
-  -- behind the head nothing but the new rows is written
   behind-head : (k : ℕ) → 17 ≤ k → getD after k 0 ≡ getD written k 0
-  unfolding after head
-  behind-head k h = stored-behind (head) written 0 k (omega arith)
+  unfolding after block counted
+  behind-head k h =
+      stored-behind block counted (blockOf o) k (omega (arith, block-within o))
+      ∙ getD-set-other written 0 k (rowsClaimed book + length es) 0 (λ e. omega arith)
 
-  after-entries : entriesOf after ≡ entriesOf book ++ es
-  unfolding entriesOf written
-  after-entries =
-      ap (λ (n : ℕ). entriesFrom after n 17) after-claimed ∙ entries-apart after (rowsClaimed book) (length es) 17
-      ∙ (λ i. old i ++ new i)
-    where
-      old : entriesFrom after (rowsClaimed book) 17 ≡ entriesFrom book (rowsClaimed book) 17
-      old =
-          entries-alike after book (rowsClaimed book) 17
-          (λ k a b. behind-head k a ∙ stored-before (rowsOf es) book (17 + 9 * rowsClaimed book) k b)
+  module _ (who : isOwner o ≡ true) (room : rowsClaimed book + length es ≤ rowsThere book) (some : 1 ≤ length es) where
+    rows-end : 17 + 9 * rowsClaimed book + 9 * length es ≤ length book
+    rows-end = omega arith
 
-      new : entriesFrom after (length es) (17 + 9 * rowsClaimed book) ≡ es
-      new =
-          entries-alike after written (length es) (17 + 9 * rowsClaimed book) (λ k a b. behind-head k (omega arith))
-          ∙ entries-back es book (17 + 9 * rowsClaimed book) rows-end
+    after-claimed : rowsClaimed after ≡ rowsClaimed book + length es
+    unfolding after counted written
+    after-claimed =
+        stored-before block counted (blockOf o) 0 (block-within o .0)
+        ∙ getD-set-same written 0 (rowsClaimed book + length es) 0 (omega (arith, rows-end, length-sets book (17 + 9 * rowsClaimed book) (rowsOf o es)))
 
-  some-longer : Longer book (withEntries book es) es
-  unfolding withEntries after written head
-  some-longer =
-      record {
-        long = length-sets written 0 head ∙ written-long;
-        claimed = after-claimed;
-        last = after-last;
-        totals = after-totals;
-        entries = after-entries;
-      }
+    -- the owner's own block, and the other's
+    block-fits : blockOf o + 7 ≤ length counted
+    block-fits = omega (arith, block-within o, rows-end, counted-long)
 
-pub longer : (book : List ℕ) (es : List Entry) → rowsClaimed book + length es ≤ rowsThere book → Longer book (withEntries book es) es
-longer book [] h = rw (nothing-more book) (same-longer book)
-longer book (e ∷ es) h = some-longer book (e ∷ es) h (omega arith)
+    own-last : lastNumber o after ≡ lastNumber o book + length es
+    unfolding after block
+    own-last = stored-first (lastNumber o book + length es) (numbersOf (plus (runningTotals o book) (totalsOf es))) counted (blockOf o) block-fits
+
+    own-totals : runningTotals o after ≡ plus (runningTotals o book) (totalsOf es)
+    unfolding after block
+    own-totals =
+        ap (λ (t : List ℕ). figuresAt t (blockOf o + 1))
+        (stored-apart ((lastNumber o book + length es) ∷ []) (numbersOf (plus (runningTotals o book) (totalsOf es))) counted (blockOf o))
+        ∙ figures-back (sets counted (blockOf o) ((lastNumber o book + length es) ∷ [])) (blockOf o + 1) (plus (runningTotals o book) (totalsOf es))
+        (omega (arith, length-sets counted (blockOf o) ((lastNumber o book + length es) ∷ []), block-fits))
+
+    other-block : (p : ℕ) → isOwner p ≡ true → eqb o p ≡ false → Alike after book (blockOf p) (blockOf p + 7)
+    unfolding after block
+    other-block p other e k a b =
+        blocks-apart block counted refl o p who other e k a b ∙ head-kept k (omega (arith, block-within p)) (omega (arith, block-within p))
+
+    last-of : (p : ℕ) → isOwner p ≡ true → (t : Bool) → eqb o p ≡ t → lastNumber p after ≡ lastNumber p book + length (cond t es [])
+    last-of p other true e = subst (λ (q : ℕ). lastNumber q after ≡ lastNumber q book + length es) (eqb-true o p e) own-last
+    last-of p other false e = other-block p other e (blockOf p) (omega arith) (omega arith) ∙ sym (add-zero (lastNumber p book))
+
+    totals-of : (p : ℕ) → isOwner p ≡ true → (t : Bool) → eqb o p ≡ t
+        → runningTotals p after ≡ plus (runningTotals p book) (totalsOf (cond t es []))
+    unfolding totalsOf
+    totals-of p other true e =
+        subst (λ (q : ℕ). runningTotals q after ≡ plus (runningTotals q book) (totalsOf es)) (eqb-true o p e) own-totals
+    totals-of p other false e =
+        figures-alike after book (blockOf p + 1) (λ k a b. other-block p other e k (omega arith) (omega arith))
+        ∙ sym (plus-none (runningTotals p book))
+
+    entries-of : (p : ℕ) → entriesOf p after ≡ entriesOf p book ++ shareOf p o es
+    unfolding entriesOf written
+    entries-of p =
+        ap (λ (n : ℕ). entriesFrom p after n 17) after-claimed ∙ entries-apart p after (rowsClaimed book) (length es) 17 ∙ (λ i. old i ++ new i)
+      where
+        old : entriesFrom p after (rowsClaimed book) 17 ≡ entriesFrom p book (rowsClaimed book) 17
+        old =
+            entries-alike p after book (rowsClaimed book) 17
+            (λ k a b. behind-head k a ∙ stored-before (rowsOf o es) book (17 + 9 * rowsClaimed book) k b)
+
+        new : entriesFrom p after (length es) (17 + 9 * rowsClaimed book) ≡ shareOf p o es
+        new =
+            entries-alike p after written (length es) (17 + 9 * rowsClaimed book) (λ k a b. behind-head k (omega arith))
+            ∙ entries-back p o es book (17 + 9 * rowsClaimed book) rows-end
+
+    some-more : Grown o book (withEntries o book es) es
+    unfolding withEntries after block counted written
+    some-more =
+        record {
+          long = after-long;
+          claimed = after-claimed;
+          shares = λ p other. record {
+            own = λ i. record { entries = entries-of p i; last = last-of p other (eqb o p) refl i };
+            totals = totals-of p other (eqb o p) refl;
+          };
+        }
+
+pub grown : (o : ℕ) (book : List ℕ) (es : List Entry) → isOwner o ≡ true → rowsClaimed book + length es ≤ rowsThere book
+    → Grown o book (withEntries o book es) es
+grown o book [] who h = rw (nothing-more o book) (not-grown o book)
+grown o book (e ∷ es) who h = some-more o book (e ∷ es) who h (omega arith)

@@ -4,7 +4,7 @@ use native.Mathlib.Omega.{arith}
 use mathlib.Core.Path.{_≡_, refl, sym, ap, _∙_}
 use mathlib.Core.List.{List, [], _∷_, _++_}
 use lib.ListN.{length, getD, set, length-set}
-use lib.Seq.{sets, getD-set-same, getD-set-other, length-sets}
+use lib.Seq.{sets, getD-set-same, getD-set-other}
 
 none-more : (n : ℕ) → n + 0 ≡ n
 none-more n = omega arith
@@ -22,11 +22,12 @@ stored-behind [] l i k h = refl
 stored-behind (v ∷ vs) l i k h = stored-behind vs (set l i v) (suc i) k (omega arith) ∙ getD-set-other l i k v 0 (λ e. omega arith)
 
 -- within it
+pub stored-first : (v : ℕ) (vs l : List ℕ) (i : ℕ) → i + length (v ∷ vs) ≤ length l → getD (sets l i (v ∷ vs)) i 0 ≡ v
+stored-first v vs l i h = stored-before vs (set l i v) (suc i) i (omega arith) ∙ getD-set-same l i v 0 (omega arith)
+
 pub stored-in : (vs l : List ℕ) (i j : ℕ) → i + length vs ≤ length l → j < length vs → getD (sets l i vs) (i + j) 0 ≡ getD vs j 0
 stored-in [] l i j h b = absurd (omega arith)
-stored-in (v ∷ vs) l i zero h b =
-    ap (λ (k : ℕ). getD (sets (set l i v) (suc i) vs) k 0) (none-more i) ∙ stored-before vs (set l i v) (suc i) i (omega arith)
-    ∙ getD-set-same l i v 0 (omega arith)
+stored-in (v ∷ vs) l i zero h b = ap (λ (k : ℕ). getD (sets (set l i v) (suc i) vs) k 0) (none-more i) ∙ stored-first v vs l i h
 stored-in (v ∷ vs) l i (suc j) h b =
     ap (λ (k : ℕ). getD (sets (set l i v) (suc i) vs) k 0) (one-further i j)
     ∙ stored-in vs (set l i v) (suc i) j (omega (arith, length-set l i v)) (omega arith)

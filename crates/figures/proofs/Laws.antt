@@ -1,5 +1,6 @@
 -- What the tests on figures say of each of the six. Assumes nothing.
 use Prim.Native.Nat.{ℕ, _+_, _-_, _≤_}
+use native.Mathlib.Nat.{add-zero, add-assoc}
 use native.Mathlib.Omega.{arith}
 use mathlib.Core.Bool.{Bool, true, false, _&&_}
 use mathlib.Core.Path.{_≡_, refl}
@@ -7,7 +8,7 @@ use lib.Dec.{leb, eqb}
 use borrow.Author.Tests.{leb-true, leb-false, le-leb, lt-leb, eqb-true, eq-eqb, ne-eqb, eqb-false}
 use Rattle.measure.specs.Measures.{sums}
 use Rattle.figures.specs.declared.Figures.{Figures}
-use Rattle.figures.specs.Figures.{figures, plus, minus, same, covers, most, fits}
+use Rattle.figures.specs.Figures.{figures, noFigures, plus, minus, same, covers, most, fits}
 
 pub both : (p q : Bool) → p && q ≡ true → (p ≡ true) × (q ≡ true)
 both true q e = (refl, e)
@@ -58,6 +59,36 @@ same-true a b e =
     let debit = eqb-true (a .sums .debit .0) (b .sums .debit .0) (v .1) in
     let credit = eqb-true (a .sums .credit .0) (b .sums .credit .0) (u .1) in
     λ i. figures (bundles i) (sums (debits i) (debit i) (credits i) (credit i) (views i))
+
+pub same-refl : (a : Figures) → same a a ≡ true
+unfolding same
+same-refl a =
+    rw (
+      eq-eqb (a .bundles) (a .bundles) refl,
+      eq-eqb (a .sums .debits .0) (a .sums .debits .0) refl,
+      eq-eqb (a .sums .credits .0) (a .sums .credits .0) refl,
+      eq-eqb (a .sums .views .0) (a .sums .views .0) refl,
+      eq-eqb (a .sums .debit .0) (a .sums .debit .0) refl,
+      eq-eqb (a .sums .credit .0) (a .sums .credit .0) refl,
+    )
+
+-- nothing added, on either side, and in which order three are added
+figures-eq : (a b : Figures) → a .bundles ≡ b .bundles → a .sums .debits .0 ≡ b .sums .debits .0 → a .sums .debit .0 ≡ b .sums .debit .0
+    → a .sums .credits .0 ≡ b .sums .credits .0 → a .sums .credit .0 ≡ b .sums .credit .0 → a .sums .views .0 ≡ b .sums .views .0 → a ≡ b
+figures-eq a b p q r s t u = λ i. figures (p i) (sums (q i) (r i) (s i) (t i) (u i))
+
+none-left : (n : ℕ) → 0 + n ≡ n
+none-left n = omega arith
+
+pub plus-none : (a : Figures) → plus a noFigures ≡ a
+plus-none a = figures-eq (plus a noFigures) a (add-zero _) (add-zero _) (add-zero _) (add-zero _) (add-zero _) (add-zero _)
+
+pub none-plus : (a : Figures) → plus noFigures a ≡ a
+none-plus a = figures-eq (plus noFigures a) a (none-left _) (none-left _) (none-left _) (none-left _) (none-left _) (none-left _)
+
+pub plus-apart : (a b c : Figures) → plus (plus a b) c ≡ plus a (plus b c)
+plus-apart a b c =
+    figures-eq (plus (plus a b) c) (plus a (plus b c)) (add-assoc _ _ _) (add-assoc _ _ _) (add-assoc _ _ _) (add-assoc _ _ _) (add-assoc _ _ _) (add-assoc _ _ _)
 
 -- taking a row's figures away: what is left is the rest exactly where the whole was the row and the rest
 one-step : (l a b : ℕ) → eqb l (a + b) ≡ leb a l && eqb (l - a) b

@@ -5,17 +5,20 @@ use std::collections::BTreeMap;
 use std::path::Path;
 
 use peer_book::generate::history;
+use peer_book::layout::{other, OWNERS};
 use peer_book::paper::Paper;
 use peer_c::histories::{Input, Step};
 
 /// The histories of which the first ones of each shape are taken.
 const HISTORIES: u64 = 2_400;
 
-/// How many of a shape, and the bytes of the largest. Files in which every letter has all six figures are long, and a full book has eight causes.
+/// How many of a shape, and the bytes of the largest. Files in which every letter has all six figures are long, and a full book has eight causes. A
+/// history that is to be held beside another has nine files.
 fn wanted(shape: &str) -> (usize, usize) {
     match shape {
         "full" => (24, 9_000),
         "grown" => (12, 12_000),
+        "apart" => (9, 19_000),
         _ => (9, 4_000),
     }
 }
@@ -51,7 +54,8 @@ fn control(index: u64) -> [u8; 16] {
     control
 }
 
-/// A book with room for twelve entries and the accepted samples: each entered, some again under their own number and under another, everything looked up.
+/// A book with room for twelve entries and the accepted samples: each entered, most for owner 1 and some for owner 2, some again under their own number,
+/// under another and for the other owner, everything looked up by both.
 fn a_day(folder: &str) -> std::io::Result<Input> {
     let mut names: Vec<_> =
         std::fs::read_dir(folder)?.map(|entry| Ok(entry?.path())).collect::<std::io::Result<_>>()?;
@@ -59,12 +63,17 @@ fn a_day(folder: &str) -> std::io::Result<Input> {
     let samples = names.iter().filter(|name| name.extension().is_some_and(|extension| extension == "x9"));
     let files: Vec<Vec<u8>> = samples.map(std::fs::read).collect::<std::io::Result<_>>()?;
     let files: Vec<Vec<u8>> = files.into_iter().filter(|file| Paper::new(file.clone()).accepted()).take(8).collect();
-    let mut steps = vec![Step::sum_up(), Step::find(1)];
+    let for_both = |step: fn(u64, u64) -> Step, number: u64| OWNERS.map(|owner| step(owner, number));
+    let mut steps = OWNERS.map(Step::sum_up).to_vec();
+    steps.extend(for_both(Step::find, 1));
     for file in 0..files.len() {
-        let number = 100 + file as u64;
-        steps.extend([Step::enter(file, number), Step::enter(file, number), Step::find(file as u64 + 1)]);
+        let (number, owner) = (100 + file as u64, OWNERS[usize::from(file % 3 == 2)]);
+        steps.extend([Step::enter(owner, file, number), Step::enter(owner, file, number)]);
+        steps.extend(for_both(Step::find, file as u64 + 1));
     }
-    steps.extend((0..3).map(|file| Step::enter(file, 200 + file as u64)));
-    steps.extend([Step::find(12), Step::find(13), Step::sum_up()]);
+    steps.extend((0..2).map(|file| Step::enter(other(OWNERS[0]), file, 100 + file as u64)));
+    steps.extend((0..2).map(|file| Step::enter(OWNERS[0], file, 200 + file as u64)));
+    steps.extend([12, 13].into_iter().flat_map(|number| for_both(Step::find, number)));
+    steps.extend(OWNERS.map(Step::sum_up));
     Ok(Input { control: control(1), book: Vec::new(), zeros: 17 + 9 * 12, steps, files })
 }

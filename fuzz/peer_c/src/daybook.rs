@@ -31,7 +31,7 @@ pub unsafe extern "C" fn peer_drop_paper(paper: *mut Paper) {
     drop(Box::from_raw(paper));
 }
 
-/// Enters a paper.
+/// Enters a paper for an owner.
 ///
 /// # Safety
 /// `paper` came from `peer_paper`; `rows` points to `rows_len` numbers, `book` to `book_len`, `answer` to thirteen.
@@ -39,6 +39,7 @@ pub unsafe extern "C" fn peer_drop_paper(paper: *mut Paper) {
 pub unsafe extern "C" fn peer_enter(
     paper: *const Paper,
     file_number: u64,
+    owner: u64,
     rows: *mut u64,
     rows_len: usize,
     book: *mut u64,
@@ -47,33 +48,39 @@ pub unsafe extern "C" fn peer_enter(
 ) -> u64 {
     let (rows, book) = (from_raw_parts_mut(rows, rows_len), from_raw_parts_mut(book, book_len));
     let (mut other_rows, mut other_book) = (rows.to_vec(), book.to_vec());
-    let given: [u64; ENTER_ANSWER] = table::enter(&*paper, file_number, rows, book);
-    let other = opinion::enter(&*paper, file_number, &mut other_rows, &mut other_book);
+    let given: [u64; ENTER_ANSWER] = table::enter(&*paper, file_number, owner, rows, book);
+    let other = opinion::enter(&*paper, file_number, owner, &mut other_rows, &mut other_book);
     assert_eq!(other, given, "the second opinion is another");
     assert!(rows == other_rows && book == other_book, "the second opinion leaves something else");
     give(&given, answer)
 }
 
-/// Looks an entry up.
+/// Looks an owner's entry up.
 ///
 /// # Safety
 /// `book` points to `book_len` numbers, `found` to nine.
 #[no_mangle]
-pub unsafe extern "C" fn peer_find(book: *const u64, book_len: usize, entry_number: u64, found: *mut u64) -> u64 {
+pub unsafe extern "C" fn peer_find(
+    book: *const u64,
+    book_len: usize,
+    owner: u64,
+    entry_number: u64,
+    found: *mut u64,
+) -> u64 {
     let book = lent(book, book_len);
-    let given: [u64; FIND_ANSWER] = table::find(book, entry_number);
-    assert_eq!(opinion::find(book, entry_number), given, "the second opinion is another");
+    let given: [u64; FIND_ANSWER] = table::find(book, owner, entry_number);
+    assert_eq!(opinion::find(book, owner, entry_number), given, "the second opinion is another");
     give(&given, found)
 }
 
-/// The running totals.
+/// The running totals of an owner.
 ///
 /// # Safety
 /// `book` points to `book_len` numbers, `totals` to eight.
 #[no_mangle]
-pub unsafe extern "C" fn peer_totals(book: *const u64, book_len: usize, totals: *mut u64) -> u64 {
+pub unsafe extern "C" fn peer_totals(book: *const u64, book_len: usize, owner: u64, totals: *mut u64) -> u64 {
     let book = lent(book, book_len);
-    let given: [u64; TOTALS_ANSWER] = table::totals(book);
-    assert_eq!(opinion::totals(book), given, "the second opinion is another");
+    let given: [u64; TOTALS_ANSWER] = table::totals(book, owner);
+    assert_eq!(opinion::totals(book, owner), given, "the second opinion is another");
     give(&given, totals)
 }

@@ -6,21 +6,24 @@ use std::slice::{from_raw_parts, from_raw_parts_mut};
 use peer_book::call::{Call, History};
 use peer_book::files::{any_paper, sound_paper};
 use peer_book::generate::{history, ROUND};
-use peer_book::layout::{row_start, rows_there, CLAIMED, FIGURES, FILE_NUMBER, HEAD, LAST, NUMBER, SIX, TOTALS, WIDTH};
+use peer_book::layout::{
+    is_owner, last, row_start, rows_there, total, CLAIMED, FIGURES, FILE_NUMBER, HEAD, NUMBER, OWNER, OWNERS, SIX,
+    WIDTH,
+};
 use peer_book::paper::Paper;
-use peer_book::sheet::{another, junk};
+use peer_book::sheet::{another, caller, junk};
 use peer_reader::random::Random;
 
 use crate::mutate::{by_record, bytes, tried, Bytewise, CONTROL};
 
 /// The most that the target looks at.
-const FILES: usize = 8;
+const FILES: usize = 10;
 const CALLS: usize = 128;
 
 /// The bytes of a call.
 const CALL: usize = 16;
 
-/// A call as the input has it. Requests 8 to 10 have the owner in the seventh byte, and two kinds more.
+/// A call as the input has it. Request 10 has two kinds more.
 #[derive(Clone, Copy)]
 pub struct Step {
     pub kind: u8,
@@ -29,6 +32,8 @@ pub struct Step {
     pub room: (u8, u16),
     /// How the number is taken, and a number.
     pub number: (u8, u64),
+    /// By its byte (`byte_of`).
+    pub owner: u8,
 }
 
 pub const ENTER: u8 = 0;
@@ -41,6 +46,20 @@ const AS_TOLD: u8 = 0;
 const AMPLE: u8 = 1;
 const HOWS: usize = 4;
 
+/// The byte that tells the target an owner: a small number itself, an owner but for one high bit, or the largest number. Any other number that is no
+/// owner is told as a small one.
+fn byte_of(owner: u64) -> u8 {
+    let (low, high) = (owner as u32, (owner >> 32) as u32);
+    match owner {
+        0..=127 => owner as u8,
+        u64::MAX => u8::MAX,
+        _ if is_owner(u64::from(low)) && high.is_power_of_two() => {
+            1 << 7 | (high.trailing_zeros() as u8) << 1 | (low - 1) as u8
+        }
+        _ => 127,
+    }
+}
+
 impl Step {
     fn of(laid: &[u8]) -> Step {
         let number = laid[8..CALL].try_into().expect("eight bytes");
@@ -49,39 +68,40 @@ impl Step {
             file: laid[1],
             room: (laid[2], u16::from_le_bytes([laid[4], laid[5]])),
             number: (laid[3], u64::from_le_bytes(number)),
+            owner: laid[6],
         }
     }
 
     fn laid(&self) -> Vec<u8> {
         let mut laid = vec![self.kind, self.file, self.room.0, self.number.0];
         laid.extend(self.room.1.to_le_bytes());
-        laid.extend([0, 0]);
+        laid.extend([self.owner, 0]);
         laid.extend(self.number.1.to_le_bytes());
         laid
     }
 
-    /// A file entered under a number with an ample row table.
-    pub fn enter(file: usize, number: u64) -> Step {
-        Step { kind: ENTER, file: file as u8, room: (AMPLE, 0), number: (AS_TOLD, number) }
+    /// A file entered for an owner under a number with an ample row table.
+    pub fn enter(owner: u64, file: usize, number: u64) -> Step {
+        Step { kind: ENTER, file: file as u8, room: (AMPLE, 0), number: (AS_TOLD, number), owner: byte_of(owner) }
     }
 
-    pub fn find(number: u64) -> Step {
-        Step { kind: FIND, file: 0, room: (AS_TOLD, 0), number: (AS_TOLD, number) }
+    pub fn find(owner: u64, number: u64) -> Step {
+        Step { kind: FIND, room: (AS_TOLD, 0), ..Step::enter(owner, 0, number) }
     }
 
-    pub fn sum_up() -> Step {
-        Step { kind: SUM_UP, ..Step::find(0) }
+    pub fn sum_up(owner: u64) -> Step {
+        Step { kind: SUM_UP, ..Step::find(owner, 0) }
     }
 
     /// A call of a history. A row table that is longer than two bytes tell is ample.
     fn of_call(call: &Call) -> Step {
         match *call {
-            Call::Enter { paper, file_number, rows } => {
+            Call::Enter { paper, file_number, owner, rows } => {
                 let told = u16::try_from(rows).map_or((AMPLE, 0), |rows| (AS_TOLD, rows));
-                Step { room: told, ..Step::enter(paper, file_number) }
+                Step { room: told, ..Step::enter(owner, paper, file_number) }
             }
-            Call::Find { entry_number } => Step::find(entry_number),
-            Call::Totals => Step::sum_up(),
+            Call::Find { owner, entry_number } => Step::find(owner, entry_number),
+            Call::Totals { owner } => Step::sum_up(owner),
         }
     }
 }
@@ -248,12 +268,12 @@ fn change_book(input: &mut Input, random: &mut Random) {
     let mut table = input.table();
     let there = rows_there(table.len());
     let place = match random.below(4) {
-        0 => random.below(TOTALS + SIX),
+        0 => random.below(HEAD),
         1 => CLAIMED,
         _ => row_start(random.below(there + 1)) + random.below(WIDTH),
     };
     let other = table.get(random.below(table.len())).copied().unwrap_or(1);
-    match random.below(12) {
+    match random.below(14) {
         0 => table.truncate(random.below(table.len() + 1)),
         1 => table.extend(vec![0; random.between(1, 3 * WIDTH)]),
         2 => table.extend(std::array::from_fn::<u64, WIDTH, _>(|_| junk(random))),
@@ -271,6 +291,7 @@ fn change_book(input: &mut Input, random: &mut Random) {
         6 | 7 => table[place] = junk(random),
         8 => table[place] = u64::MAX - random.draw() % 1_000_000,
         9 if place == CLAIMED => table[place] = there as u64 + random.draw() % 3,
+        10 | 11 if place >= HEAD => table[place - (place - HEAD) % WIDTH + OWNER] = caller(random),
         _ => table[place] = another(random, table[place]),
     }
     put_table(input, table);
@@ -288,12 +309,12 @@ fn change_steps(input: &mut Input, random: &mut Random) {
     let steps = &mut input.steps;
     let (at, other) = (random.below(steps.len()), random.below(steps.len()));
     let files = input.files.len();
-    match random.below(12) {
+    match random.below(14) {
         0..=2 => {
             let step = any_step(&input.book, files, random);
             steps.insert(random.below(steps.len() + 1), step);
         }
-        _ if steps.is_empty() => steps.push(Step::enter(0, 1)),
+        _ if steps.is_empty() => steps.push(Step::enter(caller(random), 0, 1)),
         3 => drop(steps.remove(at)),
         4 => steps.insert(other, steps[at]),
         5 => steps.swap(at, other),
@@ -302,6 +323,7 @@ fn change_steps(input: &mut Input, random: &mut Random) {
         8 => steps[at].room = (random.below(HOWS) as u8, random.draw() as u16 >> random.below(16)),
         9 => steps[at].number.0 = random.below(HOWS) as u8,
         10 => steps[at].number.1 = steps[other].number.1,
+        11 | 12 => steps[at].owner = byte_of(caller(random)),
         _ => steps[at].number.1 = another(random, steps[at].number.1),
     }
 }
@@ -316,7 +338,7 @@ fn any_step(book: &[u64], files: usize, random: &mut Random) -> Step {
         1 => junk(random),
         _ => random.draw() % 12,
     };
-    let mut step = Step { kind, ..Step::enter(random.below(files.max(1)), number) };
+    let mut step = Step { kind, ..Step::enter(caller(random), random.below(files.max(1)), number) };
     if random.percent(25) {
         (step.number.0, step.room.0) = (random.below(HOWS) as u8, random.below(HOWS) as u8);
     }
@@ -336,36 +358,45 @@ fn change_files(input: &mut Input, random: &mut Random, bytewise: Bytewise) {
     }
 }
 
-/// The running totals, as far as they are there, are made the sums of the rows claimed, and no more rows are claimed than there are. A sum that 64 bits
-/// do not hold is stated as what they leave of it, or a row is lowered.
+/// The running totals of both owners, as far as they are there, are made the sums of their rows claimed, and no more rows are claimed than there are. A
+/// sum that 64 bits do not hold is stated as what they leave of it, or a row is lowered.
 fn make_sound(input: &mut Input, random: &mut Random) {
     let mut table = input.table();
-    let rows = table.first().map_or(0, |claimed| (*claimed).min(rows_there(table.len()) as u64)) as usize;
-    for place in 0..table.len().min(TOTALS + SIX) {
-        match place {
-            CLAIMED => table[CLAIMED] = rows as u64,
-            LAST => {}
-            _ => table[place] = sound_total(&mut table, rows, place - TOTALS, random),
+    let rows = table.first().map_or(0, |claimed| (*claimed).min(rows_there(table.len()) as u64));
+    if let Some(claimed) = table.first_mut() {
+        *claimed = rows;
+    }
+    for owner in OWNERS {
+        let there = (0..SIX).filter(|figure| total(owner, *figure) < table.len());
+        for figure in there.collect::<Vec<_>>() {
+            table[total(owner, figure)] = sound_total(&mut table, owner, figure, random);
         }
     }
     put_table(input, table);
 }
 
-fn sum_of(table: &[u64], rows: usize, figure: usize) -> u128 {
-    (0..rows).map(|row| u128::from(table[row_start(row) + FIGURES + figure])).sum()
+/// Where the claimed rows of an owner begin; they are there.
+fn rows_of(table: &[u64], owner: u64) -> Vec<usize> {
+    let claimed = table.first().map_or(0, |claimed| *claimed as usize);
+    (0..claimed).map(row_start).filter(|start| table[start + OWNER] == owner).collect()
 }
 
-fn sound_total(table: &mut [u64], rows: usize, figure: usize, random: &mut Random) -> u64 {
+fn sum_of(table: &[u64], owner: u64, figure: usize) -> u128 {
+    rows_of(table, owner).into_iter().map(|start| u128::from(table[start + FIGURES + figure])).sum()
+}
+
+fn sound_total(table: &mut [u64], owner: u64, figure: usize, random: &mut Random) -> u64 {
     let lower = random.percent(80);
-    for row in 0..rows {
-        if lower && sum_of(table, rows, figure) > u128::from(u64::MAX) {
-            table[row_start(row) + FIGURES + figure] >>= 32;
+    for start in rows_of(table, owner) {
+        if lower && sum_of(table, owner, figure) > u128::from(u64::MAX) {
+            table[start + FIGURES + figure] >>= 32;
         }
     }
-    sum_of(table, rows, figure) as u64
+    sum_of(table, owner, figure) as u64
 }
 
-/// A book that one of the files makes full, or just does not: by its rows, its last number, or a running total. The file is entered at the end.
+/// A book that one of the files makes full for an owner, or just does not: by its rows, its last number, or a running total. The file is entered at the
+/// end.
 fn to_the_brim(input: &mut Input, random: &mut Random) {
     make_sound(input, random);
     let mut table = input.table();
@@ -373,26 +404,32 @@ fn to_the_brim(input: &mut Input, random: &mut Random) {
     let Some(paper) = input.files.get(at).map(|file| Paper::new(file.clone())).filter(Paper::accepted) else {
         return input.files.insert(0, sound_paper(random, (1, 3)).bytes);
     };
+    let owner = random.pick(&OWNERS);
     let letters = paper.letters.len();
     table.resize(table.len().max(row_start(letters + 1)), 0);
     let near = |most: u64, random: &mut Random| most.wrapping_add(random.draw() % 3).wrapping_sub(1);
     let claimed = table[CLAIMED] as usize;
     match random.below(2 + SIX) {
         0 => table.resize(row_start(claimed + letters).saturating_sub(random.below(2)), 0),
-        1 => table[LAST] = near(u64::MAX - letters as u64, random),
+        1 => table[last(owner)] = near(u64::MAX - letters as u64, random),
         figure => {
-            let figure = figure - 2;
-            table[CLAIMED] = table[CLAIMED].max(1);
-            let start = row_start(random.below(table[CLAIMED] as usize));
-            table[start + FIGURES + figure] = 0;
-            let most = u64::MAX - paper.sums()[figure] as u64;
-            let others = sum_of(&table, table[CLAIMED] as usize, figure);
-            table[start + FIGURES + figure] = near(most, random).saturating_sub(others as u64);
+            let most = u64::MAX - paper.sums()[figure - 2] as u64;
+            let most = near(most, random);
+            total_to(&mut table, owner, figure - 2, most, random);
         }
     }
-    input.steps.push(Step::enter(at, random.draw()));
+    input.steps.push(Step::enter(owner, at, random.draw()));
     put_table(input, table);
     make_sound(input, random);
+}
+
+/// One claimed row is made the owner's, and its figure what brings the running total there, if the other rows leave as much.
+fn total_to(table: &mut [u64], owner: u64, figure: usize, most: u64, random: &mut Random) {
+    table[CLAIMED] = table[CLAIMED].max(1);
+    let start = row_start(random.below(table[CLAIMED] as usize));
+    (table[start + OWNER], table[start + FIGURES + figure]) = (owner, 0);
+    let others = sum_of(table, owner, figure);
+    table[start + FIGURES + figure] = most.saturating_sub(others as u64);
 }
 
 /// One history with the other's book, with its calls and files behind its own, or with one of its files in the place of one.

@@ -1,6 +1,5 @@
 //! The calls of the book, histories of them, and a side that answers them: the book over a table, the second opinion, or the proved library.
-//! Requests 8 to 10 come in here: an owner is one more field of a call, withdrawal and tidy-up are two more calls, the second list is one more
-//! thing lent.
+//! Requests 9 and 10 come in here: withdrawal and tidy-up are two more calls, the second list is one more thing lent.
 
 use crate::paper::Paper;
 use crate::{opinion, table};
@@ -12,12 +11,16 @@ pub enum Call {
     Enter {
         paper: usize,
         file_number: u64,
+        owner: u64,
         rows: usize,
     },
     Find {
+        owner: u64,
         entry_number: u64,
     },
-    Totals,
+    Totals {
+        owner: u64,
+    },
 }
 
 /// Which call.
@@ -35,7 +38,14 @@ impl Call {
         match self {
             Call::Enter { .. } => Kind::Enter,
             Call::Find { .. } => Kind::Find,
-            Call::Totals => Kind::Totals,
+            Call::Totals { .. } => Kind::Totals,
+        }
+    }
+
+    /// Who calls; an owner, or a number that is none.
+    pub fn owner(&self) -> u64 {
+        match *self {
+            Call::Enter { owner, .. } | Call::Find { owner, .. } | Call::Totals { owner } => owner,
         }
     }
 
@@ -82,16 +92,16 @@ pub struct History {
 
 /// Who answers the calls.
 pub trait Side {
-    fn enter(&self, paper: &Paper, file_number: u64, lent: Lent) -> Result<Outcome, String>;
-    fn find(&self, entry_number: u64, lent: Lent) -> Result<Outcome, String>;
-    fn totals(&self, lent: Lent) -> Result<Outcome, String>;
+    fn enter(&self, paper: &Paper, file_number: u64, owner: u64, lent: Lent) -> Result<Outcome, String>;
+    fn find(&self, owner: u64, entry_number: u64, lent: Lent) -> Result<Outcome, String>;
+    fn totals(&self, owner: u64, lent: Lent) -> Result<Outcome, String>;
 
     /// Any call of a history.
     fn answer(&self, papers: &[Paper], call: &Call, lent: Lent) -> Result<Outcome, String> {
         match *call {
-            Call::Enter { paper, file_number, .. } => self.enter(&papers[paper], file_number, lent),
-            Call::Find { entry_number } => self.find(entry_number, lent),
-            Call::Totals => self.totals(lent),
+            Call::Enter { paper, file_number, owner, .. } => self.enter(&papers[paper], file_number, owner, lent),
+            Call::Find { owner, entry_number } => self.find(owner, entry_number, lent),
+            Call::Totals { owner } => self.totals(owner, lent),
         }
     }
 }
@@ -100,16 +110,16 @@ pub trait Side {
 pub struct Independent;
 
 impl Side for Independent {
-    fn enter(&self, paper: &Paper, file_number: u64, lent: Lent) -> Result<Outcome, String> {
-        Ok(Outcome::of(&table::enter(paper, file_number, lent.rows, lent.book)))
+    fn enter(&self, paper: &Paper, file_number: u64, owner: u64, lent: Lent) -> Result<Outcome, String> {
+        Ok(Outcome::of(&table::enter(paper, file_number, owner, lent.rows, lent.book)))
     }
 
-    fn find(&self, entry_number: u64, lent: Lent) -> Result<Outcome, String> {
-        Ok(Outcome::of(&table::find(lent.book, entry_number)))
+    fn find(&self, owner: u64, entry_number: u64, lent: Lent) -> Result<Outcome, String> {
+        Ok(Outcome::of(&table::find(lent.book, owner, entry_number)))
     }
 
-    fn totals(&self, lent: Lent) -> Result<Outcome, String> {
-        Ok(Outcome::of(&table::totals(lent.book)))
+    fn totals(&self, owner: u64, lent: Lent) -> Result<Outcome, String> {
+        Ok(Outcome::of(&table::totals(lent.book, owner)))
     }
 }
 
@@ -117,15 +127,15 @@ impl Side for Independent {
 pub struct SecondOpinion;
 
 impl Side for SecondOpinion {
-    fn enter(&self, paper: &Paper, file_number: u64, lent: Lent) -> Result<Outcome, String> {
-        Ok(Outcome::of(&opinion::enter(paper, file_number, lent.rows, lent.book)))
+    fn enter(&self, paper: &Paper, file_number: u64, owner: u64, lent: Lent) -> Result<Outcome, String> {
+        Ok(Outcome::of(&opinion::enter(paper, file_number, owner, lent.rows, lent.book)))
     }
 
-    fn find(&self, entry_number: u64, lent: Lent) -> Result<Outcome, String> {
-        Ok(Outcome::of(&opinion::find(lent.book, entry_number)))
+    fn find(&self, owner: u64, entry_number: u64, lent: Lent) -> Result<Outcome, String> {
+        Ok(Outcome::of(&opinion::find(lent.book, owner, entry_number)))
     }
 
-    fn totals(&self, lent: Lent) -> Result<Outcome, String> {
-        Ok(Outcome::of(&opinion::totals(lent.book)))
+    fn totals(&self, owner: u64, lent: Lent) -> Result<Outcome, String> {
+        Ok(Outcome::of(&opinion::totals(lent.book, owner)))
     }
 }

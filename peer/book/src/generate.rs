@@ -2,16 +2,18 @@
 
 use peer_reader::random::Random;
 
+use crate::apart::{self, Pair};
 use crate::call::History;
 use crate::{grow, tamper};
 
 /// Shapes by turn.
 #[rustfmt::skip]
-const TURNS: [&str; 40] = [
+const TURNS: [&str; 50] = [
     "grown", "grown", "grown", "grown", "grown", "grown", "grown", "grown", "head", "head",
     "row", "row", "row", "behind", "claim", "claim", "sum", "sum", "sum", "sum",
     "sum", "short", "short", "short", "short", "short", "full", "full", "full", "full",
     "duplicate", "duplicate", "no duplicate", "find", "find", "not found", "totals", "order", "order", "again",
+    "owner", "owner", "strange", "apart", "apart", "sum", "order", "order", "totals", "head",
 ];
 
 /// The histories of a round.
@@ -26,23 +28,40 @@ pub const USUAL_RUN: u64 = 20_000;
 /// One in so many histories has a large file.
 const RARE: u64 = 1_000;
 
-/// The history of this index in the run of this seed.
-pub fn history(seed: u64, index: u64) -> History {
-    let mut random = Random::for_file(seed ^ 0x0006_0006_0006_0006, index);
+/// What a run has at an index: a large history, or a shape and how many of that shape came before.
+fn turn_of(index: u64) -> (&'static str, usize) {
     if index % RARE == RARE / 2 {
-        return grow::large(&mut random);
+        return ("large", 0);
     }
     let (turn, place) = ((index / ROUND as u64) as usize, (index % ROUND as u64) as usize);
     let shape = TURNS[place];
     let alike = |turns: &[&str]| turns.iter().filter(|other| **other == shape).count();
-    shaped(&mut random, shape, turn * alike(&TURNS) + alike(&TURNS[..place]))
+    (shape, turn * alike(&TURNS) + alike(&TURNS[..place]))
+}
+
+fn random_of(seed: u64, index: u64) -> Random {
+    Random::for_file(seed ^ 0x0008_0008_0008_0008, index)
+}
+
+/// The history of this index in the run of this seed; of a pair the first.
+pub fn history(seed: u64, index: u64) -> History {
+    let (shape, turn) = turn_of(index);
+    shaped(&mut random_of(seed, index), shape, turn)
+}
+
+/// The pair of histories of this index, where it has one.
+pub fn pair(seed: u64, index: u64) -> Option<Pair> {
+    (turn_of(index).0 == "apart").then(|| apart::pair(&mut random_of(seed, index)))
 }
 
 /// A history of this shape; where a shape has many targets, the turn chooses one.
 pub fn shaped(random: &mut Random, shape: &str, turn: usize) -> History {
     match shape {
+        "large" => grow::large(random),
         "head" => tamper::head(random, turn),
         "row" => tamper::row(random, turn),
+        "owner" => tamper::owner(random, turn),
+        "strange" => tamper::strange(random, turn),
         "behind" => tamper::behind(random, turn),
         "claim" => tamper::claim(random, turn),
         "sum" => tamper::sum(random, turn),
@@ -55,6 +74,7 @@ pub fn shaped(random: &mut Random, shape: &str, turn: usize) -> History {
         "totals" => tamper::totals(random, turn),
         "order" => tamper::order(random, turn),
         "again" => tamper::again(random, turn),
+        "apart" => apart::pair(random).histories[0].clone(),
         _ => grow::grown(random),
     }
 }

@@ -1,4 +1,4 @@
-//! The table that holds a book, number by number, as the C header has it, and the numbers of the answers (points 34 to 37).
+//! The table that holds a book, number by number, as the C header has it, and the numbers of the answers (points 34 to 37 and 39).
 
 pub const ACCEPTED: u64 = 0;
 pub const ROOM: u64 = 2;
@@ -7,26 +7,28 @@ pub const FULL: u64 = 13;
 pub const NOENTRY: u64 = 15;
 pub const BOOK: u64 = 20;
 
-/// The head: [0] rows claimed, [1] the last entry number given, [2] to [7] the running totals, [8] to [16] not looked at.
+/// Who has entries, a last entry number and running totals (request 8).
+pub const OWNERS: [u64; 2] = [1, 2];
+
+/// The head: [0] rows claimed, once for both; then for each owner the last entry number given, six running totals and a number that is not
+/// looked at.
 pub const HEAD: usize = 17;
 pub const CLAIMED: usize = 0;
-pub const LAST: usize = 1;
-pub const TOTALS: usize = 2;
 
-/// A row: [0] not looked at, and 1 in a row that entering writes; [1] entry number, [2] file number, [3] to [8] the letter's own figures.
+/// How many numbers of the head are an owner's.
+const PART: usize = 8;
+
+/// A row: [0] owner, [1] entry number, [2] file number, [3] to [8] the letter's own figures.
 pub const WIDTH: usize = 9;
-pub const MARK: usize = 0;
+pub const OWNER: usize = 0;
 pub const NUMBER: usize = 1;
 pub const FILE_NUMBER: usize = 2;
 pub const FIGURES: usize = 3;
 
-/// What entering writes into a row's [0].
-pub const WRITTEN_MARK: u64 = 1;
-
 /// A letter's own bundles, debit items, credit items, views, debit cents, credit cents.
 pub type Figures = [u64; 6];
 
-/// How many figures a letter has; the running totals are as many.
+/// How many figures a letter has; the running totals of an owner are as many.
 pub const SIX: usize = 6;
 pub const BUNDLES: usize = 0;
 pub const DEBIT_ITEMS: usize = 1;
@@ -39,6 +41,36 @@ pub const CREDIT_CENTS: usize = 5;
 pub const ENTER_ANSWER: usize = 13;
 pub const FIND_ANSWER: usize = 9;
 pub const TOTALS_ANSWER: usize = 8;
+
+/// Whether a number is an owner's; any other counts for none (point 39).
+pub fn is_owner(number: u64) -> bool {
+    OWNERS.contains(&number)
+}
+
+/// The other of the two owners.
+pub fn other(owner: u64) -> u64 {
+    OWNERS[0] + OWNERS[1] - owner
+}
+
+/// Where an owner's last entry number stands in the head.
+pub fn last(owner: u64) -> usize {
+    1 + PART * (owner as usize - 1)
+}
+
+/// Where a running total of an owner stands in the head.
+pub fn total(owner: u64, figure: usize) -> usize {
+    last(owner) + 1 + figure
+}
+
+/// Where the number stands in an owner's part of the head that is not looked at.
+pub fn unused(owner: u64) -> usize {
+    last(owner) + 1 + SIX
+}
+
+/// Whether BOOK is about a number of the head.
+pub fn is_judged(place: usize) -> bool {
+    place == CLAIMED || OWNERS.into_iter().any(|owner| (total(owner, 0)..unused(owner)).contains(&place))
+}
 
 /// The whole rows behind the head of a table of so many numbers.
 pub fn rows_there(length: usize) -> usize {

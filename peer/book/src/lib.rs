@@ -1,6 +1,7 @@
-//! The independent side of request 6, the day book: written from documents 01 and 02, the readings of request 6 (points 34 to 38) and the
-//! layout of the book in the C header, over the independent reader. It shares no table and no code with the proved library.
+//! The independent side of requests 6 and 8, the day book: written from documents 01 and 02, the readings of these requests (points 34 to 39) and
+//! the layout of the book in the C header, over the independent reader. It shares no table and no code with the proved library.
 
+pub mod apart;
 pub mod call;
 pub mod files;
 pub mod generate;

@@ -1,60 +1,90 @@
-//! The plain list of entries: what a book answers after any sequence of calls (request 6, point 38).
+//! The plain list of entries: what a book answers after any sequence of calls (requests 6 and 8, points 38 and 39).
 
-use crate::layout::{Figures, DUPLICATE, FULL, NOENTRY, SIX};
+use crate::layout::{is_owner, Figures, DUPLICATE, FULL, NOENTRY, OWNERS, SIX};
 use crate::paper::sums;
 
-/// One cash letter as it was entered. Request 8 gives it an owner.
+/// One cash letter as it was entered.
 #[derive(Clone, Copy, Debug, PartialEq, Eq)]
 pub struct Entry {
+    pub owner: u64,
     pub number: u64,
     pub file_number: u64,
     pub figures: Figures,
 }
 
-/// Entries in their order, the last entry number given, and how many entries there is room for.
+/// Entries in their order, the last entry number given to each owner, and how many entries there is room for, whosesoever they are.
 #[derive(Clone, Debug, PartialEq, Eq)]
 pub struct List {
     pub entries: Vec<Entry>,
-    pub last: u64,
+    pub last: [u64; OWNERS.len()],
     pub capacity: usize,
+}
+
+/// NOENTRY for an owner other than 1 or 2: after BOOK, which is not the list's, before all else.
+pub fn judge_owner(owner: u64) -> Result<(), u64> {
+    is_owner(owner).then_some(()).ok_or(NOENTRY)
 }
 
 impl List {
     pub fn empty(capacity: usize) -> List {
-        List { entries: Vec::new(), last: 0, capacity }
+        List { entries: Vec::new(), last: [0; OWNERS.len()], capacity }
     }
 
-    /// The running totals: the sums of all entries, each time anew.
-    pub fn sums(&self) -> [u128; SIX] {
-        let figures: Vec<Figures> = self.entries.iter().map(|entry| entry.figures).collect();
+    /// The entries of an owner, in their order.
+    pub fn of(&self, owner: u64) -> Vec<Entry> {
+        self.entries.iter().filter(|entry| entry.owner == owner).copied().collect()
+    }
+
+    /// The last entry number given to an owner.
+    pub fn last(&self, owner: u64) -> u64 {
+        self.last[owner as usize - 1]
+    }
+
+    /// How many more entries there is room for.
+    pub fn free(&self) -> usize {
+        self.capacity - self.entries.len()
+    }
+
+    /// The running totals of an owner: the sums of all its entries, each time anew.
+    pub fn sums(&self, owner: u64) -> [u128; SIX] {
+        let figures: Vec<Figures> = self.of(owner).iter().map(|entry| entry.figures).collect();
         sums(&figures)
     }
 
-    /// Enters the letters of an accepted file: the first entry number given, or DUPLICATE or FULL.
-    pub fn enter(&mut self, file_number: u64, letters: &[Figures]) -> Result<u64, u64> {
-        if self.entries.iter().any(|entry| entry.file_number == file_number) {
+    /// Enters the letters of an accepted file for an owner: the first entry number given, or NOENTRY, DUPLICATE or FULL.
+    pub fn enter(&mut self, file_number: u64, owner: u64, letters: &[Figures]) -> Result<u64, u64> {
+        judge_owner(owner)?;
+        if self.of(owner).iter().any(|entry| entry.file_number == file_number) {
             return Err(DUPLICATE);
         }
-        let longer = self.with(file_number, letters).ok_or(FULL)?;
+        let longer = self.with(file_number, owner, letters).ok_or(FULL)?;
         let first = longer.entries[self.entries.len()].number;
         *self = longer;
         Ok(first)
     }
 
-    /// The list with these letters at its end, numbered on from the last number given; none where it cannot be: more entries than there is
-    /// room for, or a running total or an entry number beyond 64 bits.
-    fn with(&self, file_number: u64, letters: &[Figures]) -> Option<List> {
+    /// The list with these letters at its end, numbered on from the last number given to the owner; none where it cannot be: more entries than
+    /// there is room for, or a running total or an entry number beyond 64 bits.
+    fn with(&self, file_number: u64, owner: u64, letters: &[Figures]) -> Option<List> {
         let mut longer = self.clone();
         for figures in letters {
-            longer.last = longer.last.checked_add(1)?;
-            longer.entries.push(Entry { number: longer.last, file_number, figures: *figures });
+            let last = &mut longer.last[owner as usize - 1];
+            *last = last.checked_add(1)?;
+            longer.entries.push(Entry { owner, number: *last, file_number, figures: *figures });
         }
-        let fits = longer.entries.len() <= longer.capacity && longer.sums().iter().all(|sum| *sum <= u64::MAX.into());
-        fits.then_some(longer)
+        let fits = longer.entries.len() <= longer.capacity;
+        (fits && longer.sums(owner).iter().all(|sum| *sum <= u64::MAX.into())).then_some(longer)
     }
 
-    /// The first entry with this number, or NOENTRY.
-    pub fn find(&self, number: u64) -> Result<Entry, u64> {
-        self.entries.iter().find(|entry| entry.number == number).copied().ok_or(NOENTRY)
+    /// The first entry of the owner with this number, or NOENTRY.
+    pub fn find(&self, owner: u64, number: u64) -> Result<Entry, u64> {
+        judge_owner(owner)?;
+        self.of(owner).into_iter().find(|entry| entry.number == number).ok_or(NOENTRY)
+    }
+
+    /// How many entries the owner has and what they come to, or NOENTRY.
+    pub fn totals(&self, owner: u64) -> Result<(usize, [u128; SIX]), u64> {
+        judge_owner(owner)?;
+        Ok((self.of(owner).len(), self.sums(owner)))
     }
 }

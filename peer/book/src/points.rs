@@ -5,23 +5,26 @@ use std::collections::{BTreeMap, BTreeSet};
 use peer_reader::charset::Set;
 use peer_reader::descent::Row;
 
+use crate::apart::{self, Pair, APART};
 use crate::call::{Call, History, Kind, Outcome, KINDS};
 use crate::files::{read_number, short_tables, REFUSALS};
 use crate::later::{self, GROWN, LATER};
 use crate::layout::{
-    head, row_start, rows_there, Figures, ACCEPTED, BOOK, CLAIMED, DUPLICATE, FIGURES, FILE_NUMBER, FULL, HEAD, LAST,
-    MARK, NOENTRY, NUMBER, ROOM, SIX, TOTALS, WIDTH, WRITTEN_MARK,
+    head, is_judged, is_owner, last, other, row_start, rows_there, total, unused, Figures, ACCEPTED, BOOK, CLAIMED,
+    DUPLICATE, FIGURES, FILE_NUMBER, FULL, HEAD, NOENTRY, NUMBER, OWNER, OWNERS, ROOM, SIX, WIDTH,
 };
 use crate::paper::{sums, Paper};
 use crate::put::Seen;
-use crate::tamper::{ordered_pairs, CAUSES, CAUSE_LAST, CAUSE_ROWS, SHORT};
+use crate::tamper::{ordered_pairs, CAUSES, CAUSE_LAST, CAUSE_ROWS, OWNER_CHANGES, SHORT};
 
 /// Where a number stands in a table.
 #[derive(Clone, Copy, Debug, PartialEq, Eq, PartialOrd, Ord)]
 pub enum Place {
     Head(usize),
-    /// The first, a middle or the last of three or more claimed rows, and which of its numbers.
+    /// The first, a middle or the last of three or more claimed rows, of either owner, and which of its numbers.
     Row(&'static str, usize),
+    /// A claimed row of neither owner, and which of its numbers.
+    Stray(usize),
     /// A row behind those claimed.
     Spare,
     /// Behind the last whole row.
@@ -31,11 +34,16 @@ pub enum Place {
 /// One thing that a run is to show.
 #[derive(Clone, Copy, Debug, PartialEq, Eq, PartialOrd, Ord)]
 pub enum Point {
-    Answer(Kind, u64),
+    /// A number given to an owner, or to a number that is none.
+    Answer(Kind, u64, Caller),
     /// BOOK for more rows claimed than there are.
     Claim(Kind, &'static str),
-    /// BOOK for one running total alone.
-    Sum(Kind, usize, &'static str),
+    /// BOOK for one running total of an owner alone.
+    Sum(Kind, u64, usize, &'static str),
+    /// BOOK for a running total of an owner alone, in a call of this one.
+    Whose(Kind, u64, Caller),
+    /// A row became another's: from, to, whether it had figures, and whether the answer was BOOK.
+    OwnerChanged(Kind, Caller, Caller, bool, bool),
     /// A sound book but for one number, and whether the answer was BOOK.
     Changed(Kind, Place, bool),
     /// A table of so many numbers, and whether the answer was BOOK.
@@ -43,7 +51,9 @@ pub enum Point {
     /// BOOK for the last number of a table that ends within the head.
     ShortEnd(Kind, usize),
     /// FULL for this cause alone, or just not.
-    Full(usize, &'static str),
+    Full(u64, usize, &'static str),
+    /// Entered, though the other owner could not have: for a running total, or the last number.
+    FullForTheOther(u64, usize),
     Duplicate(&'static str),
     /// Entered, though something has the number.
     NoDuplicate(&'static str),
@@ -52,8 +62,8 @@ pub enum Point {
     Found(&'static str),
     NotFound(&'static str),
     Totals(&'static str),
-    /// A running total of 2^64 - 1.
-    Brim(usize),
+    /// A running total of an owner of 2^64 - 1.
+    Brim(u64, usize),
     Entered(&'static str),
     /// A file entered with letters unlike in this figure.
     Unlike(usize),
@@ -63,6 +73,44 @@ pub enum Point {
     /// What later calls of a history on an empty book show.
     Later(&'static str),
     Grown(&'static str),
+    /// What a pair of histories shows that are alike to an owner.
+    Apart(&'static str),
+}
+
+/// Who calls, or whose a row is.
+#[derive(Clone, Copy, Debug, PartialEq, Eq, PartialOrd, Ord)]
+pub enum Caller {
+    Owner(u64),
+    /// A number that is no owner: 0, 3, 2^64 - 1 or another.
+    Nobody(Option<u64>),
+}
+
+/// The numbers that are no owner and are told apart.
+const NOBODIES: [u64; 3] = [0, 3, u64::MAX];
+
+const NOBODY: Caller = Caller::Nobody(None);
+
+impl Caller {
+    fn of(number: u64) -> Caller {
+        match is_owner(number) {
+            true => Caller::Owner(number),
+            false => Caller::Nobody(NOBODIES.contains(&number).then_some(number)),
+        }
+    }
+
+    /// Owner or not, and nothing more.
+    fn or_nobody(number: u64) -> Caller {
+        match is_owner(number) {
+            true => Caller::Owner(number),
+            false => NOBODY,
+        }
+    }
+
+    /// All that are told apart.
+    fn all() -> Vec<Caller> {
+        let nobodies = NOBODIES.into_iter().map(|number| Caller::Nobody(Some(number)));
+        OWNERS.into_iter().map(Caller::Owner).chain(nobodies).chain([NOBODY]).collect()
+    }
 }
 
 /// How often each point was met.
@@ -89,6 +137,11 @@ impl Tally {
     /// Notes what a whole history shows.
     pub fn note_history(&mut self, history: &History, outcomes: &[Outcome]) {
         self.meet(later::shown(history, outcomes));
+    }
+
+    /// Notes what a pair of histories shows.
+    pub fn note_pair(&mut self, pair: &Pair, outcomes: [&[Outcome]; 2]) {
+        self.meet(apart::shown(pair, outcomes));
     }
 
     /// The points of a whole run that were not met.
@@ -146,13 +199,25 @@ impl Looked<'_> {
         self.claimed > self.there as u64
     }
 
-    fn sum(&self, figure: usize) -> u128 {
-        self.rows.iter().map(|row| u128::from(row[FIGURES + figure])).sum()
+    /// An owner's rows, or those that have a number for an owner that is none.
+    fn rows_of(&self, owner: u64) -> Vec<&[u64]> {
+        self.rows.iter().filter(|row| row[OWNER] == owner).copied().collect()
     }
 
-    /// The running totals that are not the sums of their rows.
-    fn off(&self) -> Vec<usize> {
-        (0..SIX).filter(|figure| self.sum(*figure) != u128::from(self.head(TOTALS + figure))).collect()
+    /// The rows of neither owner.
+    fn strays(&self) -> Vec<&[u64]> {
+        self.rows.iter().filter(|row| !is_owner(row[OWNER])).copied().collect()
+    }
+
+    fn sum(&self, owner: u64, figure: usize) -> u128 {
+        sum_of(&self.rows_of(owner), figure)
+    }
+
+    /// The running totals that are not the sums of their owner's rows.
+    fn off(&self) -> Vec<(u64, usize)> {
+        let all = OWNERS.into_iter().flat_map(|owner| (0..SIX).map(move |figure| (owner, figure)));
+        let is_off = |owner, figure| self.sum(owner, figure) != u128::from(self.head(total(owner, figure)));
+        all.filter(|(owner, figure)| is_off(*owner, *figure)).collect()
     }
 
     fn is_book(&self) -> bool {
@@ -163,26 +228,34 @@ impl Looked<'_> {
         self.there - self.rows.len()
     }
 
-    /// The rows that have this number in this column.
-    fn with(&self, column: usize, number: u64) -> Vec<usize> {
-        (0..self.rows.len()).filter(|row| self.rows[*row][column] == number).collect()
+    /// The rows of an owner that have this number in this column.
+    fn with(&self, owner: u64, column: usize, number: u64) -> Vec<usize> {
+        let has = |row: &usize| self.rows[*row][column] == number && self.rows[*row][OWNER] == owner;
+        (0..self.rows.len()).filter(has).collect()
     }
+}
+
+/// A figure of some rows added up.
+fn sum_of(rows: &[&[u64]], figure: usize) -> u128 {
+    rows.iter().map(|row| u128::from(row[FIGURES + figure])).sum()
 }
 
 fn shown(seen: &Seen) -> Vec<Point> {
     let look = Looked::at(seen.before);
-    let kind = seen.call().kind();
+    let (kind, owner) = (seen.call().kind(), seen.call().owner());
     let number = seen.outcome.returned;
-    let mut points = vec![Point::Answer(kind, number)];
-    points.extend(book_points(kind, &look, number == BOOK));
+    let mut points = vec![Point::Answer(kind, number, Caller::of(owner))];
+    points.extend(book_points(kind, owner, &look, number == BOOK));
     points.extend(changed(seen, kind));
     match *seen.call() {
-        Call::Enter { paper, file_number, rows } => {
-            points.extend(entering(&look, &seen.history.papers[paper], file_number, rows, number));
+        Call::Enter { paper, file_number, rows, .. } => {
+            points.extend(entering(&look, &seen.history.papers[paper], file_number, owner, rows, number));
         }
-        Call::Find { entry_number } if number == ACCEPTED => points.extend(found(&look, entry_number)),
-        Call::Find { entry_number } if number == NOENTRY => points.extend(not_found(&look, entry_number)),
-        Call::Totals if number == ACCEPTED => points.extend(totals(&look)),
+        Call::Find { entry_number, .. } if number == ACCEPTED => points.extend(found(&look, owner, entry_number)),
+        Call::Find { entry_number, .. } if number == NOENTRY && is_owner(owner) => {
+            points.extend(not_found(&look, owner, entry_number));
+        }
+        Call::Totals { .. } if number == ACCEPTED => points.extend(totals(&look, owner)),
         _ => {}
     }
     points
@@ -197,7 +270,7 @@ const CLAIMS: [&str; 6] = [
     "its high bit",
 ];
 
-const SUMS: [&str; 8] = [
+const SUMS: [&str; 10] = [
     "one more",
     "one less",
     "what 64 bits leave",
@@ -206,10 +279,12 @@ const SUMS: [&str; 8] = [
     "without the first row",
     "without the last row",
     "with the row behind",
+    "with the other owner's rows",
+    "with the rows of neither",
 ];
 
 /// What a table shows that is no book, or short.
-fn book_points(kind: Kind, look: &Looked, is_book_fault: bool) -> Vec<Point> {
+fn book_points(kind: Kind, caller: u64, look: &Looked, is_book_fault: bool) -> Vec<Point> {
     let length = look.book.len();
     let mut points = Vec::new();
     if length < SHORT {
@@ -230,31 +305,36 @@ fn book_points(kind: Kind, look: &Looked, is_book_fault: bool) -> Vec<Point> {
             look.claimed >= 1 << 63 && look.claimed - (1 << 63) <= there,
         ];
         points.extend(named(CLAIMS, holds, |name| Point::Claim(kind, name)));
-    } else if let [figure] = look.off()[..] {
-        points.extend(sum_points(kind, look, figure));
+    } else if let [(owner, figure)] = look.off()[..] {
+        points.push(Point::Whose(kind, owner, Caller::or_nobody(caller)));
+        points.extend(sum_points(kind, look, owner, figure));
     }
-    let others_zero = (0..length).filter(|place| *place != LAST).rev().skip(1).all(|place| look.book[place] == 0);
-    if length <= TOTALS + SIX && length != LAST + 1 && others_zero {
+    let others_zero = (0..length - 1).filter(|place| is_judged(*place)).all(|place| look.book[place] == 0);
+    if length <= HEAD && is_judged(length - 1) && others_zero {
         points.push(Point::ShortEnd(kind, length - 1));
     }
     points
 }
 
-fn sum_points(kind: Kind, look: &Looked, figure: usize) -> Vec<Point> {
-    let (stated, sum) = (u128::from(look.head(TOTALS + figure)), look.sum(figure));
+fn sum_points(kind: Kind, look: &Looked, owner: u64, figure: usize) -> Vec<Point> {
+    let (stated, sum) = (u128::from(look.head(total(owner, figure))), look.sum(owner, figure));
+    let (own, others) = (look.rows_of(owner), look.sum(other(owner), figure));
+    let strays = sum_of(&look.strays(), figure);
     let of = |row: &[u64]| u128::from(row[FIGURES + figure]);
-    let without = |row: Option<&&[u64]>| look.rows.len() > 1 && row.is_some_and(|row| stated + of(row) == sum);
+    let without = |row: Option<&&[u64]>| own.len() > 1 && row.is_some_and(|row| stated + of(row) == sum);
     let holds = [
         stated == sum + 1,
         stated + 1 == sum,
         sum >> 64 > 0 && stated == sum % (1 << 64),
         sum >> 64 > 0 && stated == u128::from(u64::MAX),
         stated % (1 << 32) == sum % (1 << 32) && sum >> 64 == 0,
-        without(look.rows.first()),
-        without(look.rows.last()),
-        look.spare.first().is_some_and(|row| stated == sum + of(row)),
+        without(own.first()),
+        without(own.last()),
+        look.spare.first().is_some_and(|row| stated == sum + of(row) && row[OWNER] == owner),
+        others > 0 && stated == sum + others,
+        strays > 0 && stated == sum + strays,
     ];
-    named(SUMS, holds, |name| Point::Sum(kind, figure, name))
+    named(SUMS, holds, |name| Point::Sum(kind, owner, figure, name))
 }
 
 const OF_THREE: [&str; 3] = ["first", "middle", "last"];
@@ -279,27 +359,42 @@ fn changed(seen: &Seen, kind: Kind) -> Option<Point> {
         _ => match (number - HEAD) / WIDTH {
             row if row >= there => Place::Tail,
             row if row >= claimed => Place::Spare,
-            row => Place::Row(which(row, claimed)?, (number - HEAD) % WIDTH),
+            row => match (number - HEAD) % WIDTH {
+                OWNER => return owner_changed(seen, kind, &book[row_start(row)..row_start(row) + WIDTH]),
+                column if !is_owner(book[row_start(row) + OWNER]) => Place::Stray(column),
+                column => Place::Row(which(row, claimed)?, column),
+            },
         },
     };
     Some(Point::Changed(kind, place, seen.outcome.returned == BOOK))
 }
 
+/// What the first call on a table shows of which one row became another's. Whose it was is told by the totals: theirs that miss its figures.
+fn owner_changed(seen: &Seen, kind: Kind, row: &[u64]) -> Option<Point> {
+    let look = Looked::at(seen.before);
+    let misses = |owner: &u64| look.off().iter().any(|off| off.0 == *owner);
+    let from = OWNERS.into_iter().filter(misses).find(|owner| *owner != row[OWNER]).map_or(NOBODY, Caller::Owner);
+    let figures = row[FIGURES..].iter().any(|figure| *figure > 0);
+    let to = Caller::or_nobody(row[OWNER]);
+    Some(Point::OwnerChanged(kind, from, to, figures, seen.outcome.returned == BOOK))
+}
+
 /// What entering a file shows, by everything that is due.
-fn entering(look: &Looked, paper: &Paper, file_number: u64, rows: usize, number: u64) -> Vec<Point> {
+fn entering(look: &Looked, paper: &Paper, file_number: u64, owner: u64, rows: usize, number: u64) -> Vec<Point> {
     let read = read_number(paper, rows);
-    let causes = causes_of_full(look, paper);
+    let causes = if is_owner(owner) { causes_of_full(look, paper, owner) } else { Vec::new() };
     let mut due = vec![read];
     due.extend((!look.is_book()).then_some(BOOK));
-    due.extend((!look.with(FILE_NUMBER, file_number).is_empty()).then_some(DUPLICATE));
+    due.extend((!is_owner(owner)).then_some(NOENTRY));
+    due.extend((!look.with(owner, FILE_NUMBER, file_number).is_empty()).then_some(DUPLICATE));
     due.extend((!causes.is_empty() || look.free() == 0).then_some(FULL));
     let others = due.into_iter().filter(|other| *other != number && *other != ACCEPTED);
     let mut points: Vec<Point> = others.map(|other| Point::Order(number, other)).collect();
     match number {
         ROOM => points.extend(room(paper, rows)),
-        DUPLICATE => points.extend(duplicate(look, file_number)),
-        FULL => points.extend(full(look, paper, &causes)),
-        ACCEPTED => points.extend(entered(look, paper, file_number, rows)),
+        DUPLICATE => points.extend(duplicate(look, owner, file_number)),
+        FULL => points.extend(full(look, owner, paper, &causes)),
+        ACCEPTED => points.extend(entered(look, paper, file_number, owner, rows)),
         _ => {}
     }
     points
@@ -311,11 +406,20 @@ fn room(paper: &Paper, rows: usize) -> Vec<Point> {
     named(ROOMS, short_tables(paper).map(|length| length == rows), Point::Room)
 }
 
-const DUPLICATES: [&str; 8] =
-    ["first row", "middle row", "last row", "only row", "number 0", "number 2^64 - 1", "another mark", "several rows"];
+const DUPLICATES: [&str; 9] = [
+    "first row",
+    "middle row",
+    "last row",
+    "only row",
+    "number 0",
+    "number 2^64 - 1",
+    "several rows",
+    "the other owner's too",
+    "one of neither's too",
+];
 
-fn duplicate(look: &Looked, file_number: u64) -> Vec<Point> {
-    let having = look.with(FILE_NUMBER, file_number);
+fn duplicate(look: &Looked, owner: u64, file_number: u64) -> Vec<Point> {
+    let having = look.with(owner, FILE_NUMBER, file_number);
     let only = |name| having.len() == 1 && which(having[0], look.rows.len()) == Some(name);
     let holds = [
         only(OF_THREE[0]),
@@ -324,8 +428,9 @@ fn duplicate(look: &Looked, file_number: u64) -> Vec<Point> {
         look.rows.len() == 1,
         file_number == 0,
         file_number == u64::MAX,
-        having.len() == 1 && look.rows[having[0]][MARK] != WRITTEN_MARK,
         having.len() > 1,
+        !look.with(other(owner), FILE_NUMBER, file_number).is_empty(),
+        look.strays().iter().any(|row| row[FILE_NUMBER] == file_number),
     ];
     named(DUPLICATES, holds, Point::Duplicate)
 }
@@ -336,22 +441,22 @@ fn grown_to(look: &Looked, place: usize, more: u128) -> u128 {
 }
 
 /// What a cause of FULL is about: how much there would be with these letters, and how much there may be.
-fn measured(look: &Looked, cause: usize, letters: &[Figures]) -> (u128, u128) {
+fn measured(look: &Looked, owner: u64, cause: usize, letters: &[Figures]) -> (u128, u128) {
     let most = u128::from(u64::MAX);
     match cause {
         CAUSE_ROWS => (look.rows.len() as u128 + letters.len() as u128, look.there as u128),
-        CAUSE_LAST => (grown_to(look, LAST, letters.len() as u128), most),
-        _ => (grown_to(look, TOTALS + cause - 1, sums(letters)[cause - 1]), most),
+        CAUSE_LAST => (grown_to(look, last(owner), letters.len() as u128), most),
+        _ => (grown_to(look, total(owner, cause - 1), sums(letters)[cause - 1]), most),
     }
 }
 
 /// Every cause of FULL that is due, of an accepted file on a book.
-fn causes_of_full(look: &Looked, paper: &Paper) -> Vec<usize> {
+fn causes_of_full(look: &Looked, paper: &Paper, owner: u64) -> Vec<usize> {
     if !look.is_book() {
         return Vec::new();
     }
     let due = |cause: &usize| {
-        let (would_be, most) = measured(look, *cause, &paper.letters);
+        let (would_be, most) = measured(look, owner, *cause, &paper.letters);
         would_be > most
     };
     (0..CAUSES).filter(due).collect()
@@ -360,19 +465,28 @@ fn causes_of_full(look: &Looked, paper: &Paper) -> Vec<usize> {
 const FULLS: [&str; 4] = ["alone", "by one", "with the last letter", "from the start"];
 const JUST_NOT: &str = "just not";
 
-fn full(look: &Looked, paper: &Paper, causes: &[usize]) -> Vec<Point> {
+fn full(look: &Looked, owner: u64, paper: &Paper, causes: &[usize]) -> Vec<Point> {
     let [cause] = *causes else { return Vec::new() };
-    let (would_be, most) = measured(look, cause, &paper.letters);
-    let (before, _) = measured(look, cause, &[]);
-    let (but_last, _) = measured(look, cause, &paper.letters[..paper.letters.len() - 1]);
+    let (would_be, most) = measured(look, owner, cause, &paper.letters);
+    let (before, _) = measured(look, owner, cause, &[]);
+    let (but_last, _) = measured(look, owner, cause, &paper.letters[..paper.letters.len() - 1]);
     let holds = [true, would_be == most + 1, paper.letters.len() > 1 && but_last <= most, before == most];
-    named(FULLS, holds, |name| Point::Full(cause, name))
+    named(FULLS, holds, |name| Point::Full(owner, cause, name))
 }
 
-const NO_DUPLICATES: [&str; 6] =
-    ["behind those claimed", "zeros behind", "the low half", "the high half", "an entry number", "a figure"];
+const NO_DUPLICATES: [&str; 9] = [
+    "behind those claimed",
+    "zeros behind",
+    "the low half",
+    "the high half",
+    "an entry number",
+    "a figure",
+    "owner 2's, entered for owner 1",
+    "owner 1's, entered for owner 2",
+    "one of neither's",
+];
 
-const ENTERED: [&str; 20] = [
+const ENTERED: [&str; 22] = [
     "one letter",
     "two letters",
     "nine letters or more",
@@ -390,14 +504,17 @@ const ENTERED: [&str; 20] = [
     "rows to spare",
     "into zeros",
     "over something",
-    "behind odd marks",
+    "behind a row of neither",
+    "behind the other owner's alone",
+    "with a number that the other has",
     "beside unused numbers",
     "before a part of a row",
 ];
 
-fn entered(look: &Looked, paper: &Paper, file_number: u64, rows: usize) -> Vec<Point> {
+fn entered(look: &Looked, paper: &Paper, file_number: u64, owner: u64, rows: usize) -> Vec<Point> {
     let letters = &paper.letters;
-    let first = look.head(LAST) + 1;
+    let first = look.head(last(owner)) + 1;
+    let others = look.rows_of(other(owner));
     let taken = &look.spare[..letters.len()];
     let enough = 7 * paper.reading.rows.len();
     let ebcdic = Set::of(&paper.bytes) == Set::Ebcdic;
@@ -413,18 +530,20 @@ fn entered(look: &Looked, paper: &Paper, file_number: u64, rows: usize) -> Vec<P
         file_number == u64::MAX,
         first == 1,
         first > 1,
-        look.rows.last().is_some_and(|row| row[NUMBER] != look.head(LAST)),
-        !look.with(NUMBER, first).is_empty(),
+        look.rows_of(owner).last().is_some_and(|row| row[NUMBER] != look.head(last(owner))),
+        !look.with(owner, NUMBER, first).is_empty(),
         rows == enough,
         rows >= enough + 7,
         taken.iter().all(|row| row.iter().all(|number| *number == 0)),
         taken.iter().all(|row| row.iter().any(|number| *number != 0)),
-        look.rows.iter().any(|row| row[MARK] != WRITTEN_MARK),
-        (TOTALS + SIX..HEAD).all(|place| look.head(place) != 0),
+        !look.strays().is_empty(),
+        !others.is_empty() && others.len() == look.rows.len(),
+        others.iter().any(|row| row[NUMBER] == first),
+        OWNERS.into_iter().all(|owner| look.head(unused(owner)) != 0),
         look.book.len() > row_start(look.there),
     ];
     let mut points = named(ENTERED, holds, Point::Entered);
-    points.extend(no_duplicate(look, file_number));
+    points.extend(no_duplicate(look, owner, file_number));
     for figure in 0..SIX {
         let mut figures: Vec<u64> = letters.iter().map(|letter| letter[figure]).filter(|number| *number > 0).collect();
         figures.dedup();
@@ -432,8 +551,11 @@ fn entered(look: &Looked, paper: &Paper, file_number: u64, rows: usize) -> Vec<P
     }
     points.extend(paper.reading.rows.windows(2).filter_map(|pair| credit(paper, ebcdic, pair)));
     for cause in 0..CAUSES {
-        let ((would_be, most), (before, _)) = (measured(look, cause, letters), measured(look, cause, &[]));
-        points.extend((would_be == most && before < most).then_some(Point::Full(cause, JUST_NOT)));
+        let ((would_be, most), (before, _)) =
+            (measured(look, owner, cause, letters), measured(look, owner, cause, &[]));
+        points.extend((would_be == most && before < most).then_some(Point::Full(owner, cause, JUST_NOT)));
+        let (for_the_other, most) = measured(look, other(owner), cause, letters);
+        points.extend((for_the_other > most).then_some(Point::FullForTheOther(owner, cause)));
     }
     points
 }
@@ -446,10 +568,13 @@ fn credit(paper: &Paper, ebcdic: bool, pair: &[Row]) -> Option<Point> {
     (code == 61).then_some(Point::Credit(ebcdic, bundle == 0, debit, pair[1][0] == 50))
 }
 
-fn no_duplicate(look: &Looked, file_number: u64) -> Vec<Point> {
+fn no_duplicate(look: &Looked, owner: u64, file_number: u64) -> Vec<Point> {
     let (low, high) = (file_number % (1 << 32), file_number >> 32);
-    let claimed = |holds: &dyn Fn(&[u64]) -> bool| look.rows.iter().any(|row| holds(row));
-    let behind = look.spare.iter().any(|row| row[FILE_NUMBER] == file_number);
+    let own = look.rows_of(owner);
+    let claimed = |holds: &dyn Fn(&[u64]) -> bool| own.iter().any(|row| holds(row));
+    let behind =
+        look.spare.iter().any(|row| row[FILE_NUMBER] == file_number && (row[OWNER] == owner || file_number == 0));
+    let others = !look.with(other(owner), FILE_NUMBER, file_number).is_empty();
     let holds = [
         file_number > 0 && behind,
         file_number == 0 && behind,
@@ -457,27 +582,36 @@ fn no_duplicate(look: &Looked, file_number: u64) -> Vec<Point> {
         high > 0 && claimed(&|row| row[FILE_NUMBER] >> 32 == high),
         claimed(&|row| row[NUMBER] == file_number),
         file_number > 0 && claimed(&|row| row[FIGURES..].contains(&file_number)),
+        owner == OWNERS[0] && others,
+        owner == OWNERS[1] && others,
+        look.strays().iter().any(|row| row[FILE_NUMBER] == file_number),
     ];
     named(NO_DUPLICATES, holds, Point::NoDuplicate)
 }
 
-const FOUND: [&str; 10] = [
+const FOUND: [&str; 13] = [
     "first row",
     "middle row",
     "last row",
     "only row",
     "number 0",
     "number 2^64 - 1",
-    "another mark",
     "the first of two, side by side",
     "the first of two, apart",
     "and behind those claimed",
+    "owner 1's behind one of owner 2's",
+    "owner 2's behind one of owner 1's",
+    "behind one of neither's",
+    "before one of the other's",
 ];
 
-fn found(look: &Looked, entry_number: u64) -> Vec<Point> {
-    let having = look.with(NUMBER, entry_number);
+fn found(look: &Looked, owner: u64, entry_number: u64) -> Vec<Point> {
+    let having = look.with(owner, NUMBER, entry_number);
+    let others = look.with(other(owner), NUMBER, entry_number);
+    let strays = look.rows[..having[0]].iter().filter(|row| !is_owner(row[OWNER]));
     let at = |name| which(having[0], look.rows.len()) == Some(name);
     let unlike = having.len() == 2 && look.rows[having[0]][FILE_NUMBER..] != look.rows[having[1]][FILE_NUMBER..];
+    let behind_the_others = others.iter().any(|row| *row < having[0]);
     let holds = [
         at(OF_THREE[0]),
         at(OF_THREE[1]),
@@ -485,15 +619,18 @@ fn found(look: &Looked, entry_number: u64) -> Vec<Point> {
         look.rows.len() == 1,
         entry_number == 0,
         entry_number == u64::MAX,
-        look.rows[having[0]][MARK] != WRITTEN_MARK,
         unlike && having[0] + 1 == having[1],
         unlike && having[0] + 1 < having[1],
         look.spare.iter().any(|row| row[NUMBER] == entry_number),
+        behind_the_others && owner == OWNERS[0],
+        behind_the_others && owner == OWNERS[1],
+        strays.into_iter().any(|row| row[NUMBER] == entry_number),
+        others.iter().any(|row| *row > having[0]),
     ];
     named(FOUND, holds, Point::Found)
 }
 
-const NOT_FOUND: [&str; 8] = [
+const NOT_FOUND: [&str; 12] = [
     "empty book",
     "number 0",
     "one above the last",
@@ -502,36 +639,49 @@ const NOT_FOUND: [&str; 8] = [
     "the high half",
     "a file number",
     "number 2^64 - 1",
+    "owner 2's, asked for owner 1",
+    "owner 1's, asked for owner 2",
+    "one of neither's",
+    "no entry of the owner's in a book of the other's",
 ];
 
-fn not_found(look: &Looked, entry_number: u64) -> Vec<Point> {
+fn not_found(look: &Looked, owner: u64, entry_number: u64) -> Vec<Point> {
     let (low, high) = (entry_number % (1 << 32), entry_number >> 32);
-    let claimed = |holds: &dyn Fn(&[u64]) -> bool| look.rows.iter().any(|row| holds(row));
+    let own = look.rows_of(owner);
+    let claimed = |holds: &dyn Fn(&[u64]) -> bool| own.iter().any(|row| holds(row));
+    let others = !look.with(other(owner), NUMBER, entry_number).is_empty();
     let holds = [
         look.rows.is_empty(),
-        entry_number == 0 && !look.rows.is_empty(),
-        look.head(LAST).checked_add(1) == Some(entry_number) && !look.rows.is_empty(),
-        look.spare.iter().any(|row| row[NUMBER] == entry_number),
+        entry_number == 0 && !own.is_empty(),
+        look.head(last(owner)).checked_add(1) == Some(entry_number) && !own.is_empty(),
+        look.spare.iter().any(|row| row[NUMBER] == entry_number && row[OWNER] == owner),
         claimed(&|row| row[NUMBER] % (1 << 32) == low),
         high > 0
             && claimed(&|row| row[NUMBER] >> 32 > 0 && row[NUMBER] >> 32 != high && row[NUMBER] << 32 == low << 32),
         claimed(&|row| row[FILE_NUMBER] == entry_number),
         entry_number == u64::MAX,
+        owner == OWNERS[0] && others,
+        owner == OWNERS[1] && others,
+        look.strays().iter().any(|row| row[NUMBER] == entry_number),
+        own.is_empty() && others,
     ];
     named(NOT_FOUND, holds, Point::NotFound)
 }
 
-const TOTALS_OF: [&str; 3] = ["no row", "one row", "several rows"];
+const TOTALS_OF: [&str; 5] = ["no row", "one row", "several rows", "beside the other's", "beside rows of neither"];
 
-fn totals(look: &Looked) -> Vec<Point> {
-    let rows = look.rows.len();
-    let mut points = named(TOTALS_OF, [rows == 0, rows == 1, rows > 1], Point::Totals);
-    let brim = (0..SIX).filter(|figure| rows > 1 && look.head(TOTALS + figure) == u64::MAX);
-    points.extend(brim.map(Point::Brim));
+fn totals(look: &Looked, owner: u64) -> Vec<Point> {
+    let rows = look.rows_of(owner).len();
+    let some = |rows: &[&[u64]]| (0..SIX).any(|figure| sum_of(rows, figure) > 0);
+    let (others, strays) = (look.rows_of(other(owner)), look.strays());
+    let holds = [rows == 0, rows == 1, rows > 1, rows > 0 && some(&others), rows > 0 && some(&strays)];
+    let mut points = named(TOTALS_OF, holds, Point::Totals);
+    let brim = (0..SIX).filter(|figure| rows > 1 && look.head(total(owner, *figure)) == u64::MAX);
+    points.extend(brim.map(|figure| Point::Brim(owner, figure)));
     points
 }
 
-/// The numbers that each call can give.
+/// The numbers that each call can give to an owner.
 fn answers(kind: Kind) -> Vec<u64> {
     match kind {
         Kind::Enter => REFUSALS.into_iter().chain([ACCEPTED, ROOM, DUPLICATE, FULL, BOOK]).collect(),
@@ -540,34 +690,58 @@ fn answers(kind: Kind) -> Vec<u64> {
     }
 }
 
-/// Whether BOOK is about a number of the head, or of a row.
-fn judged_in_head(place: usize) -> bool {
-    place == CLAIMED || (TOTALS..TOTALS + SIX).contains(&place)
+/// Every answer of a kind of call, to either owner and to numbers that are none.
+fn demanded_answers(kind: Kind) -> Vec<Point> {
+    let to = |caller: Caller| match caller {
+        Caller::Owner(_) => answers(kind),
+        Caller::Nobody(_) => vec![NOENTRY, BOOK],
+    };
+    let points = |caller| to(caller).into_iter().map(move |number| Point::Answer(kind, number, caller));
+    Caller::all().into_iter().flat_map(points).collect()
+}
+
+/// What a changed owner of a row shows; nothing is off where the row has no figures, and then nobody can tell whose it was.
+fn demanded_owner_changes(kind: Kind) -> Vec<Point> {
+    let callers = [Caller::Owner(OWNERS[0]), Caller::Owner(OWNERS[1]), NOBODY];
+    let mut points = Vec::new();
+    for (from, to) in OWNER_CHANGES {
+        let (from, to) = (callers[from], callers[to]);
+        points.push(Point::OwnerChanged(kind, from, to, true, from != to));
+        points.push(Point::OwnerChanged(kind, NOBODY, to, false, false));
+    }
+    points.sort();
+    points.dedup();
+    points
 }
 
 /// All points of a kind of call that turn on its table.
 fn demanded_of_tables(kind: Kind) -> Vec<Point> {
-    let mut points: Vec<Point> = answers(kind).into_iter().map(|number| Point::Answer(kind, number)).collect();
+    let mut points = demanded_answers(kind);
     points.extend(CLAIMS.map(|how| Point::Claim(kind, how)));
-    for figure in 0..SIX {
-        points.extend(SUMS.map(|how| Point::Sum(kind, figure, how)));
+    for owner in OWNERS {
+        (0..SIX).for_each(|figure| points.extend(SUMS.map(|how| Point::Sum(kind, owner, figure, how))));
+        let callers = [Caller::Owner(OWNERS[0]), Caller::Owner(OWNERS[1]), NOBODY];
+        points.extend(callers.map(|caller| Point::Whose(kind, owner, caller)));
     }
-    points.extend((0..HEAD).map(|place| Point::Changed(kind, Place::Head(place), judged_in_head(place))));
+    points.extend(demanded_owner_changes(kind));
+    points.extend((0..HEAD).map(|place| Point::Changed(kind, Place::Head(place), is_judged(place))));
     for row in OF_THREE {
-        points.extend((0..WIDTH).map(|place| Point::Changed(kind, Place::Row(row, place), place >= FIGURES)));
+        points.extend((1..WIDTH).map(|place| Point::Changed(kind, Place::Row(row, place), place >= FIGURES)));
     }
+    points.extend((1..WIDTH).map(|place| Point::Changed(kind, Place::Stray(place), false)));
     points.extend([Place::Spare, Place::Tail].map(|place| Point::Changed(kind, place, false)));
     points.extend((0..SHORT).map(|length| Point::Short(kind, length, false)));
     points.extend((1..SHORT).map(|length| Point::Short(kind, length, true)));
-    points.extend((0..TOTALS + SIX).filter(|place| *place != LAST).map(|place| Point::ShortEnd(kind, place)));
+    points.extend((0..HEAD).filter(|place| is_judged(*place)).map(|place| Point::ShortEnd(kind, place)));
     points
 }
 
 /// All points that a whole run is to meet.
 pub fn demanded() -> Vec<Point> {
     let mut points: Vec<Point> = KINDS.into_iter().flat_map(demanded_of_tables).collect();
-    for cause in 0..CAUSES {
-        points.extend(FULLS.into_iter().chain([JUST_NOT]).map(|edge| Point::Full(cause, edge)));
+    for (owner, cause) in OWNERS.into_iter().flat_map(|owner| (0..CAUSES).map(move |cause| (owner, cause))) {
+        points.extend(FULLS.into_iter().chain([JUST_NOT]).map(|edge| Point::Full(owner, cause, edge)));
+        points.extend((cause != CAUSE_ROWS).then_some(Point::FullForTheOther(owner, cause)));
     }
     points.extend(DUPLICATES.map(Point::Duplicate));
     points.extend(NO_DUPLICATES.map(Point::NoDuplicate));
@@ -575,7 +749,7 @@ pub fn demanded() -> Vec<Point> {
     points.extend(FOUND.map(Point::Found));
     points.extend(NOT_FOUND.map(Point::NotFound));
     points.extend(TOTALS_OF.map(Point::Totals));
-    points.extend((0..SIX).map(Point::Brim));
+    points.extend(OWNERS.into_iter().flat_map(|owner| (0..SIX).map(move |figure| Point::Brim(owner, figure))));
     points.extend(ENTERED.map(Point::Entered));
     points.extend((0..SIX).map(Point::Unlike));
     for sort in 0..16 {
@@ -585,5 +759,6 @@ pub fn demanded() -> Vec<Point> {
     points.extend(ROOMS.map(Point::Room));
     points.extend(LATER.map(Point::Later));
     points.extend(GROWN.map(Point::Grown));
+    points.extend(APART.map(Point::Apart));
     points
 }

@@ -3,16 +3,19 @@
 
 use peer_reader::random::Random;
 
-use crate::layout::{row_start, CLAIMED, FIGURES, FILE_NUMBER, HEAD, LAST, NUMBER, SIX, TOTALS, WIDTH};
+use crate::layout::{
+    is_owner, last, row_start, total, unused, CLAIMED, FIGURES, FILE_NUMBER, HEAD, NUMBER, OWNER, OWNERS, SIX, WIDTH,
+};
 
 pub type Row = [u64; WIDTH];
 
 /// What stands in a table, from its head to the numbers behind its last whole row.
 #[derive(Clone, Debug)]
 pub struct Sheet {
-    pub last: u64,
-    /// The numbers of the head that are not looked at.
-    pub unused: [u64; HEAD - TOTALS - SIX],
+    /// The last entry number given to each owner.
+    pub last: [u64; OWNERS.len()],
+    /// The number of each owner's part of the head that is not looked at.
+    pub unused: [u64; OWNERS.len()],
     /// The rows claimed.
     pub rows: Vec<Row>,
     /// The rows behind those claimed.
@@ -87,7 +90,47 @@ fn column(random: &mut Random, count: usize) -> Vec<u64> {
     }
 }
 
-/// Entry numbers of rows and the last number given: mostly as entering gives them, some anything at all.
+/// A number that is no owner.
+pub fn stranger(random: &mut Random) -> u64 {
+    match random.below(8) {
+        0 | 1 => 0,
+        2 | 3 => 3,
+        4 | 5 => u64::MAX,
+        6 => random.pick(&OWNERS) | 1 << random.between(32, 63),
+        _ => 4 + random.draw() % 1_000,
+    }
+}
+
+/// An owner, and seldom a number that is none.
+pub fn caller(random: &mut Random) -> u64 {
+    match random.percent(12) {
+        true => stranger(random),
+        false => random.pick(&OWNERS),
+    }
+}
+
+/// The owners of so many rows: one alone, both mixed, or both and rows of neither.
+fn owners(random: &mut Random, count: usize) -> Vec<u64> {
+    let (sort, one) = (random.below(8), random.pick(&OWNERS));
+    let owner = |random: &mut Random| match sort {
+        0 => one,
+        1..=3 => random.pick(&OWNERS),
+        _ if random.percent(25) => stranger(random),
+        _ => random.pick(&OWNERS),
+    };
+    (0..count).map(|_| owner(random)).collect()
+}
+
+/// Numbers in some order.
+pub fn mixed(random: &mut Random, numbers: &[u64]) -> Vec<u64> {
+    let mut mixed = Vec::new();
+    for number in numbers {
+        mixed.insert(random.below(mixed.len() + 1), *number);
+    }
+    mixed
+}
+
+/// Entry numbers of an owner's rows and the last number given to it: mostly as entering gives them, some anything at all.
 fn numbers(random: &mut Random, count: usize) -> (Vec<u64>, u64) {
     let first = match random.below(6) {
         0..=3 => 1,
@@ -105,33 +148,51 @@ fn numbers(random: &mut Random, count: usize) -> (Vec<u64>, u64) {
 impl Sheet {
     /// A sound book with so many rows claimed and so many behind them.
     pub fn any(random: &mut Random, rows: usize, spare: usize) -> Sheet {
-        let (numbers, last) = numbers(random, rows);
-        let odd_marks = random.percent(30);
+        let owners = owners(random, rows);
+        Sheet::of(random, &owners, spare)
+    }
+
+    /// A sound book with rows of these owners and so many behind them.
+    pub fn of(random: &mut Random, owners: &[u64], spare: usize) -> Sheet {
         let unused_junk = random.percent(50);
-        let mut file_number = random.below(100) as u64;
-        let mut lines = Vec::new();
-        for number in numbers {
-            // A file of several letters has several rows.
-            file_number += if random.percent(30) { 0 } else { 1 + random.below(9) as u64 };
-            let mark = if odd_marks { junk(random) } else { 1 };
-            lines.push([mark, number, file_number, 0, 0, 0, 0, 0, 0]);
-        }
         let tail = random.below(WIDTH);
         let mut sheet = Sheet {
-            last,
+            last: [0; OWNERS.len()],
             unused: std::array::from_fn(|_| if unused_junk { junk(random) } else { 0 }),
-            rows: lines,
+            rows: owners.iter().map(|owner| [*owner, random.below(9) as u64, 0, 0, 0, 0, 0, 0, 0]).collect(),
             spare: vec![[0; WIDTH]; spare],
             tail: (0..tail).map(|_| junk(random)).collect(),
         };
+        sheet.give_numbers(random);
         (0..SIX).for_each(|figure| {
-            let figures = column(random, rows);
+            let figures = column(random, owners.len());
             sheet.put_column(figure, &figures);
         });
         if random.percent(60) {
             sheet.spare.iter_mut().for_each(|row| *row = junk_row(random));
         }
         sheet
+    }
+
+    /// Entry numbers for each owner's rows, and file numbers for all.
+    fn give_numbers(&mut self, random: &mut Random) {
+        for owner in OWNERS {
+            let rows = self.rows_of(owner);
+            let (numbers, last) = numbers(random, rows.len());
+            rows.into_iter().zip(numbers).for_each(|(row, number)| self.rows[row][NUMBER] = number);
+            self.last[owner as usize - 1] = last;
+        }
+        let mut file_number = random.below(100) as u64;
+        for row in &mut self.rows {
+            // A file of several letters has several rows, and both owners may have the same number.
+            file_number += if random.percent(30) { 0 } else { 1 + random.below(9) as u64 };
+            row[FILE_NUMBER] = file_number;
+        }
+    }
+
+    /// Which rows are an owner's.
+    pub fn rows_of(&self, owner: u64) -> Vec<usize> {
+        (0..self.rows.len()).filter(|row| self.rows[*row][OWNER] == owner).collect()
     }
 
     /// Gives each row its figure.
@@ -141,24 +202,31 @@ impl Sheet {
         }
     }
 
-    /// The rows get figures that come to this running total; there are rows.
-    pub fn put_total(&mut self, random: &mut Random, figure: usize, total: u64) {
-        let figures = split(random, total, self.rows.len());
-        self.put_column(figure, &figures);
+    /// An owner's rows get figures that come to this running total; there are such rows.
+    pub fn put_total(&mut self, random: &mut Random, owner: u64, figure: usize, total: u64) {
+        let rows = self.rows_of(owner);
+        let figures = split(random, total, rows.len());
+        rows.into_iter().zip(figures).for_each(|(row, number)| self.rows[row][FIGURES + figure] = number);
     }
 
-    /// What a figure of all rows comes to.
-    pub fn sum(&self, figure: usize) -> u128 {
-        self.rows.iter().map(|row| u128::from(row[FIGURES + figure])).sum()
+    /// What a figure of an owner's rows comes to.
+    pub fn sum(&self, owner: u64, figure: usize) -> u128 {
+        self.rows_of(owner).into_iter().map(|row| u128::from(self.rows[row][FIGURES + figure])).sum()
     }
 
-    /// The rows get file numbers of their own, from 101 on, and entry numbers from 1 on.
+    /// The rows get file numbers of their own, from 101 on, and entry numbers from 1 on for each owner; those of neither from 51 on.
     pub fn number_plainly(&mut self) {
+        let mut strangers = 50;
+        self.last = [0; OWNERS.len()];
         for (at, row) in self.rows.iter_mut().enumerate() {
-            row[NUMBER] = at as u64 + 1;
+            let last = match is_owner(row[OWNER]) {
+                true => &mut self.last[row[OWNER] as usize - 1],
+                false => &mut strangers,
+            };
+            *last += 1;
+            row[NUMBER] = *last;
             row[FILE_NUMBER] = at as u64 + 101;
         }
-        self.last = self.rows.len() as u64;
     }
 
     /// A file number that no row has, claimed or not.
@@ -178,9 +246,11 @@ impl Sheet {
     pub fn lay(&self) -> Vec<u64> {
         let mut table = vec![0; HEAD];
         table[CLAIMED] = self.rows.len() as u64;
-        table[LAST] = self.last;
-        (0..SIX).for_each(|figure| table[TOTALS + figure] = self.sum(figure) as u64);
-        table[TOTALS + SIX..].copy_from_slice(&self.unused);
+        for (at, owner) in OWNERS.into_iter().enumerate() {
+            table[last(owner)] = self.last[at];
+            (0..SIX).for_each(|figure| table[total(owner, figure)] = self.sum(owner, figure) as u64);
+            table[unused(owner)] = self.unused[at];
+        }
         self.rows.iter().chain(&self.spare).for_each(|row| table.extend(row));
         debug_assert_eq!(table.len(), row_start(self.rows.len() + self.spare.len()));
         table.extend(&self.tail);

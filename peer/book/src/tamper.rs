@@ -6,20 +6,33 @@ use peer_reader::random::Random;
 use crate::call::{Call, History, Kind, KINDS};
 use crate::files::{ample, refused_paper, rich_paper, short_tables, sound_paper, REFUSALS};
 use crate::layout::{
-    row_start, rows_there, BOOK, CLAIMED, DUPLICATE, FIGURES, FILE_NUMBER, FULL, HEAD, LAST, MARK, NUMBER, ROOM, SIX,
-    TOTALS, WIDTH,
+    is_judged, last, other, row_start, rows_there, total, BOOK, CLAIMED, DUPLICATE, FIGURES, FILE_NUMBER, FULL, HEAD,
+    NOENTRY, NUMBER, OWNER, OWNERS, ROOM, SIX, WIDTH,
 };
 use crate::paper::Paper;
-use crate::sheet::{another, junk, split, Sheet};
+use crate::sheet::{another, caller, junk, mixed, stranger, Sheet};
 
 /// Free rows behind the claimed ones, so that a file of one or two letters enters.
 const SOME_FREE: (usize, usize) = (2, 5);
 
+/// Free rows for a small file.
+fn some_free(random: &mut Random) -> usize {
+    random.between(SOME_FREE.0, SOME_FREE.1)
+}
+
 /// A sound book with so many rows claimed, the least and the most, and some free.
 fn sound_sheet(random: &mut Random, rows: (usize, usize)) -> Sheet {
     let rows = random.between(rows.0, rows.1);
-    let spare = random.between(SOME_FREE.0, SOME_FREE.1);
+    let spare = some_free(random);
     Sheet::any(random, rows, spare)
+}
+
+/// A sound book with so many rows of this owner, of the other and of neither, mixed, and some free.
+fn mixed_sheet(random: &mut Random, owner: u64, rows: [usize; 3]) -> Sheet {
+    let nobody = stranger(random);
+    let owners = [vec![owner; rows[0]], vec![other(owner); rows[1]], vec![nobody; rows[2]]].concat();
+    let (owners, spare) = (mixed(random, &owners), some_free(random));
+    Sheet::of(random, &owners, spare)
 }
 
 /// A history of one call, and sometimes a few more of any kind.
@@ -39,6 +52,7 @@ fn any_call(random: &mut Random, history: &mut History) -> Call {
     let row = random.below(rows_there(history.book.len()).max(1));
     let near = |column: usize| history.book.get(row_start(row) + column).copied();
     let number = random.below(5) as u64;
+    let owner = near(OWNER).filter(|_| random.percent(40)).unwrap_or_else(|| caller(random));
     match random.below(3) {
         0 => {
             let kept = near(FILE_NUMBER).filter(|_| random.percent(30));
@@ -46,24 +60,28 @@ fn any_call(random: &mut Random, history: &mut History) -> Call {
             history.papers.push(sound_paper(random, (1, 2)));
             let paper = history.papers.len() - 1;
             let rows = ample(random, &history.papers[paper]);
-            Call::Enter { paper, file_number, rows }
+            Call::Enter { paper, file_number, owner, rows }
         }
-        1 => Call::Find { entry_number: near(NUMBER).filter(|_| random.percent(70)).unwrap_or(number) },
-        _ => Call::Totals,
+        1 => {
+            let entry_number = near(NUMBER).filter(|_| random.percent(70)).unwrap_or(number);
+            Call::Find { owner, entry_number }
+        }
+        _ => Call::Totals { owner },
     }
 }
 
 /// A call of this kind that a sound book would mostly answer with 0, put to a table.
-fn of_kind(random: &mut Random, shape: &'static str, kind: Kind, sheet: &Sheet, book: Vec<u64>) -> History {
+fn of_kind(random: &mut Random, shape: &'static str, kind: Kind, owner: u64, sheet: &Sheet, book: Vec<u64>) -> History {
     let paper = sound_paper(random, (1, 2));
     let rows = ample(random, &paper);
     let call = match kind {
-        Kind::Enter => Call::Enter { paper: 0, file_number: sheet.fresh(random), rows },
+        Kind::Enter => Call::Enter { paper: 0, file_number: sheet.fresh(random), owner, rows },
         Kind::Find => {
-            let row = sheet.rows.get(random.below(sheet.rows.len()));
-            Call::Find { entry_number: row.map_or(1, |row| row[NUMBER]) }
+            let own = sheet.rows_of(owner);
+            let row = own.get(random.below(own.len()));
+            Call::Find { owner, entry_number: row.map_or(1, |row| sheet.rows[*row][NUMBER]) }
         }
-        Kind::Totals => Call::Totals,
+        Kind::Totals => Call::Totals { owner },
     };
     let papers = if kind == Kind::Enter { vec![paper] } else { Vec::new() };
     history(random, shape, book, papers, call)
@@ -71,37 +89,77 @@ fn of_kind(random: &mut Random, shape: &'static str, kind: Kind, sheet: &Sheet, 
 
 /// A sound book but for one number, which is another.
 fn with_changed(random: &mut Random, shape: &'static str, kind: Kind, sheet: &Sheet, place: usize) -> History {
+    let owner = caller(random);
     let mut book = sheet.lay();
     book[place] = another(random, book[place]);
-    History { changed: Some(place), ..of_kind(random, shape, kind, sheet, book) }
+    History { changed: Some(place), ..of_kind(random, shape, kind, owner, sheet, book) }
 }
 
 /// One number of the head changed, by turns each.
 pub fn head(random: &mut Random, turn: usize) -> History {
     let sheet = sound_sheet(random, (1, 6));
-    with_changed(random, "head", KINDS[turn / HEAD % 3], &sheet, turn % HEAD)
+    with_changed(random, "head", KINDS[turn / HEAD % KINDS.len()], &sheet, turn % HEAD)
 }
 
-/// One number of the first, a middle or the last claimed row changed, by turns each.
+/// One number but the owner of the first, a middle or the last claimed row changed, by turns each, in a row of either owner or of neither.
 pub fn row(random: &mut Random, turn: usize) -> History {
-    let sheet = sound_sheet(random, (3, 7));
-    let (column, of_three) = (turn % WIDTH, turn / WIDTH % 3);
+    const COLUMNS: usize = WIDTH - 1;
+    let (column, of_three) = (1 + turn % COLUMNS, turn / COLUMNS % 3);
+    let kind = KINDS[turn / COLUMNS / 3 % KINDS.len()];
+    let mut sheet = sound_sheet(random, (3, 7));
     let row = [0, random.between(1, sheet.rows.len() - 2), sheet.rows.len() - 1][of_three];
-    with_changed(random, "row", KINDS[turn / WIDTH / 3 % 3], &sheet, row_start(row) + column)
+    sheet.rows[row][OWNER] = [OWNERS[0], OWNERS[1], stranger(random)][turn / COLUMNS / 3 / KINDS.len() % 3];
+    with_changed(random, "row", kind, &sheet, row_start(row) + column)
+}
+
+/// How a row's owner may change: from either owner or none to another.
+pub const OWNER_CHANGES: [(usize, usize); 7] = [(0, 1), (0, 2), (1, 0), (1, 2), (2, 0), (2, 1), (2, 2)];
+
+/// A row is another's than it was when the totals were added up; some rows have no figures, so that nothing is off.
+pub fn owner(random: &mut Random, turn: usize) -> History {
+    let (from, to) = OWNER_CHANGES[turn % OWNER_CHANGES.len()];
+    let (bare, kind) = (turn / OWNER_CHANGES.len() % 2 == 1, KINDS[turn / OWNER_CHANGES.len() / 2 % KINDS.len()]);
+    let mut sheet = sound_sheet(random, (1, 6));
+    let row = random.below(sheet.rows.len());
+    let nobody = stranger(random);
+    let owners = [OWNERS[0], OWNERS[1], nobody];
+    sheet.rows[row][OWNER] = owners[from];
+    (0..SIX).for_each(|figure| sheet.rows[row][FIGURES + figure] = 0);
+    if !bare {
+        sheet.rows[row][FIGURES + random.below(SIX)] = 1 + random.draw() % 1_000_000;
+    }
+    let mut book = sheet.lay();
+    let place = row_start(row) + OWNER;
+    book[place] = if from == to { nobody ^ 1 << 20 } else { owners[to] };
+    let caller = caller(random);
+    History { changed: Some(place), ..of_kind(random, "owner", kind, caller, &sheet, book) }
+}
+
+/// The sorts of numbers that are no owner, which calls come with.
+pub const STRANGERS: usize = 4;
+
+/// A call with a number that is no owner, though some row has it for one, and what the call asks for.
+pub fn strange(random: &mut Random, turn: usize) -> History {
+    let owner = [0, 3, u64::MAX, random.pick(&OWNERS) | 1 << random.between(32, 63)][turn % STRANGERS];
+    let mut sheet = sound_sheet(random, (2, 5));
+    let row = random.below(sheet.rows.len());
+    sheet.rows[row][OWNER] = owner;
+    sheet.number_plainly();
+    of_kind(random, "strange", KINDS[turn / STRANGERS % KINDS.len()], owner, &sheet, sheet.lay())
 }
 
 /// A number of a row behind those claimed changed, or of those behind the last row.
 pub fn behind(random: &mut Random, turn: usize) -> History {
     let mut sheet = sound_sheet(random, (0, 5));
     let first = row_start(sheet.rows.len());
-    let place = match turn / 3 % 2 {
+    let place = match turn / KINDS.len() % 2 {
         0 => first + random.below(WIDTH * sheet.spare.len()),
         _ => {
             sheet.tail = vec![junk(random); random.between(1, WIDTH - 1)];
             first + WIDTH * sheet.spare.len() + random.below(sheet.tail.len())
         }
     };
-    with_changed(random, "behind", KINDS[turn % 3], &sheet, place)
+    with_changed(random, "behind", KINDS[turn % KINDS.len()], &sheet, place)
 }
 
 /// What 9 is to be multiplied with to make 1, but for 2^64.
@@ -130,48 +188,52 @@ pub fn claim(random: &mut Random, turn: usize) -> History {
         _ => book[CLAIMED] | 1 << 63,
     };
     book[CLAIMED] = claimed;
-    of_kind(random, "claim", KINDS[turn / CLAIMS % 3], &sheet, book)
+    let owner = caller(random);
+    of_kind(random, "claim", KINDS[turn / CLAIMS % KINDS.len()], owner, &sheet, book)
 }
 
-/// How a running total is not the sum of its rows.
-pub const SUMS: usize = 8;
+/// How a running total is not the sum of its owner's rows.
+pub const SUMS: usize = 10;
 
 pub fn sum(random: &mut Random, turn: usize) -> History {
-    let (how, figure) = (turn % SUMS, turn / SUMS % SIX);
-    let mut sheet = sound_sheet(random, (2, 6));
-    // Every row has something, and the row behind too.
+    let (how, figure, owner) = (turn % SUMS, turn / SUMS % SIX, OWNERS[turn / SUMS / SIX % 2]);
+    let own = random.between(2, 4);
+    let mut sheet = mixed_sheet(random, owner, [own, 1, 1]);
+    // Every row has something, and the row behind too, which is the owner's.
     let figures: Vec<u64> = sheet.rows.iter().map(|_| 1 + random.draw() % 1_000_000).collect();
     sheet.put_column(figure, &figures);
+    sheet.spare[0][OWNER] = owner;
     sheet.spare[0][FIGURES + figure] = 1 + random.draw() % 1_000;
+    let own = sheet.rows_of(owner);
     if how == 2 || how == 3 {
         let past = random.below(1_000) as u64;
-        let figures = split(random, u64::MAX, sheet.rows.len());
-        sheet.put_column(figure, &figures);
-        let row = (0..sheet.rows.len()).find(|row| figures[*row] < u64::MAX - 1_000).expect("two rows cannot both");
-        sheet.rows[row][FIGURES + figure] += 1 + past;
+        sheet.put_total(random, owner, figure, u64::MAX);
+        let low = own.iter().find(|row| sheet.rows[**row][FIGURES + figure] < u64::MAX - 1_000);
+        sheet.rows[*low.expect("two rows cannot both")][FIGURES + figure] += 1 + past;
     }
-    let total = sheet.sum(figure) as u64;
-    let of = |row: &[u64; WIDTH]| row[FIGURES + figure];
+    let stated = sheet.sum(owner, figure) as u64;
+    let of = |row: usize| sheet.rows[row][FIGURES + figure];
+    let nobody = sheet.rows.iter().find(|row| !OWNERS.contains(&row[OWNER])).expect("a row of neither");
     let stated = match how {
-        0 => total + 1,
-        1 => total - 1,
-        2 => total, // what 64 bits leave of it
+        0 => stated + 1,
+        1 => stated - 1,
+        2 => stated, // what 64 bits leave of it
         3 => u64::MAX,
-        4 => total ^ (1 << random.between(32, 63)),
-        5 => total - of(&sheet.rows[0]),
-        6 => total - of(&sheet.rows[sheet.rows.len() - 1]),
-        _ => total + of(&sheet.spare[0]),
+        4 => stated ^ (1 << random.between(32, 63)),
+        5 => stated - of(own[0]),
+        6 => stated - of(own[own.len() - 1]),
+        7 => stated + sheet.spare[0][FIGURES + figure],
+        8 => stated + sheet.sum(other(owner), figure) as u64,
+        _ => stated + nobody[FIGURES + figure],
     };
     let mut book = sheet.lay();
-    book[TOTALS + figure] = stated;
-    of_kind(random, "sum", KINDS[turn / SUMS / SIX % 3], &sheet, book)
+    book[total(owner, figure)] = stated;
+    let caller = caller(random);
+    of_kind(random, "sum", KINDS[turn / SUMS / SIX / 2 % KINDS.len()], caller, &sheet, book)
 }
 
 /// The lengths of short tables: none has more than one row.
 pub const SHORT: usize = 31;
-
-/// The numbers of the head that BOOK is about.
-const JUDGED: [usize; 7] = [0, 2, 3, 4, 5, 6, 7];
 
 /// Tables of every short length, sound and not.
 pub fn short(random: &mut Random, turn: usize) -> History {
@@ -181,7 +243,7 @@ pub fn short(random: &mut Random, turn: usize) -> History {
     let mut book = sheet.lay();
     book.resize(HEAD + 2 * WIDTH, 7);
     book.truncate(length);
-    let there: Vec<usize> = JUDGED.into_iter().filter(|place| *place < length).collect();
+    let there: Vec<usize> = (0..length.min(HEAD)).filter(|place| is_judged(*place)).collect();
     if off && !there.is_empty() {
         let place = match there[there.len() - 1] {
             last if last + 1 == length || random.percent(50) => last,
@@ -192,7 +254,8 @@ pub fn short(random: &mut Random, turn: usize) -> History {
             _ => another(random, book[place]),
         };
     }
-    of_kind(random, "short", KINDS[turn / SHORT / 2 % 3], &sheet, book)
+    let owner = caller(random);
+    of_kind(random, "short", KINDS[turn / SHORT / 2 % KINDS.len()], owner, &sheet, book)
 }
 
 /// The causes of FULL: rows, the six running totals, the last number.
@@ -200,36 +263,39 @@ pub const CAUSES: usize = 2 + SIX;
 pub const CAUSE_ROWS: usize = 0;
 pub const CAUSE_LAST: usize = 1 + SIX;
 
-/// By one; not, by one; the first letters fit; from the start.
-pub const EDGES: usize = 4;
+/// By one; not, by one; the first letters fit; from the start; the other owner's, so that it is not (rows are both owners').
+pub const EDGES: usize = 5;
+const EDGE_OF_THE_OTHER: usize = 4;
 
 /// A file that makes a book full for one cause, or just does not.
 pub fn full(random: &mut Random, turn: usize) -> History {
-    let (cause, edge) = (turn % CAUSES, turn / CAUSES % EDGES);
+    let (cause, edge, owner) = (turn % CAUSES, turn / CAUSES % EDGES, OWNERS[turn / CAUSES / EDGES % 2]);
     let figure = cause.wrapping_sub(1);
     let letters = if edge >= 2 { (2, 4) } else { (1, 4) };
     let paper = rich_paper(random, letters, |letters| {
         figure >= SIX || letters.iter().all(|letter| letter[figure] > 0 && letter[figure] < 1 << 60)
     });
     let count = paper.letters.len() as u64;
-    let mut sheet = sound_sheet(random, (1, 4));
+    let rows = [random.between(1, 3), random.between(1, 2), random.below(2)];
+    let mut sheet = mixed_sheet(random, owner, rows);
     // Nothing but the one cause.
     sheet.number_plainly();
-    (0..SIX).for_each(|figure| sheet.put_column(figure, &[3; 4]));
-    let spare = [count - 1, count, count - 1, 0];
+    (0..SIX).for_each(|figure| sheet.put_column(figure, &[3; 6]));
+    let spare = [count - 1, count, count - 1, 0, count - 1];
     let free = if cause == CAUSE_ROWS { spare[edge] } else { count + random.draw() % 3 };
     sheet.spare = vec![[junk(random); WIDTH]; free as usize];
+    let whose = if edge == EDGE_OF_THE_OTHER { other(owner) } else { owner };
     match cause {
         CAUSE_ROWS => {}
-        CAUSE_LAST => sheet.last = u64::MAX - [count - 1, count, 1, 0][edge],
+        CAUSE_LAST => sheet.last[whose as usize - 1] = u64::MAX - [count - 1, count, 1, 0, 0][edge],
         _ => {
             let sum = paper.sums()[figure] as u64;
             let last_letter = paper.letters[paper.letters.len() - 1][figure];
-            let total = u64::MAX - [sum - 1, sum, sum - last_letter, 0][edge];
-            sheet.put_total(random, figure, total);
+            let total = u64::MAX - [sum - 1, sum, sum - last_letter, 0, 0][edge];
+            sheet.put_total(random, whose, figure, total);
         }
     }
-    entering(random, "full", &sheet, sheet.lay(), paper, None)
+    entering(random, "full", &sheet, paper, owner, None)
 }
 
 /// A file entered with room for its rows, under this number or a new one.
@@ -237,13 +303,13 @@ fn entering(
     random: &mut Random,
     shape: &'static str,
     sheet: &Sheet,
-    book: Vec<u64>,
     paper: Paper,
+    owner: u64,
     number: Option<u64>,
 ) -> History {
     let rows = ample(random, &paper);
     let file_number = number.unwrap_or_else(|| sheet.fresh(random));
-    history(random, shape, book, vec![paper], Call::Enter { paper: 0, file_number, rows })
+    history(random, shape, sheet.lay(), vec![paper], Call::Enter { paper: 0, file_number, owner, rows })
 }
 
 /// Rows 0 to n - 1: the first, a middle one, the last.
@@ -251,32 +317,46 @@ fn of_three(random: &mut Random, rows: usize, which: usize) -> usize {
     [0, random.between(1, rows - 2), rows - 1][which]
 }
 
-/// A file number that some row has, by the place of the row and the number.
-pub fn duplicate(random: &mut Random, turn: usize) -> History {
-    let rows = if turn % 4 == 3 { 1 } else { random.between(3, 6) };
-    let free = random.pick(&[0, 3]);
-    let mut sheet = Sheet::any(random, rows, free);
+/// One to seven rows, of which the first, a middle one, the last or the only one is this owner's: the book, and the row.
+fn with_row_of(random: &mut Random, owner: u64, which: usize, spare: usize) -> (Sheet, usize) {
+    let rows = if which == 3 { 1 } else { random.between(3, 7) };
+    let mut sheet = Sheet::any(random, rows, spare);
+    let row = if rows == 1 { 0 } else { of_three(random, rows, which) };
+    sheet.rows[row][OWNER] = owner;
     sheet.number_plainly();
-    let row = if rows == 1 { 0 } else { of_three(random, rows, turn % 4) };
+    (sheet, row)
+}
+
+/// A file number that some row of the owner has, by the place of the row and the number; some other row has it too.
+pub fn duplicate(random: &mut Random, turn: usize) -> History {
+    let (owner, free) = (random.pick(&OWNERS), random.pick(&[0, 3]));
+    let (mut sheet, row) = with_row_of(random, owner, turn % 4, free);
     let number = [0, u64::MAX, 1 + random.draw() % 1_000_000][turn / 4 % 3];
+    let beside = if row == 0 { sheet.rows.len() - 1 } else { row - 1 };
+    let also = [None, Some(owner), Some(other(owner)), Some(stranger(random))][turn / 12 % 4];
+    if let Some(whose) = also.filter(|_| beside != row) {
+        sheet.rows[beside][OWNER] = whose;
+        sheet.rows[beside][FILE_NUMBER] = number;
+    }
     sheet.rows[row][FILE_NUMBER] = number;
-    sheet.rows[row][MARK] = if (turn / 12).is_multiple_of(2) { 1 } else { another(random, 1) };
     let paper = sound_paper(random, (1, 2));
-    entering(random, "duplicate", &sheet, sheet.lay(), paper, Some(number))
+    entering(random, "duplicate", &sheet, paper, owner, Some(number))
 }
 
 /// How a number is nearly that of a row, and is not.
-pub const NEARLY: usize = 6;
+pub const NEARLY: usize = 8;
 
-/// Numbers that no claimed row has, though something has them.
+/// Numbers that no claimed row of the owner has, though something has them.
 pub fn no_duplicate(random: &mut Random, turn: usize) -> History {
-    let mut sheet = sound_sheet(random, (2, 5));
+    let owner = OWNERS[turn / NEARLY % 2];
+    let own = random.between(1, 3);
+    let mut sheet = mixed_sheet(random, owner, [own, 1, 1]);
     sheet.number_plainly();
-    let row = random.below(sheet.rows.len());
+    let row = random.pick(&sheet.rows_of(owner));
     let file_number = sheet.rows[row][FILE_NUMBER];
     let number = match turn % NEARLY {
         0 => {
-            sheet.spare[0][FILE_NUMBER] = 77;
+            (sheet.spare[0][OWNER], sheet.spare[0][FILE_NUMBER]) = (owner, 77);
             77
         }
         1 => {
@@ -289,79 +369,97 @@ pub fn no_duplicate(random: &mut Random, turn: usize) -> History {
             (file_number << 32) + 1
         }
         4 => sheet.rows[row][NUMBER],
-        _ => {
+        5 => {
             sheet.rows[row][FIGURES] = 9_999;
             9_999
         }
+        6 => sheet.rows[sheet.rows_of(other(owner))[0]][FILE_NUMBER],
+        _ => sheet.rows.iter().find(|row| !OWNERS.contains(&row[OWNER])).expect("one of neither")[FILE_NUMBER],
     };
     let paper = sound_paper(random, (1, 2));
-    entering(random, "no duplicate", &sheet, sheet.lay(), paper, Some(number))
+    entering(random, "no duplicate", &sheet, paper, owner, Some(number))
 }
 
-fn finding(random: &mut Random, shape: &'static str, sheet: &Sheet, entry_number: u64) -> History {
-    history(random, shape, sheet.lay(), Vec::new(), Call::Find { entry_number })
+fn finding(random: &mut Random, shape: &'static str, sheet: &Sheet, owner: u64, entry_number: u64) -> History {
+    history(random, shape, sheet.lay(), Vec::new(), Call::Find { owner, entry_number })
 }
 
-/// A row that is found: the first, a middle one, the last, the only; some numbers twice, the first row counts.
+/// A row that is found: the first, a middle one, the last, the only; some numbers twice, the owner's first row counts.
 pub fn find(random: &mut Random, turn: usize) -> History {
-    let rows = if turn % 4 == 3 { 1 } else { random.between(3, 7) };
-    let free = random.below(3);
-    let mut sheet = Sheet::any(random, rows, free);
-    sheet.number_plainly();
-    let row = if rows == 1 { 0 } else { of_three(random, rows, turn % 4) };
+    let (owner, free) = (random.pick(&OWNERS), random.below(3));
+    let (mut sheet, row) = with_row_of(random, owner, turn % 4, free);
     let number = [0, u64::MAX, 1_000 + random.draw() % 1_000_000][turn / 4 % 3];
     sheet.rows[row][NUMBER] = number;
-    sheet.rows[row][MARK] = if (turn / 12).is_multiple_of(2) { 1 } else { another(random, 1) };
+    let rows = sheet.rows.len();
     if row + 1 < rows {
         // Alone, or again in the next row, or in the last.
         let second = [row, row + 1, rows - 1][turn / 12 % 3];
         sheet.rows[second][NUMBER] = number;
+        sheet.rows[second][OWNER] = owner;
     }
-    finding(random, "find", &sheet, number)
+    if row > 0 {
+        // Before it a row with the number that is the other's, or of neither.
+        let before = [None, Some(other(owner)), Some(stranger(random))][turn / 12 % 3];
+        if let Some(whose) = before {
+            sheet.rows[row - 1][NUMBER] = number;
+            sheet.rows[row - 1][OWNER] = whose;
+        }
+    }
+    finding(random, "find", &sheet, owner, number)
 }
 
 /// How a number is not found.
-pub const ABSENT: usize = 8;
+pub const ABSENT: usize = 10;
 
 pub fn not_found(random: &mut Random, turn: usize) -> History {
-    let rows = if turn.is_multiple_of(ABSENT) { (0, 0) } else { (2, 5) };
-    let mut sheet = sound_sheet(random, rows);
+    let owner = OWNERS[turn / ABSENT % 2];
+    let rows = if turn.is_multiple_of(ABSENT) { [0, 0, 0] } else { [random.between(2, 3), 1, 1] };
+    let mut sheet = mixed_sheet(random, owner, rows);
     sheet.number_plainly();
+    let own = sheet.rows_of(owner);
     let number = match turn % ABSENT {
         0 => 1,
         1 => 0,
-        2 => sheet.last + 1,
+        2 => sheet.last[owner as usize - 1] + 1,
         3 => {
-            sheet.spare[0][NUMBER] = 50;
-            50
+            (sheet.spare[0][OWNER], sheet.spare[0][NUMBER]) = (owner, 40);
+            40
         }
         4 => 1 | 1 << 32,
-        5 => sheet.rows[1][FILE_NUMBER],
+        5 => sheet.rows[own[1]][FILE_NUMBER],
         6 => {
-            sheet.rows[1][NUMBER] = 5 << 32;
+            sheet.rows[own[1]][NUMBER] = 5 << 32;
             6 << 32
         }
+        7 => {
+            let row = sheet.rows_of(other(owner))[0];
+            sheet.rows[row][NUMBER] = 30;
+            30
+        }
+        8 => 51, // that of the row of neither
         _ => u64::MAX,
     };
-    finding(random, "not found", &sheet, number)
+    finding(random, "not found", &sheet, owner, number)
 }
 
-/// Totals of none, one and several rows, and at the brim.
+/// Totals of none, one and several rows, and at the brim; beside rows of the other and of neither, or not.
 pub fn totals(random: &mut Random, turn: usize) -> History {
-    let rows = [0, 1, 4][turn % 3];
-    let mut sheet = sound_sheet(random, (rows, rows));
-    if rows > 0 {
-        sheet.put_total(random, turn / 3 % SIX, u64::MAX);
+    let own = [0, 1, 4][turn % 3];
+    let (figure, owner) = (turn / 3 % SIX, OWNERS[turn / 3 / SIX % 2]);
+    let mut sheet = mixed_sheet(random, owner, [[own, 0, 0], [own, 2, 0], [own, 0, 2]][turn / 3 % 3]);
+    if own > 0 {
+        sheet.put_total(random, owner, figure, u64::MAX);
     }
-    history(random, "totals", sheet.lay(), Vec::new(), Call::Totals)
+    history(random, "totals", sheet.lay(), Vec::new(), Call::Totals { owner })
 }
 
-/// All pairs of refusals of which the first is given: BOOK, the reader's, DUPLICATE, FULL.
+/// All pairs of refusals of which the first is given: BOOK, NOENTRY for the owner, the reader's, DUPLICATE, FULL.
 pub fn ordered_pairs() -> Vec<(u64, u64)> {
     let readers: Vec<u64> = REFUSALS.into_iter().chain([ROOM]).collect();
-    let mut pairs = vec![(BOOK, DUPLICATE), (BOOK, FULL), (DUPLICATE, FULL)];
+    let mut pairs = vec![(BOOK, NOENTRY), (BOOK, DUPLICATE), (BOOK, FULL)];
+    pairs.extend([(NOENTRY, DUPLICATE), (NOENTRY, FULL), (DUPLICATE, FULL)]);
     for number in readers {
-        pairs.extend([(BOOK, number), (number, DUPLICATE), (number, FULL)]);
+        pairs.extend([(BOOK, number), (NOENTRY, number), (number, DUPLICATE), (number, FULL)]);
     }
     pairs
 }
@@ -371,9 +469,12 @@ pub fn order(random: &mut Random, turn: usize) -> History {
     let pairs = ordered_pairs();
     let (first, second) = pairs[turn % pairs.len()];
     let wrong = |number| first == number || second == number;
+    let owner = if wrong(NOENTRY) { stranger(random) } else { random.pick(&OWNERS) };
     let rows = random.between(1, 5);
     let free = if wrong(FULL) { 0 } else { 4 };
     let mut sheet = Sheet::any(random, rows, free);
+    let row = random.below(rows);
+    sheet.rows[row][OWNER] = owner;
     sheet.number_plainly();
     let paper = match REFUSALS.into_iter().find(|number| wrong(*number)) {
         Some(number) => refused_paper(random, number),
@@ -381,23 +482,24 @@ pub fn order(random: &mut Random, turn: usize) -> History {
     };
     let ample = ample(random, &paper);
     let rows_lent = if wrong(ROOM) { random.pick(&short_tables(&paper)) } else { ample };
-    let taken = sheet.rows[random.below(rows)][FILE_NUMBER];
-    let file_number = if wrong(DUPLICATE) { taken } else { sheet.fresh(random) };
+    let file_number = if wrong(DUPLICATE) { sheet.rows[row][FILE_NUMBER] } else { sheet.fresh(random) };
     let mut book = sheet.lay();
     if wrong(BOOK) {
-        let figure = TOTALS + random.below(SIX);
+        let figure = total(random.pick(&OWNERS), random.below(SIX));
         match random.below(2) {
             0 => book[CLAIMED] = (rows + free) as u64 + 1,
             _ => book[figure] = another(random, book[figure]),
         }
     }
-    let call = Call::Enter { paper: 0, file_number, rows: rows_lent };
+    let call = Call::Enter { paper: 0, file_number, owner, rows: rows_lent };
     history(random, "order", book, vec![paper], call)
 }
 
-/// A book whose next entry number some row already has: the first row with it is found, before and after.
+/// A book whose next entry number some row of the owner already has: the first row with it is found, before and after.
 pub fn again(random: &mut Random, turn: usize) -> History {
-    let mut sheet = sound_sheet(random, (2, 4));
+    let owner = random.pick(&OWNERS);
+    let rows = [random.between(2, 3), random.below(3), random.below(2)];
+    let mut sheet = mixed_sheet(random, owner, rows);
     sheet.number_plainly();
     sheet.spare.resize(6, [junk(random); WIDTH]);
     let paper = sound_paper(random, (1, 3));
@@ -405,10 +507,10 @@ pub fn again(random: &mut Random, turn: usize) -> History {
     let file_number = sheet.fresh(random);
     let mut book = sheet.lay();
     // Numbering starts over, or at the last row's number, or far above the rows.
-    book[LAST] = [0, sheet.last - 1, 1_000_000][turn % 3];
-    let next = book[LAST] + 1;
-    let find = |entry_number| Call::Find { entry_number };
-    let enter = Call::Enter { paper: 0, file_number, rows };
-    let calls = vec![find(next), enter, find(next), find(next + 1), Call::Totals, enter];
+    book[last(owner)] = [0, book[last(owner)] - 1, 1_000_000][turn % 3];
+    let next = book[last(owner)] + 1;
+    let find = |entry_number| Call::Find { owner, entry_number };
+    let enter = Call::Enter { paper: 0, file_number, owner, rows };
+    let calls = vec![find(next), enter, find(next), find(next + 1), Call::Totals { owner }, enter];
     History { shape: "again", papers: vec![paper], book, changed: None, calls }
 }

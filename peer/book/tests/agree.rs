@@ -1,7 +1,8 @@
 //! The book over a table, the second opinion and the plain list on generated histories, and what is promised of every call.
 
+use peer_book::apart::{compare, put_second};
 use peer_book::call::{Call, History, Independent, Lent, Outcome, SecondOpinion, Side};
-use peer_book::generate::{history, WHOLE_RUN};
+use peer_book::generate::{history, pair, WHOLE_RUN};
 use peer_book::layout::*;
 use peer_book::list::List;
 use peer_book::opinion::{self, decode};
@@ -23,8 +24,34 @@ fn both_opinions_agree_on_generated_histories_and_every_point_is_met() {
         let outcomes = put(&SecondOpinion, &history, random, |seen| tally.note(seen));
         let outcomes = outcomes.unwrap_or_else(|broken| panic!("history {index}, {}: {broken:?}", history.shape));
         tally.note_history(&history, &outcomes);
+        if let Some(pair) = pair(18, index) {
+            let second = put_second(&SecondOpinion, &pair, random);
+            let second = second.unwrap_or_else(|difference| panic!("pair {index}: {difference}"));
+            tally.note_pair(&pair, [&outcomes, &second]);
+        }
     }
     assert_eq!(tally.missing(), []);
+}
+
+/// Point 39: the histories of a pair differ in the other owner's calls alone, as many rows are free at each call of the one (`compare` looks at that
+/// too), and what the one is told, answer by answer, and its entries are the same.
+#[test]
+fn an_owner_is_told_the_same_whatever_the_other_does() {
+    let (mut pairs, mut unlike, mut entries) = (0, 0, 0);
+    for index in 0..30_000 {
+        let Some(pair) = pair(31, index) else { continue };
+        let own = |history: &History| -> Vec<Call> {
+            history.calls.iter().filter(|call| call.owner() == pair.owner).copied().collect()
+        };
+        let [one, two] = &pair.histories;
+        assert_eq!(own(one), own(two), "pair {index}");
+        compare(&Independent, &pair).unwrap_or_else(|difference| panic!("pair {index}: {difference}"));
+        compare(&SecondOpinion, &pair).unwrap_or_else(|difference| panic!("pair {index}: {difference}"));
+        pairs += 1;
+        unlike += u64::from(one.calls != two.calls);
+        entries += one.calls.iter().filter(|call| matches!(call, Call::Enter { .. })).count();
+    }
+    assert!(pairs >= 1_000 && unlike > 900 && entries > 5_000, "{pairs} pairs, {unlike} unlike, {entries} entered");
 }
 
 #[test]
@@ -51,16 +78,21 @@ fn the_seed_and_the_index_give_the_history_again() {
 fn both_opinions_agree_on_a_sweep() {
     let paper = Paper::new(encode(&sound(&mut Random::new(3), &Wish { letters: (2, 2), ..Wish::any() })));
     let rows = 7 * paper.reading.rows.len();
-    let mut calls = vec![Call::Totals];
-    calls.extend([0, 1, 2, 3, 6].map(|entry_number| Call::Find { entry_number }));
-    calls.extend([0, 6, 7].map(|file_number| Call::Enter { paper: 0, file_number, rows }));
-    let full = [2, 2, 1, 2, 3, 4, 5, u64::MAX, 0, 0, 0, 0, 0, 0, 0, 0, 0];
+    let mut calls = vec![Call::Totals { owner: 0 }];
+    for owner in OWNERS {
+        calls.push(Call::Totals { owner });
+        calls.extend([0, 1, 2, 3, 6].map(|entry_number| Call::Find { owner, entry_number }));
+        calls.extend([0, 6, 7].map(|file_number| Call::Enter { paper: 0, file_number, owner, rows }));
+    }
+    // Two entries of owner 1, a row of neither, one entry of owner 2; two rows more.
+    let full = [4, 2, 1, 2, 3, 4, 5, u64::MAX, 0, 1, 6, 5, 4, 3, 2, 1, 0];
     let entries = [1, 1, 6, 1, 1, 1, 1, 1, 1, 1, 2, 6, 0, 1, 2, 3, 4, u64::MAX - 1];
-    let one = [&full[..], &entries[..], &[0; 20]].concat();
+    let others = [3, 3, 7, 9, 9, 9, 9, 9, 9, 2, 1, 6, 6, 5, 4, 3, 2, 1];
+    let one = [&full[..], &entries[..], &others[..], &[0; 20]].concat();
     let mut tables: Vec<Vec<u64>> = (0..=one.len()).map(|length| one[..length].to_vec()).collect();
     for table in [one, vec![0; 38]] {
         for place in 0..table.len() {
-            for number in [0, 1, 2, 3, 4, 7, 1 << 32, 1 << 63, u64::MAX - 1, u64::MAX, table[place].wrapping_sub(1)] {
+            for number in [0, 1, 2, 3, 5, 7, 1 << 32, 1 << 63, u64::MAX - 1, u64::MAX, table[place].wrapping_sub(1)] {
                 let mut other = table.clone();
                 other[place] = number;
                 tables.push(other);
@@ -70,7 +102,7 @@ fn both_opinions_agree_on_a_sweep() {
     let papers = vec![paper];
     for book in tables {
         for call in &calls {
-            let calls = vec![*call, Call::Totals];
+            let calls = vec![*call, Call::Totals { owner: 1 }, Call::Totals { owner: 2 }];
             let history = History { shape: "sweep", papers: papers.clone(), book: book.clone(), changed: None, calls };
             let outcome = put(&SecondOpinion, &history, &mut Random::new(4), |_| {});
             assert!(outcome.is_ok(), "{call:?} on {book:?}: {outcome:?}");
@@ -86,27 +118,27 @@ fn listed(list: &mut List, papers: &[Paper], call: &Call) -> Vec<u64> {
         answer
     };
     match *call {
-        Call::Enter { paper, file_number, rows } => {
+        Call::Enter { paper, file_number, owner, rows } => {
             let paper = &papers[paper];
             let mut answer = paper.reading.with_rows(rows / 7).listed().to_vec();
             answer.push(0);
-            if answer[0] != ACCEPTED {
+            if answer[0] != ACCEPTED && OWNERS.contains(&owner) {
                 return answer;
             }
-            match list.enter(file_number, &paper.letters) {
+            match list.enter(file_number, owner, &paper.letters) {
                 Ok(first) => answer[12] = first,
                 Err(number) => answer = refusal(number, ENTER_ANSWER),
             }
             answer
         }
-        Call::Find { entry_number } => match list.find(entry_number) {
+        Call::Find { owner, entry_number } => match list.find(owner, entry_number) {
             Ok(entry) => [vec![0, entry.number, entry.file_number], entry.figures.to_vec()].concat(),
             Err(number) => refusal(number, FIND_ANSWER),
         },
-        Call::Totals => {
-            let sums = list.sums().map(|sum| sum as u64);
-            [vec![0, list.entries.len() as u64], sums.to_vec()].concat()
-        }
+        Call::Totals { owner } => match list.totals(owner) {
+            Ok((entries, sums)) => [vec![0, entries as u64], sums.map(|sum| sum as u64).to_vec()].concat(),
+            Err(number) => refusal(number, TOTALS_ANSWER),
+        },
     }
 }
 
@@ -116,7 +148,7 @@ fn a_book_grown_from_an_empty_one_answers_as_the_plain_list() {
     let (mut calls, mut entries) = (0, 0);
     for index in 0..4_000 {
         let history = history(5, index);
-        if history.shape != "grown" && history.shape != "large" {
+        if !["grown", "large", "apart"].contains(&history.shape) {
             continue;
         }
         let mut list = List::empty(rows_there(history.book.len()));
@@ -173,33 +205,36 @@ fn refusals_change_nothing() {
     assert!(refused > 5_000, "{refused}");
 }
 
-/// Entering writes the rows behind those claimed, as many as there are letters, and the eight numbers of the head; an entry is never altered.
+/// Entering writes the rows behind those claimed, as many as there are letters, the rows claimed and seven numbers of the owner's part of the head;
+/// an entry is never altered, nor anything of the other owner.
 #[test]
 fn entering_alters_nothing_else() {
     let mut entered = 0;
     each_call(4_000, |name, call, outcome, [before, after], [lent, rows]| {
-        if !matches!(call, Call::Enter { .. }) || outcome.returned != ACCEPTED {
+        let Call::Enter { owner, file_number, .. } = *call else { return };
+        if outcome.returned != ACCEPTED {
             return;
         }
         let (letters, records) = (outcome.answer[5] as usize, outcome.answer[1] as usize);
         let first = row_start(before[CLAIMED] as usize);
         let end = first + WIDTH * letters;
-        assert_eq!(before[TOTALS + SIX..first], after[TOTALS + SIX..first], "{name}");
+        let kept = |place: &usize| *place != CLAIMED && !(last(owner)..unused(owner)).contains(place);
+        assert!((0..first).filter(kept).all(|place| before[place] == after[place]), "{name}");
         assert_eq!(before[end..], after[end..], "{name}");
         assert_eq!(lent[7 * records..], rows[7 * records..], "{name}");
         assert_eq!(after[CLAIMED] as usize, before[CLAIMED] as usize + letters, "{name}");
-        assert_eq!(after[LAST], before[LAST] + letters as u64, "{name}");
-        let numbers: Vec<u64> = after[first..end].chunks(WIDTH).map(|row| row[NUMBER]).collect();
-        let wanted: Vec<u64> = (0..letters as u64).map(|more| outcome.answer[12] + more).collect();
-        assert_eq!(numbers, wanted, "{name}");
-        assert_eq!(outcome.answer[12], before[LAST] + 1, "{name}");
-        assert!(after[first..end].chunks(WIDTH).all(|row| row[MARK] == WRITTEN_MARK), "{name}");
+        assert_eq!(after[last(owner)], before[last(owner)] + letters as u64, "{name}");
+        let numbers: Vec<[u64; 3]> =
+            after[first..end].chunks(WIDTH).map(|row| [row[OWNER], row[NUMBER], row[FILE_NUMBER]]).collect();
+        let wanted = (0..letters as u64).map(|more| [owner, outcome.answer[12] + more, file_number]);
+        assert_eq!(numbers, wanted.collect::<Vec<_>>(), "{name}");
+        assert_eq!(outcome.answer[12], before[last(owner)] + 1, "{name}");
         entered += 1;
     });
     assert!(entered > 3_000, "{entered}");
 }
 
-/// What is not looked at: the head from [8] on, [0] of a row, rows behind those claimed, numbers behind the last row.
+/// What is not looked at: [8] and [16], all but the owner in a row of neither, rows behind those claimed, numbers behind the last row.
 #[test]
 fn numbers_that_are_not_looked_at_change_no_answer() {
     for index in 0..4_000 {
@@ -207,9 +242,15 @@ fn numbers_that_are_not_looked_at_change_no_answer() {
         let random = &mut Random::for_file(8, index);
         let claimed = head(&history.book, CLAIMED);
         let mut other = history.book.clone();
-        for (place, number) in other.iter_mut().enumerate().skip(TOTALS + SIX) {
-            let row = place.checked_sub(HEAD).map(|behind| (behind / WIDTH, behind % WIDTH));
-            let looked_at = row.is_some_and(|(row, column)| (row as u64) < claimed && column != MARK);
+        for (place, number) in other.iter_mut().enumerate() {
+            let looked_at = match place.checked_sub(HEAD).map(|behind| (behind / WIDTH, behind % WIDTH)) {
+                None => OWNERS.into_iter().all(|owner| unused(owner) != place),
+                Some((row, column)) if (row as u64) < claimed => {
+                    let owner = history.book.get(row_start(row) + OWNER).copied().unwrap_or(0);
+                    is_owner(owner) || column == OWNER
+                }
+                _ => false,
+            };
             if !looked_at {
                 *number = junk(random);
             }

@@ -1,5 +1,6 @@
-//! Cases worked out by hand from documents 01 and 02, points 34 to 38 and the layout of the book. Each is put to the book over a table and to the
-//! second opinion, and what they leave of book and row table is looked at number by number.
+//! Cases worked out by hand from documents 01 and 02, points 34 to 39 and the layout of the book. Each is put to the book over a table and to the
+//! second opinion, and what they leave of book and row table is looked at number by number. A case of owner 1 is put for owner 2 as well, on the
+//! table with the two owners exchanged.
 //! With its length a record takes 84 bytes; a 61 takes 88, a 90 takes 89, a 52 without an image 143.
 
 use peer_book::paper::Paper;
@@ -95,16 +96,28 @@ const TWO_ENTERED: [u64; 46] = [
     0, 0,
 ];
 
-/// A sound book that no calls have made: four rows, three claimed; entry numbers 5, 9 and 5; file numbers 30, 31, 31; the last number is 9.
-/// The figures add up to 6, 60, 600, 3, 2^64 - 1, 0. [0] of its rows, [8] to [16], its fourth row and its last number are anything.
+/// A sound book that no calls have made: four rows, three claimed, all owner 1's; entry numbers 5, 9 and 5; file numbers 30, 31, 31; the last number
+/// is 9. The figures add up to 6, 60, 600, 3, 2^64 - 1, 0. [8] and [16], owner 2's last number, the fourth row and the number behind it are anything.
 #[rustfmt::skip]
 const STRANGE: [u64; 54] = [
-    3, 9, 6, 60, 600, 3, MOST, 0, 91, 92, 93, 94, 95, 96, 97, 98, 99,
-    0,    5, 30, 1, 10, 100, 1, MOST - 30, 0,
-    2,    9, 31, 2, 20, 200, 1, 10, 0,
-    MOST, 5, 31, 3, 30, 300, 1, 20, 0,
-    8,    7, 32, 4, 40, 400, 1, 1, 1,
+    3, 9, 6, 60, 600, 3, MOST, 0, 91, 92, 0, 0, 0, 0, 0, 0, 99,
+    1, 5, 30, 1, 10, 100, 1, MOST - 30, 0,
+    1, 9, 31, 2, 20, 200, 1, 10, 0,
+    1, 5, 31, 3, 30, 300, 1, 20, 0,
+    8, 7, 32, 4, 40, 400, 1, 1, 1,
     77,
+];
+
+/// Both owners' books in one table of five rows: owner 1 entered the two letters under 7 around a letter without anything that owner 2 entered under
+/// 7 too; then a row of neither, with figures; the fifth row is free.
+#[rustfmt::skip]
+const BOTH: [u64; 62] = [
+    4, 2, 1, 2, 3, 2, 180, 7_540, 0, 1, 0, 0, 0, 0, 0, 0, 0,
+    1, 1, 7, 1, 2, 1, 1, 180, 7_000,
+    2, 1, 7, 0, 0, 0, 0, 0, 0,
+    1, 2, 7, 0, 0, 2, 1, 0, 540,
+    3, 3, 8, 9, 9, 9, 9, 9, 9,
+    0, 0, 0, 0, 0, 0, 0, 0, 0,
 ];
 
 /// A table with other numbers at some places.
@@ -121,17 +134,38 @@ fn alone<const LENGTH: usize>(number: u64) -> [u64; LENGTH] {
     answer
 }
 
+/// The table with the owners exchanged: their parts of the head, and their rows. A table without a whole head is left as it is.
+fn exchanged(book: &[u64]) -> Vec<u64> {
+    let mut turned = book.to_vec();
+    if book.len() >= 17 {
+        turned[1..17].rotate_left(8);
+        for row in turned[17..].chunks_exact_mut(9) {
+            row[0] = [0, 2, 1].get(row[0] as usize).copied().unwrap_or(row[0]);
+        }
+    }
+    turned
+}
+
 // ---- both sides ----
 
-/// Enters a file on both sides with a row table of this length: the answer, the row table and the book that both give.
+/// Enters a file for an owner on both sides with a row table of this length: the answer, the row table and the book that both give.
 #[track_caller]
-fn entering(file: &[u8], number: u64, rows: usize, book: &[u64]) -> ([u64; 13], Vec<u64>, Vec<u64>) {
+fn entering_for(owner: u64, file: &[u8], number: u64, rows: usize, book: &[u64]) -> ([u64; 13], Vec<u64>, Vec<u64>) {
     let paper = Paper::new(file.to_vec());
     let (mut rows_left, mut book_left) = (vec![BEFORE; rows], book.to_vec());
-    let answer = table::enter(&paper, number, &mut rows_left, &mut book_left);
+    let answer = table::enter(&paper, number, owner, &mut rows_left, &mut book_left);
     let (mut rows_other, mut book_other) = (vec![BEFORE; rows], book.to_vec());
-    assert_eq!(opinion::enter(&paper, number, &mut rows_other, &mut book_other), answer, "the second opinion");
+    assert_eq!(opinion::enter(&paper, number, owner, &mut rows_other, &mut book_other), answer, "the second opinion");
     assert_eq!((rows_other, book_other), (rows_left.clone(), book_left.clone()), "the second opinion");
+    (answer, rows_left, book_left)
+}
+
+/// The same for owner 1, and for owner 2 with the owners exchanged.
+#[track_caller]
+fn entering(file: &[u8], number: u64, rows: usize, book: &[u64]) -> ([u64; 13], Vec<u64>, Vec<u64>) {
+    let (answer, rows_left, book_left) = entering_for(1, file, number, rows, book);
+    let as_two = entering_for(2, file, number, rows, &exchanged(book));
+    assert_eq!(as_two, (answer, rows_left.clone(), exchanged(&book_left)), "owner 2");
     (answer, rows_left, book_left)
 }
 
@@ -161,9 +195,15 @@ fn enters_two(number: u64, book: &[u64], first: u64, left: &[u64]) {
 }
 
 #[track_caller]
+fn finds_for(owner: u64, book: &[u64], number: u64, found: [u64; 9]) {
+    assert_eq!(table::find(book, owner, number), found);
+    assert_eq!(opinion::find(book, owner, number), found, "the second opinion");
+}
+
+#[track_caller]
 fn finds(book: &[u64], number: u64, found: [u64; 9]) {
-    assert_eq!(table::find(book, number), found);
-    assert_eq!(opinion::find(book, number), found, "the second opinion");
+    finds_for(1, book, number, found);
+    finds_for(2, &exchanged(book), number, found);
 }
 
 #[track_caller]
@@ -172,12 +212,18 @@ fn finds_none(book: &[u64], number: u64) {
 }
 
 #[track_caller]
-fn totals(book: &[u64], totals: [u64; 8]) {
-    assert_eq!(table::totals(book), totals);
-    assert_eq!(opinion::totals(book), totals, "the second opinion");
+fn totals_for(owner: u64, book: &[u64], totals: [u64; 8]) {
+    assert_eq!(table::totals(book, owner), totals);
+    assert_eq!(opinion::totals(book, owner), totals, "the second opinion");
 }
 
-/// All three calls refuse with BOOK, whatever they are asked.
+#[track_caller]
+fn totals(book: &[u64], totals: [u64; 8]) {
+    totals_for(1, book, totals);
+    totals_for(2, &exchanged(book), totals);
+}
+
+/// All three calls refuse with BOOK, whatever they are asked, and whoever asks.
 #[track_caller]
 fn no_book(book: &[u64]) {
     for number in [0, 1, 5, 7, MOST] {
@@ -187,16 +233,21 @@ fn no_book(book: &[u64]) {
     totals(book, alone(BOOK));
     refuses(&two_letters(), 7, 119, book, BOOK);
     refuses(&[], 8, 0, book, BOOK);
+    for owner in [0, 2, 3, MOST] {
+        finds_for(owner, book, 1, alone(BOOK));
+        totals_for(owner, book, alone(BOOK));
+        assert_eq!(entering_for(owner, &one_letter(), 8, 28, book).0, alone(BOOK));
+    }
 }
 
 /// No call refuses with BOOK.
 #[track_caller]
 fn a_book(book: &[u64]) {
-    assert_ne!(table::totals(book)[0], BOOK);
-    assert_ne!(table::find(book, 1)[0], BOOK);
+    assert_ne!(table::totals(book, 1)[0], BOOK);
+    assert_ne!(table::find(book, 1, 1)[0], BOOK);
     assert_ne!(entering(&one_letter(), 4_000, 28, book).0[0], BOOK);
-    totals(book, opinion::totals(book));
-    finds(book, 1, opinion::find(book, 1));
+    totals(book, opinion::totals(book, 1));
+    finds(book, 1, opinion::find(book, 1, 1));
 }
 
 // ---- a book from its beginning ----
@@ -343,7 +394,10 @@ fn a_running_total_that_is_not_the_sum() {
     no_book(&with(TWO_ENTERED, &[(0, 1)]));
     no_book(&with(TWO_ENTERED, &[(0, 0)]));
     a_book(&with(TWO_ENTERED, &[(0, 3)]));
-    no_book(&with(STRANGE, &[(0, 4)]));
+    // The fourth row is of neither owner; were it one's, its figures would count.
+    a_book(&with(STRANGE, &[(0, 4)]));
+    no_book(&with(STRANGE, &[(0, 4), (44, 1)]));
+    no_book(&with(STRANGE, &[(0, 4), (44, 2)]));
 }
 
 #[test]
@@ -353,7 +407,7 @@ fn a_figure_of_a_row_that_is_another() {
             let place = 17 + 9 * row + column;
             no_book(&with(TWO_ENTERED, &[(place, TWO_ENTERED[place] + 1)]));
         }
-        for column in 0..3 {
+        for column in 1..3 {
             a_book(&with(TWO_ENTERED, &[(17 + 9 * row + column, 4_711)]));
         }
     }
@@ -374,9 +428,10 @@ fn a_sum_past_64_bits_is_no_running_total() {
     // Two rows of 2^63 are 2^64; and 2^63 and 2^63 - 1 are a running total.
     for place in 3..9 {
         let half = 1 << 63;
-        let two = with([0; 35], &[(0, 2), (17 + place, half), (26 + place, half)]);
+        let two = with([0; 35], &[(0, 2), (17, 1), (26, 1), (17 + place, half), (26 + place, half)]);
         no_book(&two);
-        let less = with([0; 35], &[(0, 2), (place - 1, MOST), (17 + place, half), (26 + place, half - 1)]);
+        let mut less = two;
+        (less[place - 1], less[26 + place]) = (MOST, half - 1);
         a_book(&less);
         totals(&less, with([0, 2, 0, 0, 0, 0, 0, 0], &[(place - 1, MOST)]).try_into().expect("eight"));
     }
@@ -385,19 +440,18 @@ fn a_sum_past_64_bits_is_no_running_total() {
 // ---- what is not looked at ----
 
 #[test]
-fn the_last_number_the_unused_ones_and_marks_are_not_judged() {
-    for place in [1].into_iter().chain(8..17) {
+fn the_last_numbers_and_the_unused_ones_are_not_judged() {
+    for place in [1, 8, 9, 16] {
         [1, 4_711, MOST].into_iter().for_each(|number| a_book(&with(TWO_ENTERED, &[(place, number)])));
     }
-    let marked = with(TWO_ENTERED, &[(17, 0), (26, MOST), (8, MOST), (16, 3)]);
-    finds(&marked, 1, [0, 1, 7, 1, 2, 1, 1, 180, 7_000]);
-    finds(&marked, 2, [0, 2, 7, 0, 0, 2, 1, 0, 540]);
-    totals(&marked, [0, 2, 1, 2, 3, 2, 180, 7_540]);
-    refuses(&one_letter(), 7, 28, &marked, DUPLICATE);
-    // Entering leaves them as they are, and writes 1 into its own row.
-    let (answer, _, left) = entering(&one_letter(), 9, 28, &with(TWO_ENTERED, &[(17, 0), (26, MOST), (35, 5), (8, 6)]));
+    let odd = with(TWO_ENTERED, &[(8, MOST), (9, 5), (16, 3)]);
+    finds(&odd, 1, [0, 1, 7, 1, 2, 1, 1, 180, 7_000]);
+    totals(&odd, [0, 2, 1, 2, 3, 2, 180, 7_540]);
+    refuses(&one_letter(), 7, 28, &odd, DUPLICATE);
+    // Entering leaves them as they are.
+    let (answer, _, left) = entering(&one_letter(), 9, 28, &odd);
     assert_eq!(answer[12], 3);
-    let places = [(17, 0), (26, MOST), (8, 6), (0, 3), (1, 3), (35, 1), (36, 3), (37, 9)];
+    let places = [(8, MOST), (9, 5), (16, 3), (0, 3), (1, 3), (35, 1), (36, 3), (37, 9)];
     assert_eq!(left, with(TWO_ENTERED, &places));
 }
 
@@ -439,7 +493,7 @@ fn a_table_without_a_whole_row_is_a_full_book() {
 /// A number that is there is judged, one that is lacking counts as 0: a table that ends with it, and one number shorter.
 #[test]
 fn numbers_that_a_short_table_lacks_count_as_0() {
-    for place in [0, 2, 3, 4, 5, 6, 7] {
+    for place in [0].into_iter().chain(2..8).chain(10..16) {
         for length in place + 1..26 {
             let mut book = vec![0; length];
             book[place] = 1;
@@ -447,7 +501,7 @@ fn numbers_that_a_short_table_lacks_count_as_0() {
         }
         a_book(&vec![0; place]);
     }
-    for place in [1].into_iter().chain(8..26) {
+    for place in [1, 8, 9].into_iter().chain(16..26) {
         for length in place + 1..30 {
             let mut book = vec![0; length];
             book[place] = MOST;
@@ -457,7 +511,7 @@ fn numbers_that_a_short_table_lacks_count_as_0() {
     // A claim of one with a whole row behind the head, and not.
     a_book(&with([0; 26], &[(0, 1)]));
     no_book(&with([0; 25], &[(0, 1)]));
-    finds(&with([0; 26], &[(0, 1), (18, 6)]), 6, [0, 6, 0, 0, 0, 0, 0, 0, 0]);
+    finds(&with([0; 26], &[(0, 1), (17, 1), (18, 6)]), 6, [0, 6, 0, 0, 0, 0, 0, 0, 0]);
 }
 
 // ---- finding ----
@@ -556,6 +610,142 @@ fn an_entry_number_beyond_64_bits() {
     finds_none(&left, 0);
     refuses(&one_letter(), 8, 28, &left, FULL);
     assert_eq!(entering(&one_letter(), 7, 28, &last(MOST - 1)).0[12], MOST);
+}
+
+// ---- two owners ----
+
+/// What owner 1 did is in BOTH; now both go on in what is free.
+#[test]
+fn two_bureaus_in_one_book() {
+    a_book(&BOTH);
+    totals_for(1, &BOTH, [0, 2, 1, 2, 3, 2, 180, 7_540]);
+    totals_for(2, &BOTH, [0, 1, 0, 0, 0, 0, 0, 0]);
+    // Both have an entry 1, each its own; the other's 2 is none of owner 2's.
+    finds_for(1, &BOTH, 1, [0, 1, 7, 1, 2, 1, 1, 180, 7_000]);
+    finds_for(2, &BOTH, 1, [0, 1, 7, 0, 0, 0, 0, 0, 0]);
+    finds_for(1, &BOTH, 2, [0, 2, 7, 0, 0, 2, 1, 0, 540]);
+    finds_for(2, &BOTH, 2, alone(NOENTRY));
+    // One row is free, for both.
+    refuses(&two_letters(), 9, 119, &BOTH, FULL);
+    let (answer, _, left) = entering_for(2, &one_letter(), 9, 28, &BOTH);
+    assert_eq!((answer[0], answer[12]), (0, 2));
+    assert_eq!(left, with(BOTH, &[(0, 5), (9, 2), (53, 2), (54, 2), (55, 9)]));
+    assert_eq!(entering_for(1, &one_letter(), 8, 28, &left).0, alone(FULL));
+    assert_eq!(entering_for(2, &one_letter(), 8, 28, &left).0, alone(FULL));
+    let (answer, _, left) = entering_for(1, &one_letter(), 9, 28, &BOTH);
+    assert_eq!((answer[0], answer[12]), (0, 3));
+    assert_eq!(left, with(BOTH, &[(0, 5), (1, 3), (53, 1), (54, 3), (55, 9)]));
+}
+
+/// The same file under the same number for both owners: numbers, totals and entries are alike.
+#[test]
+fn the_same_file_for_both() {
+    let longer = [&TWO_ENTERED[..35], &[0; 18]].concat();
+    let (answer, rows, left) = entering_for(2, &two_letters(), 7, 119, &longer);
+    assert_eq!((&answer[..12], answer[12]), (&READ_TWO[..], 1));
+    assert_eq!(rows, ROWS_OF_TWO);
+    let head = [4, 2, 1, 2, 3, 2, 180, 7_540, 0, 2, 1, 2, 3, 2, 180, 7_540, 0];
+    let second = [2, 1, 7, 1, 2, 1, 1, 180, 7_000, 2, 2, 7, 0, 0, 2, 1, 0, 540];
+    assert_eq!(left, [&head[..], &TWO_ENTERED[17..35], &second].concat());
+    for owner in [1, 2] {
+        totals_for(owner, &left, [0, 2, 1, 2, 3, 2, 180, 7_540]);
+        finds_for(owner, &left, 2, [0, 2, 7, 0, 0, 2, 1, 0, 540]);
+        finds_for(owner, &left, 3, alone(NOENTRY));
+        assert_eq!(entering_for(owner, &one_letter(), 7, 28, &left).0, alone(DUPLICATE));
+    }
+}
+
+#[test]
+fn file_numbers_are_compared_within_the_owner() {
+    // 7 is both owners', 8 stands in the row of neither.
+    assert_eq!(entering_for(1, &one_letter(), 7, 28, &BOTH).0, alone(DUPLICATE));
+    assert_eq!(entering_for(2, &one_letter(), 7, 28, &BOTH).0, alone(DUPLICATE));
+    assert_eq!(entering_for(1, &one_letter(), 8, 28, &BOTH).0[12], 3);
+    assert_eq!(entering_for(2, &one_letter(), 8, 28, &BOTH).0[12], 2);
+    let others = with(BOTH, &[(28, 9)]);
+    assert_eq!(entering_for(1, &one_letter(), 9, 28, &others).0[12], 3);
+    assert_eq!(entering_for(2, &one_letter(), 7, 28, &others).0[12], 2);
+}
+
+#[test]
+fn an_owner_other_than_1_or_2_is_noentry_straight_after_book() {
+    for owner in [0, 3, 4, MOST, 1 << 32 | 1, 1 << 63 | 2] {
+        // A row that has it for an owner is nobody's all the same: entry 3, file number 8.
+        let book = with(BOTH, &[(44, owner)]);
+        finds_for(owner, &book, 3, alone(NOENTRY));
+        totals_for(owner, &book, alone(NOENTRY));
+        for (file, number, rows) in
+            [(two_letters(), 9, 119), (two_letters(), 8, 0), (vec![], 8, 0), (one_letter(), 8, 28)]
+        {
+            let (answer, rows_left, left) = entering_for(owner, &file, number, rows, &book);
+            assert_eq!((answer, left), (alone(NOENTRY), book.clone()));
+            assert_eq!(rows_left, vec![BEFORE; rows]);
+        }
+        finds_for(owner, &with(BOTH, &[(0, 6)]), 3, alone(BOOK));
+        assert_eq!(entering_for(owner, &[], 8, 0, &with(BOTH, &[(12, 1)])).0, alone(BOOK));
+        totals_for(owner, &[0; 3], alone(NOENTRY));
+        finds_for(owner, &[], 0, alone(NOENTRY));
+    }
+}
+
+#[test]
+fn either_owners_running_totals_are_judged_in_every_call() {
+    for place in (2..8).chain(10..16) {
+        no_book(&with(BOTH, &[(place, BOTH[place] + 1)]));
+        no_book(&with(BOTH, &[(place, BOTH[place] ^ 1 << 63)]));
+    }
+    // The sums of both, or with the nines of the row of neither.
+    no_book(&with(BOTH, &[(10, 1), (11, 2), (12, 3), (13, 2), (14, 180), (15, 7_540)]));
+    no_book(&with(BOTH, &[(2, 10), (3, 11), (4, 12), (5, 11), (6, 189), (7, 7_549)]));
+    // A figure of a row of neither may be anything, and so may its numbers.
+    (45..53).for_each(|place| a_book(&with(BOTH, &[(place, MOST)])));
+}
+
+#[test]
+fn a_row_that_is_anothers() {
+    // With figures, a row counts for whom its [0] names: owner 1's first row, owner 2's, neither's.
+    for owner in [0, 2, 3, MOST, 1 << 32 | 1] {
+        no_book(&with(BOTH, &[(17, owner)]));
+    }
+    for owner in [1, 2] {
+        no_book(&with(BOTH, &[(44, owner)]));
+    }
+    // Owner 2's letter has nothing in it, so that it may change hands.
+    for owner in [0, 3, MOST] {
+        let book = with(BOTH, &[(26, owner)]);
+        totals_for(2, &book, [0, 0, 0, 0, 0, 0, 0, 0]);
+        finds_for(2, &book, 1, alone(NOENTRY));
+        assert_eq!(entering_for(2, &one_letter(), 7, 28, &book).0[12], 2);
+    }
+    let book = with(BOTH, &[(26, 1), (18, 5)]);
+    totals_for(1, &book, [0, 3, 1, 2, 3, 2, 180, 7_540]);
+    finds_for(1, &book, 1, [0, 1, 7, 0, 0, 0, 0, 0, 0]);
+}
+
+/// A running total or a last number at the brim keeps its own owner from entering, and not the other.
+#[test]
+fn the_brim_is_each_owners_own() {
+    for (figure, sum) in [1, 2, 3, 2, 180, 7_540].into_iter().enumerate() {
+        let book = brimming(figure, MOST);
+        refuses(&two_letters(), 7, 119, &book, FULL);
+        let (answer, _, left) = entering_for(2, &two_letters(), 7, 119, &book);
+        assert_eq!((answer[0], answer[12]), (0, 1));
+        assert_eq!((left[2 + figure], left[10 + figure]), (MOST, sum));
+        assert_eq!(left[10..16], [1, 2, 3, 2, 180, 7_540]);
+    }
+    let last = with([0; 46], &[(1, MOST)]);
+    refuses(&one_letter(), 7, 28, &last, FULL);
+    assert_eq!(entering_for(2, &one_letter(), 7, 28, &last).0[12], 1);
+}
+
+/// Claimed rows of neither owner are no entries and take their room.
+#[test]
+fn rows_of_neither_take_room() {
+    let zeros = with([0; 35], &[(0, 2)]);
+    totals(&zeros, [0; 8]);
+    [0, 1].into_iter().for_each(|number| finds_none(&zeros, number));
+    refuses(&one_letter(), 7, 28, &zeros, FULL);
+    assert_eq!(entering(&one_letter(), 0, 28, &with([0; 35], &[(0, 1)])).0[12], 1);
 }
 
 // ---- numbering ----

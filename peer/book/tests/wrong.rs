@@ -1,8 +1,9 @@
 //! Wrong books: each takes one thing another way, and histories of the stream tell it from the right one. That shows what a comparison with the
 //! stream is worth.
 
+use peer_book::apart::compare;
 use peer_book::call::{Lent, Outcome, Side};
-use peer_book::generate::history;
+use peer_book::generate::{history, pair};
 use peer_book::layout::*;
 use peer_book::paper::Paper;
 use peer_book::put::put;
@@ -16,7 +17,7 @@ enum Slip {
     SumsWrap,
     SumsStopAtTheMost,
     SumsOfEveryRow,
-    TotalLeftOut(usize),
+    TotalLeftOut(u64, usize),
     ClaimTimesNineWraps,
     ClaimInLowHalf,
     ClaimSigned,
@@ -26,14 +27,44 @@ enum Slip {
     HeadOfEight,
     ShortIsNoBook,
     ShortIsNotJudged,
-    MarkMustBeOne,
     UnusedMustBeZero,
     UnusedMadeZero,
-    MarkNotWritten,
-    MarkOverwritten,
     LastMustBeRows,
     ReaderBeforeBook,
     RoomBeforeBook,
+    OwnerNotJudged,
+    OwnerNotJudgedInFind,
+    OwnerNotJudgedInTotals,
+    OwnerBeforeBook,
+    OwnerAfterReader,
+    OwnerAfterDuplicate,
+    OwnerInLowHalf,
+    NobodyIsOwnerTwo,
+    EveryRowIsSomebodys,
+    NeitherIsOwnerOnes,
+    NeitherIsOwnerTwos,
+    NeitherIsNoBook,
+    BookOfTheCallerAlone,
+    BookOfTheFirstOwnerAlone,
+    BookOfTheSecondOwnerAlone,
+    BookOfBothTogether,
+    PartsTurned,
+    OwnerNotWritten,
+    OwnerAlwaysFirst,
+    OwnersOverwritten,
+    NumbersForBoth,
+    NumbersAboveBoth,
+    OthersLastMoved,
+    TotalsForBoth,
+    TotalsOfTheOther,
+    EntriesOfBoth,
+    DuplicateOverBoth,
+    DuplicateOfTheOther,
+    DuplicateOfNeither,
+    FullForTheOther,
+    FindsTheOthers,
+    FindsNeithers,
+    FindStopsAtTheOthers,
     DuplicateBeforeReader,
     DuplicateBeforeRoom,
     FullBeforeDuplicate,
@@ -44,7 +75,6 @@ enum Slip {
     DuplicateInLastRowOnly,
     DuplicateByLowHalf,
     DuplicateByHighHalf,
-    DuplicateByMark,
     DuplicateOfEntryNumber,
     ZeroIsNoFileNumber,
     NoFreeRowLeft,
@@ -72,7 +102,6 @@ enum Slip {
     FindNoZero,
     FindByRow,
     FindByFileNumber,
-    FindByMark,
     FindBeforeBook,
     TotalsBeforeBook,
     TotalsOfLastNumber,
@@ -98,7 +127,7 @@ impl Wrong {
 
     fn head_length(&self) -> usize {
         if self.is(Slip::HeadOfEight) {
-            TOTALS + SIX
+            8
         } else {
             HEAD
         }
@@ -118,6 +147,46 @@ impl Wrong {
         head(book, CLAIMED).min(self.there(book))
     }
 
+    /// The owner that a call is taken to have, if any.
+    fn taken_for(&self, owner: u64) -> Option<u64> {
+        match self.0 {
+            Slip::OwnerInLowHalf => Some(owner % (1 << 32)).filter(|low| is_owner(*low)),
+            Slip::NobodyIsOwnerTwo => Some(if owner == 1 { 1 } else { 2 }),
+            _ => Some(owner).filter(|owner| is_owner(*owner)),
+        }
+    }
+
+    /// Whose part of the head is looked at for an owner.
+    fn part(&self, owner: u64) -> u64 {
+        if self.is(Slip::PartsTurned) {
+            other(owner)
+        } else {
+            owner
+        }
+    }
+
+    fn last_at(&self, owner: u64) -> usize {
+        match self.0 {
+            Slip::NumbersForBoth => last(1),
+            _ => last(self.part(owner)),
+        }
+    }
+
+    fn total_at(&self, owner: u64, figure: usize) -> usize {
+        total(self.part(owner), figure)
+    }
+
+    /// Whether a row is taken to be an owner's.
+    fn is_own(&self, book: &[u64], row: u64, owner: u64) -> bool {
+        let whose = self.cell(book, row, OWNER);
+        match self.0 {
+            Slip::EveryRowIsSomebodys => whose % 2 == owner % 2,
+            Slip::NeitherIsOwnerOnes => whose == owner || (owner == 1 && !is_owner(whose)),
+            Slip::NeitherIsOwnerTwos => whose == owner || (owner == 2 && !is_owner(whose)),
+            _ => whose == owner,
+        }
+    }
+
     fn claim_fits(&self, book: &[u64]) -> bool {
         let (claimed, there) = (head(book, CLAIMED), self.there(book));
         match self.0 {
@@ -130,26 +199,42 @@ impl Wrong {
         }
     }
 
-    fn is_book(&self, book: &[u64]) -> bool {
+    /// Whether a running total is taken to be right.
+    fn total_is_right(&self, book: &[u64], owner: u64, figure: usize) -> bool {
+        let claimed = if self.is(Slip::SumsOfEveryRow) { self.there(book) } else { self.claimed(book) };
+        let both = self.is(Slip::BookOfBothTogether);
+        let counts = |row: &u64| self.is_own(book, *row, owner) || (both && self.is_own(book, *row, other(owner)));
+        let figures = (0..claimed).filter(counts).map(|row| self.cell(book, row, FIGURES + figure));
+        let mut stated = head(book, self.total_at(owner, figure));
+        if both {
+            stated = stated.wrapping_add(head(book, self.total_at(other(owner), figure)));
+        }
+        self.is(Slip::TotalLeftOut(owner, figure)) || sum(self.0, figures) == Some(stated)
+    }
+
+    fn is_book(&self, book: &[u64], caller: u64) -> bool {
         if book.len() < HEAD && (self.is(Slip::ShortIsNoBook) || self.is(Slip::ShortIsNotJudged)) {
             return self.is(Slip::ShortIsNotJudged);
         }
-        let claimed = if self.is(Slip::SumsOfEveryRow) { self.there(book) } else { self.claimed(book) };
-        let total_is_right = |figure: usize| {
-            let figures = (0..claimed).map(|row| self.cell(book, row, FIGURES + figure));
-            self.is(Slip::TotalLeftOut(figure)) || sum(self.0, figures) == Some(head(book, TOTALS + figure))
+        let judged = |owner: &u64| match self.0 {
+            Slip::BookOfTheCallerAlone => *owner == caller,
+            Slip::BookOfTheFirstOwnerAlone => *owner == 1,
+            Slip::BookOfTheSecondOwnerAlone => *owner == 2,
+            _ => true,
         };
-        let mark_is_right = |row| !self.is(Slip::MarkMustBeOne) || self.cell(book, row, MARK) == 1;
-        let unused_is_right = (8..HEAD).all(|place| head(book, place) == 0) || !self.is(Slip::UnusedMustBeZero);
-        let last_is_right = head(book, LAST) == claimed || !self.is(Slip::LastMustBeRows);
+        let totals_are_right = |owner: u64| (0..SIX).all(|figure| self.total_is_right(book, owner, figure));
+        let known = |row| !self.is(Slip::NeitherIsNoBook) || is_owner(self.cell(book, row, OWNER));
+        let unused_is_right = [8, 16].iter().all(|place| head(book, *place) == 0) || !self.is(Slip::UnusedMustBeZero);
+        let lasts = head(book, last(1)).wrapping_add(head(book, last(2)));
+        let last_is_right = lasts == self.claimed(book) || !self.is(Slip::LastMustBeRows);
         self.claim_fits(book)
-            && (0..SIX).all(total_is_right)
-            && (0..claimed).all(mark_is_right)
+            && OWNERS.into_iter().filter(judged).all(totals_are_right)
+            && (0..self.claimed(book)).all(known)
             && unused_is_right
             && last_is_right
     }
 
-    fn is_duplicate(&self, book: &[u64], file_number: u64) -> bool {
+    fn is_duplicate(&self, book: &[u64], owner: u64, file_number: u64) -> bool {
         let claimed = self.claimed(book);
         let rows = match self.0 {
             Slip::DuplicateBehind => 0..self.there(book),
@@ -159,18 +244,22 @@ impl Wrong {
         };
         rows.into_iter().any(|row| {
             let found = self.cell(book, row, FILE_NUMBER);
+            let own = self.is_own(book, row, owner);
+            let whose = self.cell(book, row, OWNER);
             match self.0 {
-                Slip::DuplicateByLowHalf => found % (1 << 32) == file_number % (1 << 32),
-                Slip::DuplicateByHighHalf => found >> 32 == file_number >> 32 && found >> 32 > 0,
-                Slip::DuplicateByMark => found == file_number && self.cell(book, row, MARK) == 1,
-                Slip::DuplicateOfEntryNumber => self.cell(book, row, NUMBER) == file_number,
-                Slip::ZeroIsNoFileNumber => found == file_number && file_number > 0,
-                _ => found == file_number,
+                Slip::DuplicateOverBoth => found == file_number && is_owner(whose),
+                Slip::DuplicateOfTheOther => found == file_number && whose != owner && is_owner(whose),
+                Slip::DuplicateOfNeither => found == file_number && (own || !is_owner(whose)),
+                Slip::DuplicateByLowHalf => own && found % (1 << 32) == file_number % (1 << 32),
+                Slip::DuplicateByHighHalf => own && found >> 32 == file_number >> 32 && found >> 32 > 0,
+                Slip::DuplicateOfEntryNumber => own && self.cell(book, row, NUMBER) == file_number,
+                Slip::ZeroIsNoFileNumber => own && found == file_number && file_number > 0,
+                _ => own && found == file_number,
             }
         })
     }
 
-    fn is_full(&self, paper: &Paper, book: &[u64]) -> bool {
+    fn is_full(&self, paper: &Paper, owner: u64, book: &[u64]) -> bool {
         let most = u128::from(u64::MAX);
         let letters = paper.letters.len() as u64;
         let free = self.there(book) - self.claimed(book);
@@ -179,14 +268,15 @@ impl Wrong {
             Slip::RowsNotJudged => free == 0,
             _ => letters > free,
         };
-        let last = u128::from(head(book, LAST)) + u128::from(letters);
+        let last = u128::from(head(book, self.last_at(owner))) + u128::from(letters);
         let last = match self.0 {
             Slip::LastPasses => false,
             Slip::LastAtTheMostIsFull => last >= most,
             _ => last > most,
         };
+        let whose = if self.is(Slip::FullForTheOther) { other(owner) } else { owner };
         let total = |figure: usize| {
-            let total = u128::from(head(book, TOTALS + figure));
+            let total = u128::from(head(book, self.total_at(whose, figure)));
             let each = paper.letters.iter().map(|letter| u128::from(letter[figure]));
             match self.0 {
                 Slip::TotalPasses(passed) if passed == figure => false,
@@ -199,21 +289,26 @@ impl Wrong {
     }
 
     /// The refusal of the book's own that entering gives, by the order of the slip, or the reader's.
-    fn refusal(&self, paper: &Paper, file_number: u64, rows: usize, book: &[u64]) -> Option<u64> {
+    fn refusal(&self, paper: &Paper, file_number: u64, owner: u64, rows: usize, book: &[u64]) -> Option<u64> {
         let read = paper.reading.with_rows(rows / 7).number as u64;
-        let no_book = (BOOK, !self.is_book(book));
+        let like = self.taken_for(owner).unwrap_or(1);
+        let no_book = (BOOK, !self.is_book(book, owner));
+        let nobody = (NOENTRY, self.taken_for(owner).is_none() && !self.is(Slip::OwnerNotJudged));
         let by_reader = (read, read > 0 && read != ROOM);
         let for_room = (read, read == ROOM);
-        let duplicate = (DUPLICATE, self.is_duplicate(book, file_number));
-        let full = (FULL, (read == ROOM || read == ACCEPTED) && self.is_full(paper, book));
+        let duplicate = (DUPLICATE, self.is_duplicate(book, self.taken_for(owner).unwrap_or(owner), file_number));
+        let full = (FULL, (read == ROOM || read == ACCEPTED) && self.is_full(paper, like, book));
         let order = match self.0 {
-            Slip::ReaderBeforeBook => [by_reader, no_book, for_room, duplicate, full],
-            Slip::RoomBeforeBook => [for_room, no_book, by_reader, duplicate, full],
-            Slip::DuplicateBeforeReader => [no_book, duplicate, by_reader, for_room, full],
-            Slip::DuplicateBeforeRoom => [no_book, by_reader, duplicate, for_room, full],
-            Slip::FullBeforeDuplicate => [no_book, by_reader, for_room, full, duplicate],
-            Slip::FullBeforeRoom => [no_book, by_reader, full, for_room, duplicate],
-            _ => [no_book, by_reader, for_room, duplicate, full],
+            Slip::ReaderBeforeBook => [by_reader, no_book, nobody, for_room, duplicate, full],
+            Slip::RoomBeforeBook => [for_room, no_book, nobody, by_reader, duplicate, full],
+            Slip::OwnerBeforeBook => [nobody, no_book, by_reader, for_room, duplicate, full],
+            Slip::OwnerAfterReader => [no_book, by_reader, for_room, nobody, duplicate, full],
+            Slip::OwnerAfterDuplicate => [no_book, duplicate, nobody, by_reader, for_room, full],
+            Slip::DuplicateBeforeReader => [no_book, nobody, duplicate, by_reader, for_room, full],
+            Slip::DuplicateBeforeRoom => [no_book, nobody, by_reader, duplicate, for_room, full],
+            Slip::FullBeforeDuplicate => [no_book, nobody, by_reader, for_room, full, duplicate],
+            Slip::FullBeforeRoom => [no_book, nobody, by_reader, full, for_room, duplicate],
+            _ => [no_book, nobody, by_reader, for_room, duplicate, full],
         };
         order.into_iter().find(|(_, due)| *due).map(|(number, _)| number)
     }
@@ -230,35 +325,68 @@ impl Wrong {
         }
     }
 
-    fn set_down(&self, paper: &Paper, file_number: u64, book: &mut [u64]) {
-        if self.is(Slip::UnusedMadeZero) {
-            book[TOTALS + SIX..HEAD].fill(0);
-        }
-        if self.is(Slip::MarkOverwritten) {
-            (0..book[CLAIMED] as usize).for_each(|row| book[row_start(row)] = 1);
-        }
-        let (mut last, mut claimed) = (book[LAST], book[CLAIMED]);
+    /// What a letter's row has for an owner.
+    fn owner_written(&self, owner: u64, before: u64) -> u64 {
         match self.0 {
-            Slip::NumberedByRows => last = claimed,
-            Slip::NumberedFromNothing => last = last.wrapping_sub(1),
+            Slip::OwnerNotWritten => before,
+            Slip::OwnerAlwaysFirst => 1,
+            _ => owner,
+        }
+    }
+
+    fn spoil(&self, book: &mut [u64]) {
+        match self.0 {
+            Slip::UnusedMadeZero => [8, 16].iter().for_each(|place| book[*place] = 0),
+            Slip::OwnersOverwritten => (0..book[CLAIMED] as usize).for_each(|row| book[row_start(row) + OWNER] |= 1),
             _ => {}
         }
+    }
+
+    fn first_number(&self, owner: u64, book: &[u64]) -> u64 {
+        let last_given = head(book, self.last_at(owner));
+        match self.0 {
+            Slip::NumberedByRows => head(book, CLAIMED).wrapping_add(1),
+            Slip::NumberedFromNothing => last_given,
+            Slip::NumbersAboveBoth => head(book, last(1)).max(head(book, last(2))).wrapping_add(1),
+            _ => last_given.wrapping_add(1),
+        }
+    }
+
+    fn add(&self, owner: u64, figures: &Figures, book: &mut [u64]) {
+        let whose = match self.0 {
+            Slip::TotalsForBoth => vec![1, 2],
+            Slip::TotalsOfTheOther => vec![other(owner)],
+            _ => vec![owner],
+        };
+        for (owner, figure) in whose.into_iter().flat_map(|owner| (0..SIX).map(move |figure| (owner, figure))) {
+            if !self.is(Slip::TotalsNotKept(figure)) {
+                let place = self.total_at(owner, figure);
+                book[place] = book[place].wrapping_add(figures[figure]);
+            }
+        }
+    }
+
+    fn set_down(&self, paper: &Paper, file_number: u64, owner: u64, book: &mut [u64]) {
+        self.spoil(book);
+        let (mut next, mut claimed) = (self.first_number(owner, book), book[CLAIMED]);
         for at in 0..paper.letters.len() {
             let start = self.head_length() + WIDTH * claimed as usize;
             let Some(row) = book.get_mut(start..start + WIDTH) else { break };
-            (last, claimed) = (last.wrapping_add(1), claimed + 1);
-            let mark = if self.is(Slip::MarkNotWritten) { row[MARK] } else { 1 };
-            row[..FIGURES].copy_from_slice(&[mark, last, file_number]);
+            let whose = self.owner_written(owner, row[OWNER]);
+            row[..FIGURES].copy_from_slice(&[whose, next, file_number]);
             row[FIGURES..].copy_from_slice(&self.figures(paper, at));
-            for figure in (0..SIX).filter(|figure| !self.is(Slip::TotalsNotKept(*figure))) {
-                book[TOTALS + figure] = book[TOTALS + figure].wrapping_add(self.figures(paper, at)[figure]);
-            }
+            (next, claimed) = (next.wrapping_add(1), claimed + 1);
+            self.add(owner, &self.figures(paper, at), book);
         }
-        book[LAST] = if self.is(Slip::LastNotKept) { book[LAST] } else { last };
+        let moved = [self.last_at(owner), self.last_at(other(owner))];
+        let count = if self.is(Slip::OthersLastMoved) { 2 } else { 1 };
+        if !self.is(Slip::LastNotKept) {
+            moved[..count].iter().for_each(|place| book[*place] = next.wrapping_sub(1));
+        }
         book[CLAIMED] = if self.is(Slip::ClaimNotKept) { book[CLAIMED] } else { claimed };
     }
 
-    fn refused_entering(&self, number: u64, paper: &Paper, file_number: u64, lent: Lent) -> Outcome {
+    fn refused_entering(&self, number: u64, paper: &Paper, file_number: u64, owner: u64, lent: Lent) -> Outcome {
         let mut answer = [0; ENTER_ANSWER];
         answer[..12].copy_from_slice(&paper.reading.with_rows(lent.rows.len() / 7).listed());
         let zeros = number >= DUPLICATE && !self.is(Slip::RefusalWithTotals);
@@ -271,67 +399,89 @@ impl Wrong {
         }
         let there = self.there(lent.book) > 0;
         match self.0 {
-            Slip::FullWritesWhatFits if number == FULL && there => self.set_down(paper, file_number, lent.book),
-            Slip::FullMovesLast if number == FULL && lent.book.len() > 1 => {
-                lent.book[LAST] = lent.book[LAST].wrapping_add(1);
+            Slip::FullWritesWhatFits if number == FULL && there => self.set_down(paper, file_number, owner, lent.book),
+            Slip::FullMovesLast if number == FULL && lent.book.len() > last(owner) => {
+                lent.book[last(owner)] = lent.book[last(owner)].wrapping_add(1);
             }
             _ => {}
         }
         Outcome::of(&answer)
     }
+
+    /// Whether a row is found.
+    fn is_found(&self, book: &[u64], row: u64, owner: u64, entry_number: u64) -> bool {
+        let number = self.cell(book, row, NUMBER);
+        let (own, whose) = (self.is_own(book, row, owner), self.cell(book, row, OWNER));
+        match self.0 {
+            Slip::FindsTheOthers => number == entry_number && is_owner(whose),
+            Slip::FindsNeithers => number == entry_number && (own || !is_owner(whose)),
+            Slip::FindByLowHalf => own && number % (1 << 32) == entry_number % (1 << 32),
+            Slip::FindNoZero => own && number == entry_number && entry_number > 0,
+            Slip::FindByRow => own && row + 1 == entry_number,
+            Slip::FindByFileNumber => own && self.cell(book, row, FILE_NUMBER) == entry_number,
+            _ => own && number == entry_number,
+        }
+    }
 }
 
 impl Side for Wrong {
-    fn enter(&self, paper: &Paper, file_number: u64, lent: Lent) -> Result<Outcome, String> {
-        if let Some(number) = self.refusal(paper, file_number, lent.rows.len(), lent.book) {
-            return Ok(self.refused_entering(number, paper, file_number, lent));
+    fn enter(&self, paper: &Paper, file_number: u64, owner: u64, lent: Lent) -> Result<Outcome, String> {
+        let whose = self.taken_for(owner).unwrap_or(1);
+        if let Some(number) = self.refusal(paper, file_number, owner, lent.rows.len(), lent.book) {
+            return Ok(self.refused_entering(number, paper, file_number, whose, lent));
         }
         let mut answer = [0; ENTER_ANSWER];
         answer[..12].copy_from_slice(&paper.reading.fill(lent.rows).listed());
-        answer[12] = lent.book[LAST].wrapping_add(1);
-        self.set_down(paper, file_number, lent.book);
+        answer[12] = lent.book[self.last_at(whose)].wrapping_add(1);
+        self.set_down(paper, file_number, whose, lent.book);
         if self.is(Slip::FirstIsLast) {
-            answer[12] = lent.book[LAST];
+            answer[12] = lent.book[self.last_at(whose)];
         }
         Ok(Outcome::of(&answer))
     }
 
-    fn find(&self, entry_number: u64, lent: Lent) -> Result<Outcome, String> {
+    fn find(&self, owner: u64, entry_number: u64, lent: Lent) -> Result<Outcome, String> {
         let book = &*lent.book;
         let claimed = if self.is(Slip::FindBehind) { self.there(book) } else { self.claimed(book) };
-        let having = |row: &u64| {
-            let number = self.cell(book, *row, NUMBER);
-            match self.0 {
-                Slip::FindByLowHalf => number % (1 << 32) == entry_number % (1 << 32),
-                Slip::FindNoZero => number == entry_number && entry_number > 0,
-                Slip::FindByRow => row + 1 == entry_number,
-                Slip::FindByFileNumber => self.cell(book, *row, FILE_NUMBER) == entry_number,
-                Slip::FindByMark => number == entry_number && self.cell(book, *row, MARK) == 1,
-                _ => number == entry_number,
-            }
-        };
+        let whose = self.taken_for(owner).unwrap_or(owner);
+        let has = |row: &u64| self.is_found(book, *row, whose, entry_number);
+        let stops = |row: &u64| self.cell(book, *row, NUMBER) == entry_number;
         let found = match self.0 {
-            Slip::FindLast => (0..claimed).rfind(having),
-            _ => (0..claimed).find(having),
+            Slip::FindLast => (0..claimed).rfind(has),
+            Slip::FindStopsAtTheOthers => (0..claimed).find(stops).filter(has),
+            _ => (0..claimed).find(has),
         };
+        let judged = !self.is(Slip::OwnerNotJudgedInFind);
+        let found = found.filter(|_| self.taken_for(owner).is_some() || !judged);
         let mut answer = [0; FIND_ANSWER];
+        let nobody_first = self.is(Slip::OwnerBeforeBook) && self.taken_for(owner).is_none();
         let absent_first = self.is(Slip::FindBeforeBook) && found.is_none();
         match found {
-            _ if !absent_first && !self.is_book(book) => answer[0] = BOOK,
+            _ if !absent_first && !nobody_first && !self.is_book(book, owner) => answer[0] = BOOK,
             None => answer[0] = NOENTRY,
             Some(row) => (1..WIDTH).for_each(|column| answer[column] = self.cell(book, row, column)),
         }
         Ok(Outcome::of(&answer))
     }
 
-    fn totals(&self, lent: Lent) -> Result<Outcome, String> {
+    fn totals(&self, owner: u64, lent: Lent) -> Result<Outcome, String> {
         let book = &*lent.book;
-        if !self.is_book(book) && !self.is(Slip::TotalsBeforeBook) {
+        let nobody = self.taken_for(owner).is_none() && !self.is(Slip::OwnerNotJudgedInTotals);
+        let nobody_first = self.is(Slip::OwnerBeforeBook) && nobody;
+        if !self.is_book(book, owner) && !self.is(Slip::TotalsBeforeBook) && !nobody_first {
             return Ok(Outcome::of(&refused::<TOTALS_ANSWER>(BOOK)));
         }
-        let rows = if self.is(Slip::TotalsOfLastNumber) { head(book, LAST) } else { self.claimed(book) };
+        if nobody {
+            return Ok(Outcome::of(&refused::<TOTALS_ANSWER>(NOENTRY)));
+        }
+        let whose = self.taken_for(owner).unwrap_or(1);
+        let rows = match self.0 {
+            Slip::TotalsOfLastNumber => head(book, last(whose)),
+            Slip::EntriesOfBoth => self.claimed(book),
+            _ => (0..self.claimed(book)).filter(|row| self.is_own(book, *row, whose)).count() as u64,
+        };
         let mut answer = vec![0, rows];
-        answer.extend((0..SIX).map(|figure| head(book, TOTALS + figure)));
+        answer.extend((0..SIX).map(|figure| head(book, self.total_at(whose, figure))));
         Ok(Outcome::of(&answer))
     }
 }
@@ -347,6 +497,33 @@ fn shows_at(slip: Slip, histories: u64) -> Option<u64> {
 #[test]
 fn the_frame_is_right() {
     assert_eq!(shows_at(Slip::None, 4_000), None);
+    assert_eq!(shows_apart_at(Slip::None, 10_000), None);
+}
+
+/// Wrong books by which an owner learns what the other did.
+const NOT_APART: [Slip; 9] = [
+    Slip::NumbersForBoth,
+    Slip::NumbersAboveBoth,
+    Slip::OthersLastMoved,
+    Slip::TotalsForBoth,
+    Slip::TotalsOfTheOther,
+    Slip::EntriesOfBoth,
+    Slip::DuplicateOverBoth,
+    Slip::FindsTheOthers,
+    Slip::FindStopsAtTheOthers,
+];
+
+/// The first pair of histories of which a wrong book alone tells its owner unlike things.
+fn shows_apart_at(slip: Slip, histories: u64) -> Option<u64> {
+    let pairs = (0..histories).filter_map(|index| Some((index, pair(22, index)?)));
+    pairs.into_iter().find(|(_, pair)| compare(&Wrong(slip), pair).is_err()).map(|(index, _)| index)
+}
+
+/// Separateness is judged by the answers of one side alone, and needs no right book beside it.
+#[test]
+fn every_book_that_is_not_apart_shows_by_itself() {
+    let unseen: Vec<Slip> = NOT_APART.into_iter().filter(|slip| shows_apart_at(*slip, 5_000).is_none()).collect();
+    assert_eq!(unseen, []);
 }
 
 #[test]
@@ -365,14 +542,35 @@ fn every_wrong_book_shows() {
         HeadOfEight,
         ShortIsNoBook,
         ShortIsNotJudged,
-        MarkMustBeOne,
         UnusedMustBeZero,
         UnusedMadeZero,
-        MarkNotWritten,
-        MarkOverwritten,
         LastMustBeRows,
         ReaderBeforeBook,
         RoomBeforeBook,
+        OwnerNotJudged,
+        OwnerNotJudgedInFind,
+        OwnerNotJudgedInTotals,
+        OwnerBeforeBook,
+        OwnerAfterReader,
+        OwnerAfterDuplicate,
+        OwnerInLowHalf,
+        NobodyIsOwnerTwo,
+        EveryRowIsSomebodys,
+        NeitherIsOwnerOnes,
+        NeitherIsOwnerTwos,
+        NeitherIsNoBook,
+        BookOfTheCallerAlone,
+        BookOfTheFirstOwnerAlone,
+        BookOfTheSecondOwnerAlone,
+        BookOfBothTogether,
+        PartsTurned,
+        OwnerNotWritten,
+        OwnerAlwaysFirst,
+        OwnersOverwritten,
+        DuplicateOfTheOther,
+        DuplicateOfNeither,
+        FullForTheOther,
+        FindsNeithers,
         DuplicateBeforeReader,
         DuplicateBeforeRoom,
         FullBeforeDuplicate,
@@ -383,7 +581,6 @@ fn every_wrong_book_shows() {
         DuplicateInLastRowOnly,
         DuplicateByLowHalf,
         DuplicateByHighHalf,
-        DuplicateByMark,
         DuplicateOfEntryNumber,
         ZeroIsNoFileNumber,
         NoFreeRowLeft,
@@ -409,15 +606,16 @@ fn every_wrong_book_shows() {
         FindNoZero,
         FindByRow,
         FindByFileNumber,
-        FindByMark,
         FindBeforeBook,
         TotalsBeforeBook,
         TotalsOfLastNumber,
         ReaderRefusesWithoutPlace,
         RefusalWithTotals,
     ];
+    slips.extend(NOT_APART);
     for figure in 0..SIX {
-        slips.extend([TotalLeftOut(figure), TotalPasses(figure), TotalsNotKept(figure)]);
+        slips.extend([TotalPasses(figure), TotalsNotKept(figure)]);
+        slips.extend(OWNERS.map(|owner| TotalLeftOut(owner, figure)));
     }
     let unseen: Vec<Slip> = slips.into_iter().filter(|slip| shows_at(*slip, 3_000).is_none()).collect();
     assert_eq!(unseen, []);

@@ -1,15 +1,17 @@
 //! `icl book`: a day book in a file of its own, into which the cash letters of accepted files are entered.
 
 use std::ffi::{OsStr, OsString};
-use std::io::{stdout, BufWriter, Error, ErrorKind, Write};
+use std::io::{stdout, BufWriter, Write};
 use std::path::Path;
 
-use x9180::book::{Entry, Refused, Want};
-use x9180::{Book, Number};
+use x9180::book::Entry;
+use x9180::Book;
 
 use crate::args::{number, Args};
-use crate::book_file::{self, Fault, MOST_BYTES, MOST_ROWS};
+use crate::book_convert;
+use crate::book_file::{self, MOST_BYTES, MOST_ROWS};
 use crate::book_list::{csv, json, table};
+use crate::book_words::{faulty, free_rows, missing, no_memory, not_entered, owner, shown, told};
 use crate::durable::{self, Held};
 use crate::input::{self, Input};
 use crate::output::{self, trouble};
@@ -22,16 +24,19 @@ const ROWS: u64 = 10_000;
 
 pub fn run(mut words: Vec<OsString>) -> Result<u8, Stop> {
     if words.is_empty() {
-        return Err(Stop::Usage("new, enter, show, list, totals or grow is asked behind icl book".to_string()));
+        return Err(Stop::Usage(
+            "new, enter, show, list, totals, grow or convert is asked behind icl book".to_string(),
+        ));
     }
     let command = words.remove(0);
     match command.to_str() {
         Some("new") => new(Args::of(words, &[], &["--rows"])?),
-        Some("enter") => enter(Args::of(words, &[], &["--number"])?),
-        Some("show") => show(Args::of(words, &[], &[])?),
-        Some("list") => list(Args::of(words, &["--csv", "--json"], &[])?),
-        Some("totals") => totals(Args::of(words, &[], &[])?),
+        Some("enter") => enter(Args::of(words, &[], &["--number", "--owner"])?),
+        Some("show") => show(Args::of(words, &[], &["--owner"])?),
+        Some("list") => list(Args::of(words, &["--csv", "--json"], &["--owner"])?),
+        Some("totals") => totals(Args::of(words, &[], &["--owner"])?),
         Some("grow") => grow(Args::of(words, &[], &["--rows"])?),
+        Some("convert") => book_convert::run(Args::of(words, &[], &["--owner"])?),
         _ => Err(Stop::Usage(format!("{} is no command of icl book", words::name(&command)))),
     }
 }
@@ -52,24 +57,25 @@ fn enter(args: Args) -> Result<u8, Stop> {
     let [book_path, file] = args.exactly(["BOOK", "FILE"])?;
     let book_path = Path::new(book_path);
     let file_number = args.option("--number").ok_or_else(|| Stop::Usage("--number N is missing".to_string()))?;
-    let file_number = number(file_number, "file number")?;
+    let (file_number, owner) = (number(file_number, "file number")?, owner(&args)?);
     // Before the book is held: a pipe may take its time.
     let input = input::bytes(file)?;
     let (held, mut book) = hold(book_path)?;
-    // A table that is no book is told before anything of the file.
-    book.totals().map_err(|refused| told(book_path, &refused))?;
+    // A table that is no book, and an owner that is none, are told before anything of the file.
+    book.totals(owner).map_err(|refused| told(book_path, &refused))?;
     let bytes = match input {
         Input::Bytes(bytes) => bytes,
         Input::TooLarge(_, line) => return Err(Stop::Message(REFUSED, line)),
     };
     let entering = format!("entering {}", words::spoken(file));
-    let entered = with_clock(&entering, || book.enter(&bytes, file_number));
+    let entered = with_clock(&entering, || book.enter(&bytes, file_number, owner));
     entered.map_err(|refused| not_entered(book_path, file, &bytes, &book, &refused))?;
     // All at once, since each look-up goes through the whole book.
-    let entries = book.entries().map_err(|refused| told(book_path, &refused))?;
+    let entries = book.entries(owner).map_err(|refused| told(book_path, &refused))?;
     let entries: Vec<Entry> = entries.filter(|entry| entry.file_number == file_number).collect();
     held.replace(&book_file::bytes_of(&book)).map_err(|error| trouble(book_path, &error))?;
-    let mut text = format!("{} entered into {}\n", counted(entries.len() as u64, "cash letter"), shown(book_path));
+    let letters = counted(entries.len() as u64, "cash letter");
+    let mut text = format!("{letters} entered into {} for {owner}\n", shown(book_path));
     entries.iter().for_each(|entry| text.push_str(&format!("  {}\n", line(entry))));
     print(&text)?;
     Ok(DONE)
@@ -77,15 +83,15 @@ fn enter(args: Args) -> Result<u8, Stop> {
 
 fn show(args: Args) -> Result<u8, Stop> {
     let [book_path, entry] = args.exactly(["BOOK", "ENTRY"])?;
-    let (book_path, entry) = (Path::new(book_path), number(entry, "entry number")?);
-    let entry = read(book_path)?.find(entry).map_err(|refused| told(book_path, &refused))?;
+    let (book_path, entry, owner) = (Path::new(book_path), number(entry, "entry number")?, owner(&args)?);
+    let entry = read(book_path)?.find(owner, entry).map_err(|refused| told(book_path, &refused))?;
     print(&format!("{}\n", line(&entry)))?;
     Ok(DONE)
 }
 
 fn list(args: Args) -> Result<u8, Stop> {
     let [book_path] = args.exactly(["BOOK"])?;
-    let book_path = Path::new(book_path);
+    let (book_path, owner) = (Path::new(book_path), owner(&args)?);
     let write = match (args.has("--csv"), args.has("--json")) {
         (true, true) => return Err(Stop::Usage("--csv and --json exclude each other".to_string())),
         (true, _) => csv,
@@ -93,7 +99,7 @@ fn list(args: Args) -> Result<u8, Stop> {
         _ => table,
     };
     let book = read(book_path)?;
-    let entries: Vec<Entry> = book.entries().map_err(|refused| told(book_path, &refused))?.collect();
+    let entries: Vec<Entry> = book.entries(owner).map_err(|refused| told(book_path, &refused))?.collect();
     let mut out = BufWriter::new(stdout().lock());
     write(&entries, &mut out).and_then(|()| out.flush()).map_err(Stop::output)?;
     Ok(DONE)
@@ -101,14 +107,11 @@ fn list(args: Args) -> Result<u8, Stop> {
 
 fn totals(args: Args) -> Result<u8, Stop> {
     let [book_path] = args.exactly(["BOOK"])?;
-    let book_path = Path::new(book_path);
+    let (book_path, owner) = (Path::new(book_path), owner(&args)?);
     let book = read(book_path)?;
-    let totals = book.totals().map_err(|refused| told(book_path, &refused))?;
-    let entries = match totals.entries {
-        1 => "1 entry".to_string(),
-        entries => format!("{} entries", grouped(entries)),
-    };
-    print(&format!("{entries}: {}\n{}\n", figures(&totals.figures), free_rows(book_path, &book)?))?;
+    let totals = book.totals(owner).map_err(|refused| told(book_path, &refused))?;
+    let (entries, figures) = (words::entries(totals.entries), figures(&totals.figures));
+    print(&format!("{entries} of {owner}: {figures}\n{}\n", free_rows(book_path, &book)?))?;
     Ok(DONE)
 }
 
@@ -118,7 +121,7 @@ fn grow(args: Args) -> Result<u8, Stop> {
     let wanted = args.option("--rows").ok_or_else(|| Stop::Usage("--rows N is missing".to_string()))?;
     let wanted = rows(wanted)?;
     let (held, mut book) = hold(book_path)?;
-    book.totals().map_err(|refused| told(book_path, &refused))?;
+    book.free_rows().map_err(|refused| told(book_path, &refused))?;
     let had = book.capacity();
     if wanted <= had {
         let (name, had) = (shown(book_path), counted(had, "row"));
@@ -146,24 +149,12 @@ fn hold(book_path: &Path) -> Result<(Held, Book), Stop> {
 }
 
 fn taken_apart(book_path: &Path, bytes: &[u8]) -> Result<Book, Stop> {
-    book_file::book_in(bytes).map_err(|fault| match fault {
-        Fault::Damaged(words) => {
-            let (name, number) = (shown(book_path), Number::BOOK);
-            let line = format!("refused {} record 0 field 0 offset 0", number.0);
-            Stop::Message(REFUSED, format!("{name}: {line}: {}: {}; {words}", number.name(), number.meaning()))
-        }
-        Fault::NoMemory => no_memory(book_path),
-    })
+    book_file::book_in(bytes).map_err(|fault| faulty(book_path, fault))
 }
 
-/// Of an entry: its number, its file number and its figures.
-fn line(entry: &Entry) -> String {
-    format!("entry {}, file number {}: {}", entry.number, entry.file_number, figures(&entry.figures))
-}
-
-fn free_rows(book_path: &Path, book: &Book) -> Result<String, Stop> {
-    let free = book.free_rows().map_err(|refused| told(book_path, &refused))?;
-    Ok(format!("free rows: {} of {}", grouped(free), grouped(book.capacity())))
+/// Of an entry: its number, its owner, its file number and its figures.
+fn line(Entry { owner, number, file_number, figures: own, .. }: &Entry) -> String {
+    format!("entry {number} of {owner}, file number {file_number}: {}", figures(own))
 }
 
 fn rows(word: &OsStr) -> Result<u64, Stop> {
@@ -171,42 +162,5 @@ fn rows(word: &OsStr) -> Result<u64, Stop> {
     match (1..=MOST_ROWS).contains(&rows) {
         true => Ok(rows),
         false => Err(Stop::Usage(format!("--rows is a number from 1 to {}", grouped(MOST_ROWS)))),
-    }
-}
-
-/// The book's name as it is printed.
-fn shown(book_path: &Path) -> String {
-    words::name(book_path.as_os_str())
-}
-
-/// The line for a refusal by the book.
-fn told(book_path: &Path, refused: &Refused) -> Stop {
-    Stop::Message(REFUSED, format!("{}: {}: {refused}", shown(book_path), refused.line()))
-}
-
-/// The line for a file that was not entered, and, for want of rows, how more are had.
-fn not_entered(book_path: &Path, file: &OsStr, bytes: &[u8], book: &Book, refused: &Refused) -> Stop {
-    match refused {
-        Refused::File(refusal) => input::refused(file, bytes, refusal),
-        Refused::Full(Some(Want::Rows { letters, free })) => {
-            let (name, least) = (shown(book_path), (book.capacity() - free).saturating_add(*letters));
-            let hint = format!("icl book grow {name} --rows N makes room, N being {least} or more");
-            Stop::Message(REFUSED, format!("{name}: {}: {refused}; {hint}", refused.line()))
-        }
-        _ => told(book_path, refused),
-    }
-}
-
-fn no_memory(book_path: &Path) -> Stop {
-    trouble(book_path, &ErrorKind::OutOfMemory.into())
-}
-
-/// Of a book that should be there.
-fn missing(book_path: &Path, error: &Error) -> Stop {
-    match error.kind() {
-        ErrorKind::NotFound => {
-            Stop::trouble(format!("{}: there is no such file; icl book new makes a day book", shown(book_path)))
-        }
-        _ => trouble(book_path, error),
     }
 }

@@ -1,12 +1,16 @@
-//! The file that a day book stands in: how its bytes are made of the book, and how they are taken apart. `docs/BOOK-FILE.md` has the form.
+//! The file that a day book stands in: how its bytes are made of the book, and how they are taken apart. `docs/BOOK-FILE.md` has the form, and how those
+//! of older versions differ.
 
 use x9180::Book;
 
-/// The first line, by which a person tells the file, and the tool its version.
-const FIRST_LINE: &[u8] = b"icl day book, version 1\n";
-
-/// What the first line begins with in every version.
+/// What the first line begins with, by which a person tells the file.
 const EVERY_VERSION: &[u8] = b"icl day book, version ";
+
+/// The version of the files that are written here; the first is 1. It ends the first line.
+pub const VERSION: u64 = 2;
+
+/// The bytes of the first line, while the version is of one digit.
+const FIRST_LINE: usize = EVERY_VERSION.len() + 2;
 
 /// The bytes of a number.
 const NUMBER: usize = 8;
@@ -15,13 +19,17 @@ const NUMBER: usize = 8;
 pub const MOST_ROWS: u64 = 1_000_000;
 
 /// The most bytes of such a file: first line, two counts, the numbers, the check sum.
-pub const MOST_BYTES: usize = FIRST_LINE.len() + (Book::numbers_for(MOST_ROWS as usize) + 3) * NUMBER;
+pub const MOST_BYTES: usize = FIRST_LINE + (Book::numbers_for(MOST_ROWS as usize) + 3) * NUMBER;
 
 /// Why a file holds no book.
 #[derive(Debug, PartialEq, Eq)]
 pub enum Fault {
     /// It is damaged, or no file of a day book, or of a version that is not known here.
     Damaged(String),
+    /// It is whole, and of this older version.
+    Older(u64),
+    /// It is whole, and of the version of today, where an older one is asked for.
+    OfToday,
     /// There is not memory enough for the book.
     NoMemory,
 }
@@ -31,8 +39,9 @@ pub enum Fault {
 pub fn bytes_of(book: &Book) -> Vec<u8> {
     let numbers = book.numbers();
     let stored = numbers.iter().rposition(|number| *number != 0).map_or(0, |last| last + 1);
-    let mut bytes = Vec::with_capacity(FIRST_LINE.len() + (stored + 3) * NUMBER);
-    bytes.extend_from_slice(FIRST_LINE);
+    let mut bytes = Vec::with_capacity(FIRST_LINE + (stored + 3) * NUMBER);
+    bytes.extend_from_slice(EVERY_VERSION);
+    bytes.extend(format!("{VERSION}\n").bytes());
     let counts = [numbers.len() as u64, stored as u64];
     counts.iter().chain(numbers.iter().take(stored)).for_each(|number| bytes.extend(number.to_le_bytes()));
     let sum = check_sum(&bytes);
@@ -42,7 +51,23 @@ pub fn bytes_of(book: &Book) -> Vec<u8> {
 
 /// The book that stands in these bytes, for the library to judge.
 pub fn book_in(bytes: &[u8]) -> Result<Book, Fault> {
-    let numbers = behind_first_line(bytes)?;
+    match table_in(bytes)? {
+        (VERSION, numbers) => Ok(Book::over(numbers)),
+        (older, _) => Err(Fault::Older(older)),
+    }
+}
+
+/// The version and the numbers of an older book.
+pub fn older_in(bytes: &[u8]) -> Result<(u64, Vec<u64>), Fault> {
+    match table_in(bytes)? {
+        (VERSION, _) => Err(Fault::OfToday),
+        older => Ok(older),
+    }
+}
+
+/// The version of the file in these bytes, and the numbers of its table.
+fn table_in(bytes: &[u8]) -> Result<(u64, Vec<u64>), Fault> {
+    let (version, numbers) = first_line(bytes)?;
     if bytes.len() > MOST_BYTES {
         return Err(Fault::Damaged(format!("it is longer than {MOST_BYTES} bytes, and no day book is")));
     }
@@ -59,11 +84,11 @@ pub fn book_in(bytes: &[u8]) -> Result<Book, Fault> {
         let words = format!("its check sum is wrong: {stated:016x} stands there, and its bytes come to {found:016x}");
         return Err(Fault::Damaged(words));
     }
-    with_zeros(stored, length)
+    Ok((version, with_zeros(stored, length)?))
 }
 
-/// A book of so many numbers, of which all but these first ones are zeros.
-fn with_zeros(stored: &[u8], length: u64) -> Result<Book, Fault> {
+/// A table of so many numbers, of which all but these first ones are zeros.
+fn with_zeros(stored: &[u8], length: u64) -> Result<Vec<u64>, Fault> {
     let most = Book::numbers_for(MOST_ROWS as usize);
     let Some(length) = usize::try_from(length).ok().filter(|length| *length <= most) else {
         return Err(Fault::Damaged(format!("it tells of {length} numbers, and no day book has more than {most}")));
@@ -76,25 +101,30 @@ fn with_zeros(stored: &[u8], length: u64) -> Result<Book, Fault> {
     numbers.try_reserve_exact(length).map_err(|_| Fault::NoMemory)?;
     numbers.extend(numbers_in(stored));
     numbers.resize(length, 0);
-    Ok(Book::over(numbers))
+    Ok(numbers)
 }
 
-/// What stands behind the first line, where that is the right one.
-fn behind_first_line(bytes: &[u8]) -> Result<&[u8], Fault> {
-    if let Some(rest) = bytes.strip_prefix(FIRST_LINE) {
-        return Ok(rest);
-    }
-    let line = String::from_utf8_lossy(FIRST_LINE.trim_ascii_end());
+/// The version that the first line tells, where it is one that is read here, and what stands behind that line.
+fn first_line(bytes: &[u8]) -> Result<(u64, &[u8]), Fault> {
     if bytes.is_empty() {
         return Err(Fault::Damaged("the file is empty".to_string()));
     }
-    let version = bytes.strip_prefix(EVERY_VERSION).map(|rest| rest.split(|byte| !byte.is_ascii_digit()).next());
-    match version.flatten().filter(|version| !version.is_empty() && *version != b"1") {
-        Some(version) => {
-            let version = String::from_utf8_lossy(version.get(..20).unwrap_or(version)).into_owned();
-            Err(Fault::Damaged(format!("it says that it is of version {version}, and this icl reads version 1")))
+    let no_first_line =
+        || Fault::Damaged(format!("it does not begin with the line \"icl day book, version {VERSION}\""));
+    let behind = bytes.strip_prefix(EVERY_VERSION).ok_or_else(no_first_line)?;
+    let digits = behind.iter().take_while(|byte| byte.is_ascii_digit()).count();
+    match behind.get(..digits).unwrap_or_default() {
+        [digit @ b'1'..=b'9'] if u64::from(digit - b'0') <= VERSION => {
+            let rest = behind.get(digits..).and_then(|rest| rest.strip_prefix(b"\n")).ok_or_else(no_first_line)?;
+            Ok((u64::from(digit - b'0'), rest))
         }
-        None => Err(Fault::Damaged(format!("it does not begin with the line \"{line}\""))),
+        [] => Err(no_first_line()),
+        version => {
+            let version = String::from_utf8_lossy(version.get(..20).unwrap_or(version)).into_owned();
+            Err(Fault::Damaged(format!(
+                "it says that it is of version {version}, and this icl reads version {VERSION}"
+            )))
+        }
     }
 }
 
@@ -130,6 +160,8 @@ const REMAINDERS: [u64; 256] = {
 
 #[cfg(test)]
 mod tests {
+    use x9180::book::Owner;
+
     use super::*;
 
     fn damage(bytes: &[u8]) -> String {
@@ -144,7 +176,7 @@ mod tests {
         let file =
             std::fs::read(concat!(env!("CARGO_MANIFEST_DIR"), "/../../peer/samples/sound-11-credits.x9")).unwrap();
         let mut book = Book::with_rows(2).unwrap();
-        book.enter(&file, 7).unwrap();
+        book.enter(&file, 7, Owner::TWO).unwrap();
         book.into_memory()
     }
 
@@ -164,9 +196,9 @@ mod tests {
     fn the_bytes_of_an_empty_book() {
         let book = Book::with_rows(1).unwrap();
         let expected = [
-            b"icl day book, version 1\n".as_slice(),
+            b"icl day book, version 2\n".as_slice(),
             &[26, 0, 0, 0, 0, 0, 0, 0, 0, 0, 0, 0, 0, 0, 0, 0],
-            &0xda21_72d3_f850_4188_u64.to_le_bytes(),
+            &0xe49a_c4af_50d3_5bc9_u64.to_le_bytes(),
         ];
         assert_eq!(bytes_of(&book), expected.concat());
     }
@@ -181,6 +213,20 @@ mod tests {
             let stored = numbers.iter().rposition(|number| *number != 0).map_or(0, |last| last + 1);
             assert_eq!(bytes.len(), 24 + 8 * (3 + stored));
         }
+    }
+
+    /// Whole, but of the first version, as its check sum says too.
+    #[test]
+    fn older_books() {
+        let now = bytes_of_numbers(&small());
+        assert_eq!(older_in(&now), Err(Fault::OfToday));
+        let mut older = [b"icl day book, version 1\n", &now[24..now.len() - 8]].concat();
+        older.extend(check_sum(&older).to_le_bytes());
+        assert_eq!(book_in(&older).unwrap_err(), Fault::Older(1));
+        assert_eq!(older_in(&older), Ok((1, small())));
+        older[100] ^= 1;
+        assert!(damage(&older).starts_with("its check sum is wrong"));
+        assert!(matches!(older_in(&older), Err(Fault::Damaged(_))));
     }
 
     /// Each byte changed to each other value, each cut, and bytes added at either end or taken out.
@@ -207,12 +253,14 @@ mod tests {
     fn words_of_damage() {
         let sound = bytes_of_numbers(&small());
         assert_eq!(damage(b""), "the file is empty");
-        let first_line = "it does not begin with the line \"icl day book, version 1\"";
-        for begin in ["icl", "icl day book, version 1", "icl day book, version \n", "ICL day book, version 1\n", "\n"] {
+        let first_line = "it does not begin with the line \"icl day book, version 2\"";
+        for begin in ["icl", "icl day book, version 2", "icl day book, version \n", "ICL day book, version 2\n", "\n"] {
             assert_eq!(damage(begin.as_bytes()), first_line, "{begin}");
         }
-        for (line, version) in [("2\n", "2"), ("10\n", "10"), ("0", "0"), ("4294967296 of\n", "4294967296")] {
-            let words = format!("it says that it is of version {version}, and this icl reads version 1");
+        for (line, version) in
+            [("3\n", "3"), ("10\n", "10"), ("0", "0"), ("02", "02"), ("4294967296 of\n", "4294967296")]
+        {
+            let words = format!("it says that it is of version {version}, and this icl reads version 2");
             assert_eq!(damage(format!("icl day book, version {line}").as_bytes()), words);
         }
         assert_eq!(damage(&sound[..24]), "it ends after 24 bytes, before its numbers do");
@@ -232,11 +280,11 @@ mod tests {
             ([u64::MAX, 1], "it tells of 18446744073709551615 numbers, and no day book has more than 9000017"),
         ] {
             let numbers = [counts[0], counts[1], 5].map(u64::to_le_bytes).concat();
-            let mut bytes = [FIRST_LINE, &numbers].concat();
+            let mut bytes = [b"icl day book, version 2\n".as_slice(), &numbers].concat();
             bytes.extend(check_sum(&bytes).to_le_bytes());
             assert_eq!(damage(&bytes), words);
         }
-        let long = [FIRST_LINE, &vec![0; MOST_BYTES]].concat();
+        let long = [b"icl day book, version 2\n".as_slice(), &vec![0; MOST_BYTES]].concat();
         assert_eq!(damage(&long), "it is longer than 72000184 bytes, and no day book is");
     }
 }

@@ -7,12 +7,12 @@ use x9180::book::Entry;
 use crate::words::{amount, grouped};
 
 /// The columns for programs; amounts are in cents.
-const COLUMNS: [&str; 8] =
-    ["entry", "file_number", "bundles", "debit_items", "credit_items", "views", "debit", "credit"];
+const COLUMNS: [&str; 9] =
+    ["owner", "entry", "file_number", "bundles", "debit_items", "credit_items", "views", "debit", "credit"];
 
 /// The columns for people; amounts are in currency.
-const HEADS: [&str; 8] =
-    ["entry", "file number", "bundles", "views", "debits", "debit amount", "credits", "credit amount"];
+const HEADS: [&str; 9] =
+    ["owner", "entry", "file number", "bundles", "views", "debits", "debit amount", "credits", "credit amount"];
 
 pub fn csv(entries: &[Entry], out: &mut dyn Write) -> Result<()> {
     writeln!(out, "{}", COLUMNS.join(","))?;
@@ -43,14 +43,15 @@ pub fn table(entries: &[Entry], out: &mut dyn Write) -> Result<()> {
     entries.iter().try_for_each(|entry| line(shown(entry), widths, out))
 }
 
-fn line(cells: [String; 8], widths: [usize; 8], out: &mut dyn Write) -> Result<()> {
+fn line(cells: [String; 9], widths: [usize; 9], out: &mut dyn Write) -> Result<()> {
     let cells: Vec<String> = cells.iter().zip(widths).map(|(cell, width)| format!("{cell:>width$}")).collect();
     writeln!(out, "{}", cells.join("  "))
 }
 
-fn numbers(entry: &Entry) -> [u64; 8] {
+fn numbers(entry: &Entry) -> [u64; 9] {
     let figures = &entry.figures;
     [
+        entry.owner.0,
         entry.number,
         entry.file_number,
         figures.bundles,
@@ -63,9 +64,10 @@ fn numbers(entry: &Entry) -> [u64; 8] {
 }
 
 /// Numbers that are names stand as they were given; counts and amounts are grouped.
-fn shown(entry: &Entry) -> [String; 8] {
+fn shown(entry: &Entry) -> [String; 9] {
     let figures = &entry.figures;
     [
+        entry.owner.0.to_string(),
         entry.number.to_string(),
         entry.file_number.to_string(),
         grouped(figures.bundles),

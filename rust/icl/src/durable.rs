@@ -24,17 +24,9 @@ impl Held {
         let place = fs::canonicalize(path)?;
         plain(&place)?;
         let folder = File::open(place.parent().unwrap_or(Path::new("/")))?;
-        loop {
-            // To be written too, though another file takes its place: so one that is marked read-only is left alone.
-            let file = File::options().read(true).write(true).open(&place)?;
-            point("opened");
-            file.lock().map_err(|error| Error::other(format!("it cannot be locked: {error}")))?;
-            point("locked");
-            // Who held it before has put another in its place, which is the one to hold.
-            if is_at(&file, &place)? {
-                return Ok(Held { place, folder, file });
-            }
-        }
+        // To be written too, though another file takes its place: so one that is marked read-only is left alone.
+        let file = locked(&place, File::options().read(true).write(true), File::lock)?;
+        Ok(Held { place, folder, file })
     }
 
     /// Its bytes, or one more than the most that are wanted.
@@ -72,8 +64,63 @@ impl Held {
     }
 }
 
+/// A file that is looked at only, while no other process changes it.
+pub struct Watched {
+    /// Locked until it is dropped.
+    file: File,
+}
+
+impl Watched {
+    /// Waits until no other process holds the file, and keeps them all from it.
+    pub fn of(path: &Path) -> Result<Watched> {
+        let place = fs::canonicalize(path)?;
+        plain(&place)?;
+        Ok(Watched { file: locked(&place, File::options().read(true), File::lock_shared)? })
+    }
+
+    /// Its bytes, or one more than the most that are wanted.
+    pub fn bytes(&self, most: usize) -> Result<Vec<u8>> {
+        let bytes = some_bytes(&self.file, most)?;
+        point("read");
+        Ok(bytes)
+    }
+
+    /// Writes a file as [`create`] does, for those who may read and write this one, and to be written by its owner.
+    pub fn create_alike(&self, folder: &Path, name: &Path, bytes: &[u8]) -> Result<()> {
+        create_with(folder, name, bytes, 0o600, |new| {
+            keep_rights(&self.file, new)?;
+            new.set_permissions(Permissions::from_mode(new.metadata()?.mode() & 0o7777 | 0o200))
+        })
+    }
+}
+
+/// The file at a place, opened and locked.
+fn locked(place: &Path, options: &fs::OpenOptions, lock: fn(&File) -> Result<()>) -> Result<File> {
+    loop {
+        let file = options.open(place)?;
+        point("opened");
+        lock(&file).map_err(|error| Error::other(format!("it cannot be locked: {error}")))?;
+        point("locked");
+        // Who held it before has put another in its place, which is the one to lock.
+        if is_at(&file, place)? {
+            return Ok(file);
+        }
+    }
+}
+
 /// Writes a file into a folder that has none of its name: all of it or nothing.
 pub fn create(folder: &Path, name: &Path, bytes: &[u8]) -> Result<()> {
+    create_with(folder, name, bytes, 0o666, |_| Ok(()))
+}
+
+/// The same, with a mode to begin with and the rights that are given last.
+fn create_with(
+    folder: &Path,
+    name: &Path,
+    bytes: &[u8],
+    mode: u32,
+    give_rights: impl Fn(&File) -> Result<()>,
+) -> Result<()> {
     let path = folder.join(name);
     let folder = File::open(folder)?;
     let there = || Error::new(ErrorKind::AlreadyExists, "it is there already, and stays as it is");
@@ -83,9 +130,10 @@ pub fn create(folder: &Path, name: &Path, bytes: &[u8]) -> Result<()> {
     interrupt::watch();
     // Two may make the same file at once, and nothing is there yet to hold.
     let beside = Beside::of(&path, &format!("-{}", std::process::id()));
-    let mut new = File::create_new(&beside.path)?;
+    let mut new = File::options().write(true).create_new(true).mode(mode).open(&beside.path)?;
     point("created");
     write_all(&mut new, bytes)?;
+    give_rights(&new)?;
     new.sync_all()?;
     point("synced");
     interrupt::heed()?;
@@ -293,18 +341,29 @@ mod tests {
     const CHANGED: &str =
         "opened, locked, read, beside is free, created, piece written, written, synced, renamed, folder synced";
 
+    const WRITTEN_ANEW: &str = "opened, locked, read, created, piece written, synced, linked, folder synced";
+
+    /// An empty book of one row of version 1: its 26 numbers are zeros, and left out. The check sum was worked out by another program (xz).
+    fn version_1() -> Vec<u8> {
+        let counts = [26_u64, 0].map(u64::to_le_bytes).concat();
+        [b"icl day book, version 1\n", &counts[..], &0xda21_72d3_f850_4188_u64.to_le_bytes()].concat()
+    }
+
     /// The new bytes are safe on the disk before they are put in the place of the old ones, and the folder after that.
     #[test]
     fn steps_in_their_order() {
         let folder = Folder::new("order");
         let (book, file) = (folder.path("day.book"), sample("samples/two-letters-with-pictures.x9"));
         assert_eq!(run(&["book", "new", &book]), CREATED);
-        assert_eq!(run(&["book", "enter", &book, &file, "--number", "1"]), CHANGED);
+        assert_eq!(run(&["book", "enter", &book, &file, "--number", "1", "--owner", "1"]), CHANGED);
         assert_eq!(run(&["book", "grow", &book, "--rows", "20000"]), CHANGED);
-        for words in [vec!["book", "show", &book, "1"], vec!["book", "totals", &book], vec!["book", "list", &book]] {
-            assert_eq!(run(&words), "");
+        for words in [vec!["show", &book, "1"], vec!["totals", &book], vec!["list", &book]] {
+            assert_eq!(run(&[&["book"], &words[..], &["--owner", "1"]].concat()), "");
         }
-        assert_eq!(folder.names(), ["day.book"]);
+        let (old, new) = (folder.path("old.book"), folder.path("new.book"));
+        fs::write(&old, version_1()).unwrap();
+        assert_eq!(run(&["book", "convert", &old, &new, "--owner", "1"]), WRITTEN_ANEW);
+        assert_eq!(folder.names(), ["day.book", "new.book", "old.book"]);
     }
 
     /// A process that ends at any point leaves the old book or the new one, and the next goes on from there.
@@ -315,12 +374,12 @@ mod tests {
         let [first, second] =
             ["two-letters", "credits"].map(|name| sample(&format!("samples/{name}-with-pictures.x9")));
         run(&["book", "new", &fine]);
-        run(&["book", "enter", &fine, &first, "--number", "1"]);
+        run(&["book", "enter", &fine, &first, "--number", "1", "--owner", "1"]);
         let old = fs::read(&fine).unwrap();
-        run(&["book", "enter", &fine, &second, "--number", "2"]);
+        run(&["book", "enter", &fine, &second, "--number", "2", "--owner", "2"]);
         let new = fs::read(&fine).unwrap();
         assert_ne!(old, new);
-        let words = ["book", "enter", &book, &second, "--number", "2"];
+        let words = ["book", "enter", &book, &second, "--number", "2", "--owner", "2"];
         let mut left = Vec::new();
         for point in 1.. {
             fs::write(&book, &old).unwrap();
@@ -357,6 +416,26 @@ mod tests {
             left.push(fs::read(&book).ok().map(|bytes| bytes == whole));
         }
         assert_eq!(left, [None, None, None, Some(true), Some(true)]);
+    }
+
+    /// The old book stays as it is whenever the process ends, and the new one is there whole or not at all.
+    #[test]
+    fn a_book_written_anew_is_there_whole_or_not_at_all() {
+        let folder = Folder::new("anew");
+        let [old, new, fine] = ["old.book", "new.book", "fine.book"].map(|name| folder.path(name));
+        fs::write(&old, version_1()).unwrap();
+        run(&["book", "convert", &old, &fine, "--owner", "2"]);
+        let whole = fs::read(&fine).unwrap();
+        let mut left = Vec::new();
+        for point in 1.. {
+            let _ = fs::remove_file(&new);
+            if run_until(point, &["book", "convert", &old, &new, "--owner", "2"]).is_some() {
+                break;
+            }
+            left.push(fs::read(&new).ok().map(|bytes| bytes == whole));
+            assert_eq!(fs::read(&old).unwrap(), version_1(), "point {point}");
+        }
+        assert_eq!(left, [[None; 6].as_slice(), &[Some(true); 2]].concat());
     }
 
     /// Who waits for the file goes on with the one that has come in its place meanwhile.

@@ -17,11 +17,12 @@ use:
   icl draft [--force] FILE -o DIR
   icl write [--force] DIR -o FILE
   icl book new BOOK [--rows N]
-  icl book enter BOOK FILE --number N
-  icl book show BOOK ENTRY
-  icl book list [--csv | --json] BOOK
-  icl book totals BOOK
+  icl book enter BOOK FILE --number N --owner 1|2
+  icl book show BOOK ENTRY --owner 1|2
+  icl book list [--csv | --json] BOOK --owner 1|2
+  icl book totals BOOK --owner 1|2
   icl book grow BOOK --rows N
+  icl book convert OLD NEW --owner 1|2
   icl COMMAND --help
   icl --version
 
@@ -157,30 +158,36 @@ letter.json is not what is asked.
 ";
 
 const BOOK: &str = "\
-icl book new BOOK [--rows N]             makes an empty day book
-icl book enter BOOK FILE --number N      enters the cash letters of an accepted file
-icl book show BOOK ENTRY                 shows one entry
-icl book list [--csv | --json] BOOK      lists all entries
-icl book totals BOOK                     shows what all entries come to
-icl book grow BOOK --rows N              gives the book more rows
+icl book new BOOK [--rows N]                       makes an empty day book
+icl book enter BOOK FILE --number N --owner 1|2    enters the cash letters of an accepted file
+icl book show BOOK ENTRY --owner 1|2               shows one entry
+icl book list [--csv | --json] BOOK --owner 1|2    lists all entries of an owner
+icl book totals BOOK --owner 1|2                   shows what all entries of an owner come to
+icl book grow BOOK --rows N                        gives the book more rows
+icl book convert OLD NEW --owner 1|2               writes a book of version 1 anew
 
 BOOK is a file of its own (docs/BOOK-FILE.md), which icl book new makes and nothing overwrites; enter makes none.
-Each cash letter of FILE becomes an entry, with the next entry number, counted from 1, and keeps its own bundles,
-views, debits and credits for good, whatever is entered later. A refusal leaves the book as it was.
-  --number N  the number that FILE is known by, of your own choosing; each may be entered once. FILE may be -
+Each cash letter of FILE becomes an entry, with the next entry number, and keeps its own bundles, views, debits and
+credits for good, whatever is entered later. A refusal leaves the book as it was.
+Two bureaus may share a book. Each entry has an owner, and entry numbers, counted from 1, file numbers and totals are
+each owner's own; the free rows are for both.
+  --owner N   whose entries, 1 or 2
+  --number N  the number that FILE is known by, of your own choosing; each owner may enter it once. FILE may be -
   --rows N    for how many cash letters there is room, 10,000 unless told otherwise and 1,000,000 at most; grow
               takes the new number of rows in all and leaves everything else as it is
   --csv       comma separated, with a first line of column names, amounts in cents
   --json      an array of objects, one on a line, amounts in cents
 Two may enter at once: the second waits for the first. The book is written beside its place, made safe on the
 disk and then renamed, so that after a crash at any instant it is as it was before or with all of FILE entered.
+A book of version 1, from before entries had owners, is refused: convert writes it anew as NEW, with all its entries
+given to one owner, and leaves OLD as it is; NEW must not be there yet.
 
 Refusals are told on standard error: those of icl check FILE, and with record, field and offset 0
-  12 DUPLICATE   the file number has been entered already
+  12 DUPLICATE   the owner has entered the file number already
   13 FULL        there are more cash letters than free rows (icl book grow helps), or a running total or an
                  entry number would pass 64 bits
-  15 NOENTRY     there is no such entry
-  20 BOOK        BOOK is damaged or no day book; it is then never written to
+  15 NOENTRY     the owner has no such entry, or is neither 1 nor 2
+  20 BOOK        BOOK is damaged, no day book, or of another version; it is then never written to
 Exit status: 0 done, 1 refused, 2 something could not be read or written, or there is no file BOOK.
 ";
 

@@ -5,6 +5,8 @@
 // below its own. `x9180/tests/imports.rs` fails where that is not so.
 //
 //     check, rows, tree, pictures, tags, draft, write, book    the commands
+//     book_convert
+//     book_words
 //     args, input, output, sheet, names, help, book_file, book_list, durable
 //     store, json, places
 //     screen, interrupt
@@ -12,8 +14,10 @@
 //     words
 mod args;
 mod book;
+mod book_convert;
 mod book_file;
 mod book_list;
+mod book_words;
 mod check;
 mod draft;
 mod durable;

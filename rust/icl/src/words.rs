@@ -81,6 +81,11 @@ pub fn counted(count: u64, noun: &str) -> String {
     format!("{} {noun}{}", grouped(count), if count == 1 { "" } else { "s" })
 }
 
+/// A count of entries: `1 entry`, `2 entries`.
+pub fn entries(count: u64) -> String {
+    format!("{} {}", grouped(count), if count == 1 { "entry" } else { "entries" })
+}
+
 /// The set of a file that is not in ASCII. Of the others nothing is said, as before request 5.
 pub fn set_told(set: CharacterSet) -> Option<String> {
     match set {

@@ -58,27 +58,27 @@ fn two_days() {
     let written = format!("an empty day book of 10,000 rows written to {book}\n");
     assert_eq!(run(&format!("book new {book}")), done(written));
     let entered = |first: u64, number: u64, letters: [&str; 2]| {
-        let line = |entry: u64, letter: &str| format!("  entry {entry}, file number {number}: {letter}\n");
+        let line = |entry: u64, letter: &str| format!("  entry {entry} of owner 1, file number {number}: {letter}\n");
         let lines = [line(first, letters[0]), line(first + 1, letters[1])].concat();
-        done(format!("2 cash letters entered into {book}\n{lines}"))
+        done(format!("2 cash letters entered into {book} for owner 1\n{lines}"))
     };
     assert_eq!(
-        run(&format!("book enter {book} {PICTURED} --number 20240116")),
+        run(&format!("book enter {book} {PICTURED} --number 20240116 --owner 1")),
         entered(1, 20_240_116, PICTURED_LETTERS)
     );
     assert_eq!(
-        run(&format!("book enter --number 20240117 {book} {CREDITED}")),
+        run(&format!("book enter --number 20240117 {book} {CREDITED} --owner 1")),
         entered(3, 20_240_117, CREDITED_LETTERS)
     );
     // The same letters in EBCDIC, from standard input, under a number of their own.
-    let piped = piped(&format!("book enter {book} - --number 0"), &read(IN_EBCDIC));
+    let piped = piped(&format!("book enter {book} - --number 0 --owner 1"), &read(IN_EBCDIC));
     assert_eq!(piped, entered(5, 0, PICTURED_LETTERS));
-    let shown = format!("entry 3, file number 20240117: {}\n", CREDITED_LETTERS[0]);
-    assert_eq!(run(&format!("book show {book} 3")), done(shown));
+    let shown = format!("entry 3 of owner 1, file number 20240117: {}\n", CREDITED_LETTERS[0]);
+    assert_eq!(run(&format!("book show {book} 3 --owner 1")), done(shown));
     // 47557 debit cents twice and 47807, 164364 credit cents.
     let totals =
-        "6 entries: 9 bundles, 30 views, 13 debits of 1,429.21, 6 credits of 1,643.64\nfree rows: 9,994 of 10,000\n";
-    assert_eq!(run(&format!("book totals {book}")), done(totals));
+        "6 entries of owner 1: 9 bundles, 30 views, 13 debits of 1,429.21, 6 credits of 1,643.64\nfree rows: 9,994 of 10,000\n";
+    assert_eq!(run(&format!("book totals {book} --owner 1")), done(totals));
     assert_eq!(folder.names(""), ["day.book"]);
 }
 
@@ -86,70 +86,130 @@ fn two_days() {
 fn lists() {
     let folder = Folder::new("lists");
     let book = new(&folder, 50);
-    let table = "entry  file number  bundles  views  debits  debit amount  credits  credit amount\n";
-    let columns = "entry,file_number,bundles,debit_items,credit_items,views,debit,credit\n";
-    assert_eq!(run(&format!("book list {book}")), done(table));
-    assert_eq!(run(&format!("book list --csv {book}")), done(columns));
-    assert_eq!(run(&format!("book list {book} --json")), done("[]\n"));
-    let totals = "0 entries: 0 bundles, 0 views, 0 debits of 0.00, 0 credits of 0.00\nfree rows: 50 of 50\n";
-    assert_eq!(run(&format!("book totals {book}")), done(totals));
+    let table = "owner  entry  file number  bundles  views  debits  debit amount  credits  credit amount\n";
+    let columns = "owner,entry,file_number,bundles,debit_items,credit_items,views,debit,credit\n";
+    assert_eq!(run(&format!("book list {book} --owner 1")), done(table));
+    assert_eq!(run(&format!("book list --csv {book} --owner 1")), done(columns));
+    assert_eq!(run(&format!("book list {book} --json --owner 1")), done("[]\n"));
+    let totals = "0 entries of owner 1: 0 bundles, 0 views, 0 debits of 0.00, 0 credits of 0.00\nfree rows: 50 of 50\n";
+    assert_eq!(run(&format!("book totals {book} --owner 1")), done(totals));
 
     let many = folder.with("many.x9", &many_checks());
     for (file, number) in [(PICTURED, 1), (CREDITED, u64::MAX), (many.as_str(), 3)] {
-        assert_eq!(run(&format!("book enter {book} {file} --number {number}")).0, 0);
+        assert_eq!(run(&format!("book enter {book} {file} --number {number} --owner 1")).0, 0);
     }
     let rows = [
-        "    1                     1        2      6       3        165.57        0           0.00\n",
-        "    2                     1        1      2       1        310.00        0           0.00\n",
-        "    3  18446744073709551615        2     10       4        168.07        4         333.64\n",
-        "    4  18446744073709551615        1      4       1        310.00        2       1,310.00\n",
-        "    5                     3        1      0   9,999         99.99        0           0.00\n",
+        "    1      1                     1        2      6       3        165.57        0           0.00\n",
+        "    1      2                     1        1      2       1        310.00        0           0.00\n",
+        "    1      3  18446744073709551615        2     10       4        168.07        4         333.64\n",
+        "    1      4  18446744073709551615        1      4       1        310.00        2       1,310.00\n",
+        "    1      5                     3        1      0   9,999         99.99        0           0.00\n",
     ];
-    let head = "entry           file number  bundles  views  debits  debit amount  credits  credit amount\n";
-    assert_eq!(run(&format!("book list {book}")), done(format!("{head}{}", rows.concat())));
+    let head = "owner  entry           file number  bundles  views  debits  debit amount  credits  credit amount\n";
+    assert_eq!(run(&format!("book list {book} --owner 1")), done(format!("{head}{}", rows.concat())));
     let rows = [
-        [1, 1, 2, 3, 0, 6, 16_557, 0],
-        [2, 1, 1, 1, 0, 2, 31_000, 0],
-        [3, u64::MAX, 2, 4, 4, 10, 16_807, 33_364],
-        [4, u64::MAX, 1, 1, 2, 4, 31_000, 131_000],
-        [5, 3, 1, 9_999, 0, 0, 9_999, 0],
+        [1, 1, 1, 2, 3, 0, 6, 16_557, 0],
+        [1, 2, 1, 1, 1, 0, 2, 31_000, 0],
+        [1, 3, u64::MAX, 2, 4, 4, 10, 16_807, 33_364],
+        [1, 4, u64::MAX, 1, 1, 2, 4, 31_000, 131_000],
+        [1, 5, 3, 1, 9_999, 0, 0, 9_999, 0],
     ];
     let csv = rows.map(|row| format!("{}\n", row.map(|number| number.to_string()).join(","))).concat();
-    assert_eq!(run(&format!("book list --csv {book}")), done(format!("{columns}{csv}")));
-    let json = rows.map(|[entry, file_number, bundles, debit_items, credit_items, views, debit, credit]| {
+    assert_eq!(run(&format!("book list --csv {book} --owner 1")), done(format!("{columns}{csv}")));
+    let json = rows.map(|[owner, entry, file_number, bundles, debit_items, credit_items, views, debit, credit]| {
         format!(
-            "  {{\"entry\": {entry}, \"file_number\": {file_number}, \"bundles\": {bundles}, \"debit_items\": {debit_items}, \
+            "  {{\"owner\": {owner}, \"entry\": {entry}, \"file_number\": {file_number}, \"bundles\": {bundles}, \"debit_items\": {debit_items}, \
              \"credit_items\": {credit_items}, \"views\": {views}, \"debit\": {debit}, \"credit\": {credit}}}"
         )
     });
-    assert_eq!(run(&format!("book list --json {book}")), done(format!("[\n{}\n]\n", json.join(",\n"))));
+    assert_eq!(run(&format!("book list --json {book} --owner 1")), done(format!("[\n{}\n]\n", json.join(",\n"))));
+}
+
+/// Two bureaus at one book: numbers and totals are each one's own, and the free rows are for both.
+#[test]
+fn two_owners() {
+    let folder = Folder::new("owners");
+    let book = new(&folder, 5);
+    let entered = |owner: u64, letters: [&str; 2]| {
+        let line = |entry: u64, letter: &str| format!("  entry {entry} of owner {owner}, file number 7: {letter}\n");
+        let lines = [line(1, letters[0]), line(2, letters[1])].concat();
+        done(format!("2 cash letters entered into {book} for owner {owner}\n{lines}"))
+    };
+    assert_eq!(run(&format!("book enter {book} {PICTURED} --number 7 --owner 2")), entered(2, PICTURED_LETTERS));
+    assert_eq!(run(&format!("book enter {book} {CREDITED} --owner 1 --number 7")), entered(1, CREDITED_LETTERS));
+    for (owner, letters) in [(1, CREDITED_LETTERS), (2, PICTURED_LETTERS)] {
+        let shown = format!("entry 2 of owner {owner}, file number 7: {}\n", letters[1]);
+        assert_eq!(run(&format!("book show {book} 2 --owner {owner}")), done(shown));
+    }
+    let of_one = "2 entries of owner 1: 3 bundles, 14 views, 5 debits of 478.07, 6 credits of 1,643.64\n";
+    let of_two = "2 entries of owner 2: 3 bundles, 8 views, 4 debits of 475.57, 0 credits of 0.00\n";
+    for (owner, totals) in [(1, of_one), (2, of_two)] {
+        let totals = format!("{totals}free rows: 1 of 5\n");
+        assert_eq!(run(&format!("book totals {book} --owner {owner}")), done(totals));
+    }
+    let columns = "owner,entry,file_number,bundles,debit_items,credit_items,views,debit,credit\n";
+    let of_two = "2,1,7,2,3,0,6,16557,0\n2,2,7,1,1,0,2,31000,0\n";
+    assert_eq!(run(&format!("book list --csv {book} --owner 2")), done(format!("{columns}{of_two}")));
+    // A third entry of one is none of the other.
+    assert_eq!(run(&format!("book enter {book} peer/samples/sound-2-checks.x9 --number 8 --owner 2")).0, 0);
+    assert_eq!(run(&format!("book show {book} 3 --owner 2")).0, 0);
+    let words = "NOENTRY: the day book has no such entry; entry number 3 of owner 1; last entry number given: 2";
+    let expected = refused(format!("{book}: refused 15 record 0 field 0 offset 0: {words}"));
+    assert_eq!(unchanged(&book, &format!("book show {book} 3 --owner 1")), expected);
+    let words = "DUPLICATE: the file number has been entered already; file number 7 of owner 2; \
+                 entries with it: 2, the first of them entry 1";
+    let expected = refused(format!("{book}: refused 12 record 0 field 0 offset 0: {words}"));
+    assert_eq!(unchanged(&book, &format!("book enter {book} {CREDITED} --number 7 --owner 2")), expected);
+}
+
+/// An owner that is neither 1 nor 2 is told with the library's own number, before all that is wrong with the file.
+#[test]
+fn other_owners() {
+    let folder = Folder::new("other-owners");
+    let book = new(&folder, 5);
+    let large = folder.sparse("large.x9", 300 << 20);
+    for owner in ["0", "3", "18446744073709551615"] {
+        let words = format!("NOENTRY: the day book has no such entry; owner {owner}; a day book has owners 1 and 2");
+        let expected = refused(format!("{book}: refused 15 record 0 field 0 offset 0: {words}"));
+        for command in [
+            format!("enter {book} {PICTURED} --number 1"),
+            format!("enter {book} peer/samples/damaged-02-check-digit.x9 --number 1"),
+            format!("enter {book} {large} --number 1"),
+            format!("show {book} 1"),
+            format!("list {book}"),
+            format!("list --json {book}"),
+            format!("totals {book}"),
+        ] {
+            assert_eq!(unchanged(&book, &format!("book {command} --owner {owner}")), expected, "{command}");
+        }
+    }
 }
 
 #[test]
 fn refusals_by_the_book() {
     let folder = Folder::new("refusals");
     let book = new(&folder, 3);
-    assert_eq!(run(&format!("book enter {book} {PICTURED} --number 7")).0, 0);
-    let none = "NOENTRY: the day book has no entry of this number";
+    assert_eq!(run(&format!("book enter {book} {PICTURED} --number 7 --owner 1")).0, 0);
+    let none = "NOENTRY: the day book has no such entry";
     for entry in ["0", "3", "18446744073709551615"] {
-        let words = format!("{none}; entry number {entry}; last entry number given: 2");
+        let words = format!("{none}; entry number {entry} of owner 1; last entry number given: 2");
         let expected = refused(format!("{book}: refused 15 record 0 field 0 offset 0: {words}"));
-        assert_eq!(unchanged(&book, &format!("book show {book} {entry}")), expected);
+        assert_eq!(unchanged(&book, &format!("book show {book} {entry} --owner 1")), expected);
     }
-    let words = "DUPLICATE: the file number has been entered already; file number 7; entries with it: 2, the first of them entry 1";
+    let words = "DUPLICATE: the file number has been entered already; file number 7 of owner 1; entries with it: 2, the first of them entry 1";
     let expected = refused(format!("{book}: refused 12 record 0 field 0 offset 0: {words}"));
     // Of the same file, of another, and of one that would not fit besides.
     for file in [PICTURED, "peer/samples/sound-2-checks.x9", CREDITED] {
-        assert_eq!(unchanged(&book, &format!("book enter {book} {file} --number 7")), expected);
+        assert_eq!(unchanged(&book, &format!("book enter {book} {file} --number 7 --owner 1")), expected);
     }
     let words = format!(
         "FULL: the day book has no room for the file; cash letters: 2; free rows: 1; \
          icl book grow {book} --rows N makes room, N being 4 or more"
     );
     let expected = refused(format!("{book}: refused 13 record 0 field 0 offset 0: {words}"));
-    assert_eq!(unchanged(&book, &format!("book enter {book} {CREDITED} --number 8")), expected);
+    assert_eq!(unchanged(&book, &format!("book enter {book} {CREDITED} --number 8 --owner 1")), expected);
     // What fits still goes in.
-    assert_eq!(run(&format!("book enter {book} peer/samples/sound-2-checks.x9 --number 8")).0, 0);
+    assert_eq!(run(&format!("book enter {book} peer/samples/sound-2-checks.x9 --number 8 --owner 1")).0, 0);
     assert_eq!(folder.names(""), ["day.book"]);
 }
 
@@ -157,25 +217,25 @@ fn refusals_by_the_book() {
 fn refusals_of_the_file() {
     let folder = Folder::new("files");
     let book = new(&folder, 3);
-    assert_eq!(run(&format!("book enter {book} {PICTURED} --number 7")).0, 0);
+    assert_eq!(run(&format!("book enter {book} {PICTURED} --number 7 --owner 1")).0, 0);
     for name in ["damaged-06-item-count.x9", "damaged-02-check-digit.x9", "ebcdic/damaged-1-no-counterpart.x9"] {
         let file = format!("peer/samples/{name}");
         let listed = run(&format!("rows {file}"));
         assert_eq!(listed.0, 1, "{name}");
         // As elsewhere, and before DUPLICATE.
-        assert_eq!(unchanged(&book, &format!("book enter {book} {file} --number 7")), listed);
+        assert_eq!(unchanged(&book, &format!("book enter {book} {file} --number 7 --owner 1")), listed);
     }
     let empty = folder.with("empty.x9", b"");
     let words =
         "refused 1 record 0 field 0 offset 0: SIZE: the file has no byte, or more than 268435456; found 0 bytes";
-    let outcome = unchanged(&book, &format!("book enter {book} {empty} --number 8"));
+    let outcome = unchanged(&book, &format!("book enter {book} {empty} --number 8 --owner 1"));
     assert_eq!(outcome, refused(format!("{empty}: {words}")));
     let large = folder.sparse("large.x9", 300 << 20);
     let words = "too large: at most 268435456 bytes are read, and it has 314572800";
-    let outcome = unchanged(&book, &format!("book enter {book} {large} --number 8"));
+    let outcome = unchanged(&book, &format!("book enter {book} {large} --number 8 --owner 1"));
     assert_eq!(outcome, refused(format!("{large}: {words}")));
     let none = folder.path("none.x9");
-    let outcome = unchanged(&book, &format!("book enter {book} {none} --number 8"));
+    let outcome = unchanged(&book, &format!("book enter {book} {none} --number 8 --owner 1"));
     assert_eq!(outcome, trouble(format!("{none}: there is no such file or folder")));
 }
 
@@ -184,22 +244,22 @@ fn refusals_of_the_file() {
 fn growing() {
     let folder = Folder::new("growing");
     let book = new(&folder, 2);
-    assert_eq!(run(&format!("book enter {book} {PICTURED} --number 7")).0, 0);
-    let list = run(&format!("book list --csv {book}"));
+    assert_eq!(run(&format!("book enter {book} {PICTURED} --number 7 --owner 1")).0, 0);
+    let list = run(&format!("book list --csv {book} --owner 1"));
     for rows in [1, 2] {
         let expected = trouble(format!("{book} has 2 rows already, and none are taken away (icl --help tells more)"));
         assert_eq!(unchanged(&book, &format!("book grow {book} --rows {rows}")), expected);
     }
     let before = fs::read(&book).unwrap();
     assert_eq!(run(&format!("book grow {book} --rows 4")), done("free rows: 2 of 4\n"));
-    assert_eq!(run(&format!("book list --csv {book}")), list);
+    assert_eq!(run(&format!("book list --csv {book} --owner 1")), list);
     // Of the bytes none but the count of numbers, which was 17 + 2 x 9 = 35 and is 53, and the check sum.
     let after = fs::read(&book).unwrap();
     let end = before.len() - 8;
     assert_eq!((before[24], after[24], after.len()), (35, 53, before.len()));
     assert_eq!((&after[..24], &after[25..end]), (&before[..24], &before[25..end]));
-    assert_eq!(run(&format!("book enter {book} {CREDITED} --number 8")).0, 0);
-    assert_eq!(run(&format!("book totals {book}")).1.lines().last(), Some("free rows: 0 of 4"));
+    assert_eq!(run(&format!("book enter {book} {CREDITED} --number 8 --owner 1")).0, 0);
+    assert_eq!(run(&format!("book totals {book} --owner 1")).1.lines().last(), Some("free rows: 0 of 4"));
 }
 
 /// The most rows that a book may have, and one more.
@@ -215,8 +275,8 @@ fn numbers_of_rows() {
     let written = format!("an empty day book of 1,000,000 rows written to {book}\n");
     assert_eq!(run(&format!("book new {book} --rows 1000000")), done(written));
     assert_eq!(fs::metadata(&book).unwrap().len(), 48);
-    assert_eq!(run(&format!("book enter {book} {PICTURED} --number 1")).0, 0);
-    assert_eq!(run(&format!("book totals {book}")).1.lines().last(), Some("free rows: 999,998 of 1,000,000"));
+    assert_eq!(run(&format!("book enter {book} {PICTURED} --number 1 --owner 1")).0, 0);
+    assert_eq!(run(&format!("book totals {book} --owner 1")).1.lines().last(), Some("free rows: 999,998 of 1,000,000"));
 }
 
 #[test]
@@ -242,6 +302,7 @@ fn what_is_there_is_not_overwritten_by_a_new_book() {
 #[test]
 fn books_that_are_not_there() {
     let folder = Folder::new("missing-book");
+    let new = folder.path("new");
     let pipe = folder.path("pipe");
     assert!(Command::new("mkfifo").arg(&pipe).status().unwrap().success());
     for (path, words) in [
@@ -252,13 +313,18 @@ fn books_that_are_not_there() {
     ] {
         let expected = trouble(format!("{path}: {words}"));
         for words in [
-            "enter BOOK samples/two-letters-with-pictures.x9 --number 1",
-            "show BOOK 1",
-            "list BOOK",
-            "totals BOOK",
+            "enter BOOK samples/two-letters-with-pictures.x9 --number 1 --owner 1",
+            "show BOOK 1 --owner 1",
+            "list BOOK --owner 2",
+            "totals BOOK --owner 1",
             "grow BOOK --rows 5",
+            "convert BOOK NEW --owner 1",
         ] {
-            assert_eq!(run(&format!("book {}", words.replace("BOOK", &path))), expected, "{words}");
+            assert_eq!(
+                run(&format!("book {}", words.replace("BOOK", &path).replace("NEW", &new))),
+                expected,
+                "{words}"
+            );
         }
     }
     assert_eq!(folder.names(""), ["pipe"]);
@@ -272,10 +338,10 @@ fn a_link_to_a_book() {
     fs::create_dir(folder.0.join("below")).unwrap();
     std::os::unix::fs::symlink("../day.book", folder.0.join("below/link")).unwrap();
     let link = folder.path("below/link");
-    assert_eq!(run(&format!("book enter {link} {PICTURED} --number 1")).0, 0);
+    assert_eq!(run(&format!("book enter {link} {PICTURED} --number 1 --owner 1")).0, 0);
     assert_eq!(run(&format!("book grow {link} --rows 6")).0, 0);
     assert!(fs::symlink_metadata(&link).unwrap().is_symlink());
-    assert_eq!(run(&format!("book totals {book}")).1.lines().last(), Some("free rows: 4 of 6"));
+    assert_eq!(run(&format!("book totals {book} --owner 1")).1.lines().last(), Some("free rows: 4 of 6"));
     assert_eq!(folder.names("below"), ["link"]);
 }
 
@@ -292,7 +358,7 @@ fn a_write_that_fails() {
         file(&[vec![file_header()], vec![letter; 1_000].concat(), vec![file_control(1_000, 2_002, 0, 0)]].concat());
     let file = folder.with("letters.x9", &file);
     let before = fs::read(&book).unwrap();
-    let words = format!("book enter {book} {file} --number 1");
+    let words = format!("book enter {book} {file} --number 1 --owner 1");
     let limited = format!("ulimit -f 64; exec {} {words}", env!("CARGO_BIN_EXE_icl"));
     let (status, output, complaint) = outcome(Command::new("sh").arg("-c").arg(limited));
     assert_eq!((status, output.as_str()), (2, ""));
@@ -323,14 +389,14 @@ fn a_book_that_may_not_be_written() {
         }
         command.output()
     };
-    let enter = ["book", "enter", &book, &file, "--number", "1"];
+    let enter = ["book", "enter", &book, &file, "--number", "1", "--owner", "1"];
     allow(&book, 0o444);
     let Ok(output) = as_nobody(&enter) else { return eprintln!("not tried: nobody cannot be started here") };
     let said = String::from_utf8(output.stderr).unwrap();
     assert_eq!((output.status.code(), said), (Some(2), format!("icl: {book}: permission was denied\n")));
     assert_eq!(fs::read(&book).unwrap(), before);
     // It can be read all the same.
-    assert_eq!(as_nobody(&["book", "totals", &book]).unwrap().status.code(), Some(0));
+    assert_eq!(as_nobody(&["book", "totals", &book, "--owner", "1"]).unwrap().status.code(), Some(0));
     assert_eq!(folder.names(""), ["day.book", "file.x9", "icl"]);
 }
 
@@ -341,8 +407,9 @@ fn nowhere_to_tell() {
     let folder = Folder::new("untold");
     let book = new(&folder, 5);
     let full = fs::OpenOptions::new().write(true).open("/dev/full").unwrap();
-    let output = icl(["book", "enter", &book, PICTURED, "--number", "1"]).stdout(full).output().unwrap();
+    let output =
+        icl(["book", "enter", &book, PICTURED, "--number", "1", "--owner", "1"]).stdout(full).output().unwrap();
     let said = String::from_utf8(output.stderr).unwrap();
     assert_eq!((output.status.code(), said.as_str()), (Some(2), "icl: standard output: no space is left\n"));
-    assert_eq!(run(&format!("book show {book} 2")).0, 0);
+    assert_eq!(run(&format!("book show {book} 2 --owner 1")).0, 0);
 }

@@ -9,20 +9,21 @@ use common::{read, run, Folder};
 const FILE: &str = "peer/samples/sound-11-credits.x9";
 
 /// The commands that take a book.
-const COMMANDS: [&str; 6] = [
-    "enter BOOK peer/samples/sound-2-checks.x9 --number 9",
+const COMMANDS: [&str; 7] = [
+    "enter BOOK peer/samples/sound-2-checks.x9 --number 9 --owner 1",
     "grow BOOK --rows 9",
-    "show BOOK 1",
-    "list BOOK",
-    "list BOOK --csv",
-    "totals BOOK",
+    "show BOOK 1 --owner 2",
+    "list BOOK --owner 1",
+    "list BOOK --csv --owner 2",
+    "totals BOOK --owner 1",
+    "totals BOOK --owner 3",
 ];
 
 /// A sound book with one entry in two rows, of 24 + 8 x 29 bytes.
 fn sound(folder: &Folder) -> Vec<u8> {
     let book = folder.path("sound.book");
     assert_eq!(run(&format!("book new {book} --rows 2")).0, 0);
-    assert_eq!(run(&format!("book enter {book} {FILE} --number 7")).0, 0);
+    assert_eq!(run(&format!("book enter {book} {FILE} --number 7 --owner 1")).0, 0);
     let bytes = fs::read(&book).unwrap();
     assert_eq!(bytes.len(), 256);
     bytes
@@ -77,8 +78,8 @@ fn each_kind_of_damage() {
     let folder = Folder::new("kinds");
     let sound = sound(&folder);
     assert_eq!(with_numbers(&sound, &[]), sound);
-    let first_line = "it does not begin with the line \"icl day book, version 1\"";
-    let later = [b"icl day book, version 2\n", &sound[24..]].concat();
+    let first_line = "it does not begin with the line \"icl day book, version 2\"";
+    let later = [b"icl day book, version 3\n", &sound[24..]].concat();
     let other_sum = [&sound[..248], &[0; 8]].concat();
     let sum = check_sum(&sound[..248]);
     let kinds = [
@@ -86,7 +87,7 @@ fn each_kind_of_damage() {
         (vec![0; 256], first_line.to_string()),
         (read("README.md"), first_line.to_string()),
         (read(FILE), first_line.to_string()),
-        (later, "it says that it is of version 2, and this icl reads version 1".to_string()),
+        (later, "it says that it is of version 3, and this icl reads version 2".to_string()),
         (sound[..24].to_vec(), "it ends after 24 bytes, before its numbers do".to_string()),
         (sound[..255].to_vec(), "it has 255 bytes, which is not what its counts ask for: 26 numbers".to_string()),
         (
@@ -98,9 +99,14 @@ fn each_kind_of_damage() {
         (with_numbers(&sound, &[(0, 3)]), "rows claimed: 3; rows there: 2".to_string()),
         (
             with_numbers(&sound, &[(6, 40_004)]),
-            "running total of debit cents: 40004; its rows come to: 40005".to_string(),
+            "running total of debit cents of owner 1: 40004; its rows come to: 40005".to_string(),
         ),
-        (with_numbers(&sound, &[(0, 0)]), "running total of bundles: 1; its rows come to: 0".to_string()),
+        (with_numbers(&sound, &[(0, 0)]), "running total of bundles of owner 1: 1; its rows come to: 0".to_string()),
+        (with_numbers(&sound, &[(17, 0)]), "running total of bundles of owner 1: 1; its rows come to: 0".to_string()),
+        (
+            with_numbers(&sound, &[(15, 5)]),
+            "running total of credit cents of owner 2: 5; its rows come to: 0".to_string(),
+        ),
     ];
     for (bytes, expected) in &kinds {
         for command in COMMANDS {
@@ -114,8 +120,8 @@ fn each_kind_of_damage() {
     // BOOK comes before all that is wrong with the file.
     let large = folder.sparse("large.x9", 300 << 20);
     for file in ["peer/samples/damaged-02-check-digit.x9", &large] {
-        words(&folder, &kinds[9].0, &format!("enter BOOK {file} --number 7"));
-        words(&folder, &kinds[6].0, &format!("enter BOOK {file} --number 7"));
+        words(&folder, &kinds[9].0, &format!("enter BOOK {file} --number 7 --owner 2"));
+        words(&folder, &kinds[6].0, &format!("enter BOOK {file} --number 7 --owner 2"));
     }
 }
 
@@ -123,20 +129,20 @@ fn each_kind_of_damage() {
 #[test]
 fn numbers_that_are_not_looked_at() {
     let folder = Folder::new("other-numbers");
-    let bytes = with_numbers(&sound(&folder), &[(8, 5), (16, 6), (17, 7)]);
+    let bytes = with_numbers(&sound(&folder), &[(8, 5), (16, 6)]);
     let book = folder.with("other.book", &bytes);
     assert_eq!(run(&format!("book grow {book} --rows 3")).0, 0);
     assert_eq!(fs::read(&book).unwrap()[40..248], bytes[40..248]);
-    assert_eq!(run(&format!("book show {book} 1")).0, 0);
+    assert_eq!(run(&format!("book show {book} 1 --owner 1")).0, 0);
 }
 
 /// A file that is longer than any book, of which no more is read.
 #[test]
 fn a_file_too_long() {
     let folder = Folder::new("long");
-    let book = folder.with("long.book", b"icl day book, version 1\n");
+    let book = folder.with("long.book", b"icl day book, version 2\n");
     fs::File::options().write(true).open(&book).unwrap().set_len(300 << 20).unwrap();
-    for command in ["list BOOK", "enter BOOK peer/samples/sound-2-checks.x9 --number 1"] {
+    for command in ["list BOOK --owner 1", "enter BOOK peer/samples/sound-2-checks.x9 --number 1 --owner 1"] {
         let (status, _, complaint) = run(&format!("book {}", command.replace("BOOK", &book)));
         assert_eq!(status, 1);
         assert!(complaint.ends_with("; it is longer than 72000184 bytes, and no day book is\n"), "{complaint}");

@@ -24,31 +24,32 @@ fn file(number: u64) -> (&'static str, &'static [&'static str]) {
     }
 }
 
-fn enter(book: &str, number: u64) -> (i32, String, String) {
-    outcome(&mut icl(["book", "enter", book, file(number).0, "--number", &number.to_string()]))
+fn enter(book: &str, number: u64, owner: u64) -> (i32, String, String) {
+    let words = format!("book enter {book} {} --number {number} --owner {owner}", file(number).0);
+    outcome(&mut icl(words.split(' ')))
 }
 
-/// The entries by file number, after looking at all that has to be so in every book: entry numbers from 1 without a gap, the letters of a file side by
-/// side, with their own figures, and running totals that are their sums.
-fn entries(book: &str) -> BTreeMap<u64, u64> {
-    let (status, output, complaint) = run(&format!("book list --csv {book}"));
+/// The entries of an owner by file number, after looking at all that has to be so in every book: entry numbers from 1 without a gap, the letters of a
+/// file side by side, with their own figures, and running totals that are their sums.
+fn entries(book: &str, owner: u64) -> BTreeMap<u64, u64> {
+    let (status, output, complaint) = run(&format!("book list --csv {book} --owner {owner}"));
     assert_eq!((status, complaint.as_str()), (0, ""));
     let lines: Vec<&str> = output.lines().skip(1).collect();
     let mut found = BTreeMap::new();
     let mut expected = Vec::new();
     for line in &lines {
-        let mut numbers = line.split(',').map(|number| number.parse::<u64>().unwrap());
+        let mut numbers = line.split(',').skip(1).map(|number| number.parse::<u64>().unwrap());
         let (entry, file_number) = (numbers.next().unwrap(), numbers.next().unwrap());
         if found.insert(file_number, entry).is_none() {
             let letters = (expected.len() + 1..).zip(file(file_number).1);
-            expected.extend(letters.map(|(entry, figures)| format!("{entry},{file_number},{figures}")));
+            expected.extend(letters.map(|(entry, figures)| format!("{owner},{entry},{file_number},{figures}")));
         }
     }
     assert_eq!(lines, expected);
     found
 }
 
-/// Four at once, each with files of its own, while a fifth looks.
+/// Four at once, two of each owner, each with files of its own, while a fifth looks.
 #[test]
 fn four_at_once() {
     let folder = Folder::new("together");
@@ -63,7 +64,7 @@ fn four_at_once() {
                 scope.spawn(move || {
                     for turn in 0..each {
                         let number = worker * 100 + turn;
-                        let (status, output, complaint) = enter(book, number);
+                        let (status, output, complaint) = enter(book, number, 1 + worker % 2);
                         assert_eq!((status, complaint.as_str()), (0, ""), "{number}");
                         assert!(output.contains(&format!(", file number {number}: ")), "{output}");
                     }
@@ -73,7 +74,7 @@ fn four_at_once() {
         let looker = scope.spawn(|| {
             let (mut looks, mut most) = (0, 0);
             while !done.load(Ordering::Relaxed) {
-                let count = entries(&book).len();
+                let count = entries(&book, 1).len();
                 assert!(count >= most, "{count} after {most}");
                 (looks, most) = (looks + 1, count);
             }
@@ -83,12 +84,17 @@ fn four_at_once() {
         done.store(true, Ordering::Relaxed);
         assert!(looker.join().unwrap() > 2);
     });
-    let numbers: Vec<u64> = entries(&book).into_keys().collect();
-    let expected: Vec<u64> = (0..4).flat_map(|worker| (0..each).map(move |turn| worker * 100 + turn)).collect();
-    assert_eq!(numbers, expected);
-    // Sixteen files of one letter and sixteen of two.
-    let totals = "48 entries: 64 bundles, 128 views, 96 debits of 7,665.12, 0 credits of 0.00\nfree rows: 12 of 60\n";
-    assert_eq!(run(&format!("book totals {book}")), (0, totals.to_string(), String::new()));
+    for owner in [1, 2] {
+        let numbers: Vec<u64> = entries(&book, owner).into_keys().collect();
+        let workers = [owner - 1, owner + 1];
+        let expected: Vec<u64> =
+            workers.iter().flat_map(|worker| (0..each).map(move |turn| worker * 100 + turn)).collect();
+        assert_eq!(numbers, expected);
+        // Eight files of one letter and eight of two.
+        let sums = "32 bundles, 64 views, 48 debits of 3,832.56, 0 credits of 0.00";
+        let totals = format!("24 entries of owner {owner}: {sums}\nfree rows: 12 of 60\n");
+        assert_eq!(run(&format!("book totals {book} --owner {owner}")), (0, totals, String::new()));
+    }
     assert_eq!(folder.names(""), ["day.book"]);
 }
 
@@ -100,12 +106,12 @@ fn one_number_for_two() {
     assert_eq!(run(&format!("book new {book}")).0, 0);
     for number in 0..6 {
         let both = std::thread::scope(|scope| {
-            let both = [0, 1].map(|_| scope.spawn(|| enter(&book, number).0));
+            let both = [0, 1].map(|_| scope.spawn(|| enter(&book, number, 2).0));
             both.map(|one| one.join().unwrap())
         });
         assert!(both == [0, 1] || both == [1, 0], "{both:?}");
     }
-    assert_eq!(entries(&book).len(), 6);
+    assert_eq!(entries(&book, 2).len(), 6);
 }
 
 /// Two that make the same book: one of them does, and the other leaves it.
@@ -124,7 +130,7 @@ fn one_new_book() {
         assert!(both == [0, 2] || both == [2, 0], "{both:?}");
         let rows = if both[0] == 0 { 3 } else { 4 };
         let free = format!("free rows: {rows} of {rows}");
-        assert_eq!(run(&format!("book totals {book}")).1.lines().last(), Some(free.as_str()));
+        assert_eq!(run(&format!("book totals {book} --owner 1")).1.lines().last(), Some(free.as_str()));
     }
     assert_eq!(folder.names("").len(), 6);
 }
@@ -136,24 +142,24 @@ fn killed_at_any_instant() {
     let book = folder.path("day.book");
     assert_eq!(run(&format!("book new {book}")).0, 0);
     let started = Instant::now();
-    assert_eq!(enter(&book, 0).0, 0);
+    assert_eq!(enter(&book, 0, 2).0, 0);
     // As long as one takes, and a little more: on a machine at work, until about half have come to their end.
     let mut longest = started.elapsed().as_micros() as usize;
     let (mut random, mut known) = (Random::new(66), 1);
     let (mut ended, mut unended) = (0, 0);
     for number in 1..=30 {
-        let words = ["book", "enter", &book, file(number).0, "--number", &number.to_string()];
-        let mut child = icl(words).stdout(Stdio::piped()).stderr(Stdio::null()).spawn().unwrap();
+        let words = format!("book enter {book} {} --number {number} --owner 2", file(number).0);
+        let mut child = icl(words.split(' ')).stdout(Stdio::piped()).stderr(Stdio::null()).spawn().unwrap();
         std::thread::sleep(Duration::from_micros(random.below(longest) as u64));
         child.kill().unwrap();
         let told = !child.wait_with_output().unwrap().stdout.is_empty();
         let before = fs::read(&book).unwrap();
-        let found = entries(&book);
+        let found = entries(&book, 2);
         let is_there = found.contains_key(&number);
         assert!(is_there || !told, "{number} was told");
         assert_eq!(found.len(), known + usize::from(is_there), "{number}");
         // Entered again, it is there once, whatever the killed one left behind.
-        let (status, _, complaint) = enter(&book, number);
+        let (status, _, complaint) = enter(&book, number, 2);
         assert_eq!(status, i32::from(is_there), "{complaint}");
         assert_eq!(fs::read(&book).unwrap() == before, is_there);
         assert_eq!(folder.names(""), ["day.book"], "{number}");
@@ -161,6 +167,6 @@ fn killed_at_any_instant() {
         (ended, unended) = (ended + usize::from(is_there), unended + usize::from(!is_there));
         longest = if ended < unended { longest + longest / 8 } else { longest };
     }
-    assert_eq!(entries(&book).len(), 31);
+    assert_eq!(entries(&book, 2).len(), 31);
     assert!(ended > 0 && unended > 0, "{ended} ended, {unended} did not");
 }

@@ -137,7 +137,7 @@ fn waiting_for_a_book() {
         drop(held);
     });
     let (written, mut shown) = terminal();
-    let mut command = icl(["book", "enter", &book, "peer/samples/sound-2-checks.x9", "--number", "1"]);
+    let mut command = icl(["book", "enter", &book, "peer/samples/sound-2-checks.x9", "--number", "1", "--owner", "1"]);
     let mut child = command.stdout(Stdio::null()).stderr(written).spawn().unwrap();
     drop(command);
     let words = format!("\r\x1b[Kwaiting for {book}, which another process holds: ");
@@ -145,10 +145,10 @@ fn waiting_for_a_book() {
     shown.read_exact(&mut begin).unwrap();
     assert_eq!(String::from_utf8(begin).unwrap(), words);
     assert!(child.try_wait().unwrap().is_none());
-    assert_eq!(run(&format!("book show {book} 1")).0, 1);
+    assert_eq!(run(&format!("book show {book} 1 --owner 1")).0, 1);
     let_go.send(()).unwrap();
     assert!(child.wait().unwrap().success());
     assert!(text(shown).ends_with("\r\x1b[K"));
-    assert_eq!(run(&format!("book show {book} 1")).0, 0);
+    assert_eq!(run(&format!("book show {book} 1 --owner 1")).0, 0);
     holder.join().unwrap();
 }

@@ -1,21 +1,24 @@
-//! The day book (request 6): every cash letter of an accepted file becomes an entry, which keeps the letter's own figures for good.
+//! The day book (request 6): every cash letter of an accepted file becomes an entry, which keeps the letter's own figures for good. Two bureaus may share
+//! a book (request 8): every entry has an [`Owner`], and each owner has entry numbers, file numbers and running totals of its own.
 //!
 //! ```
+//! use x9180::book::Owner;
 //! use x9180::Book;
 //!
 //! # fn main() -> Result<(), Box<dyn std::error::Error>> {
 //! let mut book = Book::with_rows(1_000)?;
 //! let file = std::fs::read("../../samples/two-letters-with-pictures.x9")?;
-//! let entered = book.enter(&file, 20_240_116)?; // the file number is the caller's own
+//! let entered = book.enter(&file, 20_240_116, Owner::ONE)?; // the file number is the caller's own
 //! assert_eq!(entered.numbers(), 1..=2); // it holds two cash letters
 //!
-//! let entry = book.find(2)?;
+//! let entry = book.find(Owner::ONE, 2)?;
 //! assert_eq!((entry.file_number, entry.figures.debit_items, entry.figures.debit), (20_240_116, 1, 31_000));
-//! assert_eq!(book.totals()?.figures.debit, 47_557);
+//! assert_eq!(book.totals(Owner::ONE)?.figures.debit, 47_557);
 //!
-//! // A file number is taken once.
-//! let refused = book.enter(&file, 20_240_116).unwrap_err();
+//! // A file number is taken once by each owner.
+//! let refused = book.enter(&file, 20_240_116, Owner::ONE).unwrap_err();
 //! assert_eq!(refused.number(), x9180::Number::DUPLICATE);
+//! assert_eq!(book.enter(&file, 20_240_116, Owner::TWO)?.numbers(), 1..=2);
 //! # Ok(())
 //! # }
 //! ```
@@ -25,7 +28,7 @@
 use std::collections::TryReserveError;
 use std::ops::RangeInclusive;
 
-use crate::book_table::{numbers_for, BookRow, Table};
+use crate::book_table::{given_to, numbers_for, BookRow, Table};
 use crate::explain;
 use crate::explain_book;
 use crate::ffi;
@@ -36,6 +39,7 @@ use crate::row::Row;
 
 pub use crate::book_refusal::{Refused, Want, Wrong};
 pub use crate::figures::{Figure, Figures};
+pub use crate::owner::Owner;
 
 /// A day book, in memory of its own or lent.
 ///
@@ -43,16 +47,17 @@ pub use crate::figures::{Figure, Figures};
 /// Zeros are an empty book.
 ///
 /// ```
+/// use x9180::book::Owner;
 /// use x9180::Book;
 ///
 /// # fn main() -> Result<(), Box<dyn std::error::Error>> {
 /// let mut memory = [0; Book::numbers_for(3)]; // perhaps from a file
 /// let mut book = Book::over(&mut memory[..]);
-/// book.enter(&std::fs::read("../../peer/samples/sound-2-checks.x9")?, 1)?;
+/// book.enter(&std::fs::read("../../peer/samples/sound-2-checks.x9")?, 1, Owner::TWO)?;
 /// assert_eq!((book.capacity(), book.free_rows()?), (3, 2));
 ///
 /// let later = Book::over(&memory[..]);
-/// assert_eq!(later.find(1)?.figures.debit, 350);
+/// assert_eq!(later.find(Owner::TWO, 1)?.figures.debit, 350);
 /// # Ok(())
 /// # }
 /// ```
@@ -65,7 +70,9 @@ pub struct Book<Memory = Vec<u64>> {
 #[derive(Clone, Copy, Debug, PartialEq, Eq)]
 #[non_exhaustive]
 pub struct Entry {
-    /// The entry number, counted from 1.
+    /// Whose it is.
+    pub owner: Owner,
+    /// The entry number, counted from 1 for each owner.
     pub number: u64,
     /// The number that the caller gave its file.
     pub file_number: u64,
@@ -73,11 +80,11 @@ pub struct Entry {
     pub figures: Figures,
 }
 
-/// The running totals of a book.
+/// The running totals of an owner.
 #[derive(Clone, Copy, Debug, PartialEq, Eq)]
 #[non_exhaustive]
 pub struct Totals {
-    /// How many entries there are.
+    /// How many entries it has.
     pub entries: u64,
     /// What they come to.
     pub figures: Figures,
@@ -101,14 +108,15 @@ impl Book {
     /// Makes room for so many cash letters in all, where there are fewer rows. All else stays as it was, also where the memory cannot be had.
     ///
     /// ```
+    /// use x9180::book::Owner;
     /// use x9180::Book;
     ///
     /// # fn main() -> Result<(), Box<dyn std::error::Error>> {
     /// let file = std::fs::read("../../samples/two-letters-with-pictures.x9")?;
     /// let mut book = Book::with_rows(1)?;
-    /// assert!(book.enter(&file, 1).is_err());
+    /// assert!(book.enter(&file, 1, Owner::ONE).is_err());
     /// book.grow_to(2)?;
-    /// assert_eq!(book.enter(&file, 1)?.numbers(), 1..=2);
+    /// assert_eq!(book.enter(&file, 1, Owner::ONE)?.numbers(), 1..=2);
     /// # Ok(())
     /// # }
     /// ```
@@ -117,6 +125,26 @@ impl Book {
         self.memory.try_reserve_exact(more)?;
         self.memory.resize(self.memory.len() + more, 0);
         Ok(())
+    }
+
+    /// A book in the form that it had before there were owners (request 6), with all its entries given to one of them: [`Owner::ONE`] or [`Owner::TWO`].
+    ///
+    /// ```
+    /// use x9180::book::Owner;
+    /// use x9180::Book;
+    ///
+    /// # fn main() -> Result<(), Box<dyn std::error::Error>> {
+    /// // One row is claimed; the last entry number is 1; a bundle with a debit of 350 cents; the row.
+    /// let head = [1, 1, 1, 1, 0, 0, 350, 0, 0, 0, 0, 0, 0, 0, 0, 0, 0];
+    /// let row = [1, 1, 20_240_116, 1, 1, 0, 0, 350, 0];
+    /// let book = Book::given_to(Owner::TWO, [head.as_slice(), &row].concat());
+    /// assert_eq!(book.totals(Owner::TWO)?.figures.debit, 350);
+    /// assert_eq!(book.totals(Owner::ONE)?.entries, 0);
+    /// # Ok(())
+    /// # }
+    /// ```
+    pub fn given_to(owner: Owner, numbers: Vec<u64>) -> Book {
+        Book { memory: given_to(owner, numbers) }
     }
 
     /// How many numbers of memory a book of so many rows takes.
@@ -148,49 +176,54 @@ impl<Memory: AsRef<[u64]>> Book<Memory> {
         self.table().capacity()
     }
 
-    /// How many rows are free.
+    /// How many rows are free, for both owners.
     pub fn free_rows(&self) -> Result<u64, Refused> {
-        Ok(self.capacity().saturating_sub(self.totals()?.entries))
+        // The library judges the whole table, whoever asks.
+        self.totals(Owner::ONE)?;
+        Ok(self.capacity().saturating_sub(self.table().claimed()))
     }
 
-    /// The first entry with this number, as it was entered.
-    pub fn find(&self, entry_number: u64) -> Result<Entry, Refused> {
-        let [answer, number, file_number, figures @ ..] = ffi::book_find(self.numbers(), entry_number);
+    /// The first entry of an owner with this number, as it was entered.
+    pub fn find(&self, owner: Owner, entry_number: u64) -> Result<Entry, Refused> {
+        let [answer, number, file_number, figures @ ..] = ffi::book_find(self.numbers(), owner.0, entry_number);
         match Number(answer) {
-            Number::ACCEPTED => Ok(Entry { number, file_number, figures: Figures::of(figures) }),
-            Number::NOENTRY => Err(Refused::NoEntry { entry_number, last: self.table().last() }),
+            Number::ACCEPTED => Ok(Entry { owner, number, file_number, figures: Figures::of(figures) }),
+            Number::NOENTRY => Err(explain_book::no_entry(self.table(), owner, entry_number)),
             // The library's contract has no other number here.
             _ => Err(explain_book::no_book(self.table())),
         }
     }
 
-    /// How many entries there are, and the running totals.
-    pub fn totals(&self) -> Result<Totals, Refused> {
-        let [answer, entries, figures @ ..] = ffi::book_totals(self.numbers());
+    /// How many entries an owner has, and its running totals.
+    pub fn totals(&self, owner: Owner) -> Result<Totals, Refused> {
+        let [answer, entries, figures @ ..] = ffi::book_totals(self.numbers(), owner.0);
         match Number(answer) {
             Number::ACCEPTED => Ok(Totals { entries, figures: Figures::of(figures) }),
+            Number::NOENTRY => Err(Refused::NoOwner(owner)),
             // The library's contract has no other number here.
             _ => Err(explain_book::no_book(self.table())),
         }
     }
 
-    /// All entries in their order, where the library takes the memory for a book.
+    /// All entries of an owner in their order, where the library takes the memory for a book.
     ///
     /// ```
+    /// use x9180::book::Owner;
     /// use x9180::Book;
     ///
     /// # fn main() -> Result<(), Box<dyn std::error::Error>> {
     /// let mut book = Book::with_rows(10)?;
-    /// book.enter(&std::fs::read("../../samples/two-letters-with-pictures.x9")?, 7)?;
-    /// book.enter(&std::fs::read("../../samples/credits-with-pictures.x9")?, 8)?;
-    /// let entries: Vec<_> = book.entries()?.map(|entry| (entry.number, entry.file_number, entry.figures.credit)).collect();
-    /// assert_eq!(entries, [(1, 7, 0), (2, 7, 0), (3, 8, 33_364), (4, 8, 131_000)]);
+    /// book.enter(&std::fs::read("../../samples/two-letters-with-pictures.x9")?, 7, Owner::ONE)?;
+    /// book.enter(&std::fs::read("../../peer/samples/sound-2-checks.x9")?, 7, Owner::TWO)?;
+    /// book.enter(&std::fs::read("../../samples/credits-with-pictures.x9")?, 8, Owner::ONE)?;
+    /// let entries = book.entries(Owner::ONE)?.map(|entry| (entry.number, entry.file_number, entry.figures.credit));
+    /// assert_eq!(entries.collect::<Vec<_>>(), [(1, 7, 0), (2, 7, 0), (3, 8, 33_364), (4, 8, 131_000)]);
     /// # Ok(())
     /// # }
     /// ```
-    pub fn entries(&self) -> Result<impl Iterator<Item = Entry> + '_, Refused> {
-        self.totals()?;
-        Ok(self.table().rows().map(Entry::of))
+    pub fn entries(&self, owner: Owner) -> Result<impl Iterator<Item = Entry> + '_, Refused> {
+        self.totals(owner)?;
+        Ok(self.table().rows_of(owner).map(Entry::of))
     }
 
     fn table(&self) -> Table<'_> {
@@ -199,12 +232,12 @@ impl<Memory: AsRef<[u64]>> Book<Memory> {
 }
 
 impl<Memory: AsRef<[u64]> + AsMut<[u64]>> Book<Memory> {
-    /// Reads a file and, where it is accepted, enters its cash letters in their order, numbered on from the last number given. The file number is the
-    /// caller's own, and may be entered once.
-    pub fn enter(&mut self, file: &[u8], file_number: u64) -> Result<Entered, Refused> {
+    /// Reads a file and, where it is accepted, enters its cash letters for an owner in their order, numbered on from the last number given to it. The file
+    /// number is the caller's own, and may be entered once by each owner.
+    pub fn enter(&mut self, file: &[u8], file_number: u64, owner: Owner) -> Result<Entered, Refused> {
         let (mut rows, mut reserved) = (Vec::new(), Vec::new());
         loop {
-            let answer = ffi::book_enter(file, file_number, &mut rows, self.memory.as_mut());
+            let answer = ffi::book_enter(file, file_number, owner.0, &mut rows, self.memory.as_mut());
             let [number, record, field, offset, totals @ .., first] = answer;
             match Number(number) {
                 Number::ACCEPTED => {
@@ -216,15 +249,16 @@ impl<Memory: AsRef<[u64]> + AsMut<[u64]>> Book<Memory> {
                     if rows.is_empty() && room(&mut rows, record) && reserved.try_reserve_exact(rows.len()).is_ok() => {
                 }
                 Number::BOOK => return Err(explain_book::no_book(self.table())),
-                Number::DUPLICATE => return Err(explain_book::duplicate(self.table(), file_number)),
-                Number::FULL => return Err(self.full(file, &mut rows)),
+                Number::NOENTRY => return Err(Refused::NoOwner(owner)),
+                Number::DUPLICATE => return Err(explain_book::duplicate(self.table(), owner, file_number)),
+                Number::FULL => return Err(self.full(file, owner, &mut rows)),
                 refused => return Err(explain::reading(file, refused, record, field, offset).into()),
             }
         }
     }
 
     /// The refusal of an accepted file, for which there are rows, for want of room.
-    fn full(&self, file: &[u8], rows: &mut [Row]) -> Refused {
+    fn full(&self, file: &[u8], owner: Owner, rows: &mut [Row]) -> Refused {
         let [_, _, _, _, totals @ ..] = ffi::read(file, rows);
         let totals = reading::Totals::of_answer(totals);
         let figures = Figures {
@@ -235,13 +269,14 @@ impl<Memory: AsRef<[u64]> + AsMut<[u64]>> Book<Memory> {
             debit: totals.debit,
             credit: totals.credit,
         };
-        explain_book::full(self.table(), totals.letters, figures)
+        explain_book::full(self.table(), owner, totals.letters, figures)
     }
 }
 
 impl Entry {
     fn of(row: BookRow) -> Entry {
-        Entry { number: row.entry_number, file_number: row.file_number, figures: row.figures }
+        let BookRow { owner, entry_number: number, file_number, figures } = row;
+        Entry { owner, number, file_number, figures }
     }
 }
 

@@ -1,10 +1,12 @@
 //! Why a call on a day book was refused, in numbers and in plain words.
 //!
-//! The form of such a refusal only: `explain_book` looks for the cause. Of the crate's modules it imports `refusal` and `figures` alone.
+//! The form of such a refusal only: `explain_book` looks for the cause. Of the crate's modules it imports `refusal`, `figures` and
+//! `owner` alone.
 
 use std::fmt::{Display, Formatter};
 
 use crate::figures::Figure;
+use crate::owner::Owner;
 use crate::refusal::{Number, Refusal};
 
 /// Why a call on a book was refused. The number is the library's; the cause beside it is what this crate finds in the table by a look of its own,
@@ -13,15 +15,16 @@ use crate::refusal::{Number, Refusal};
 /// `{}` puts the words on one line, `{:#}` on a line each.
 ///
 /// ```
-/// use x9180::{book::Refused, Book};
+/// use x9180::book::{Owner, Refused};
+/// use x9180::Book;
 ///
 /// # fn main() -> Result<(), Box<dyn std::error::Error>> {
 /// let mut book = Book::with_rows(1)?;
 /// let file = std::fs::read("../../samples/two-letters-with-pictures.x9")?;
-/// let refused = book.enter(&file, 7).unwrap_err();
+/// let refused = book.enter(&file, 7, Owner::TWO).unwrap_err();
 /// assert_eq!((refused.number().0, refused.number().name()), (13, "FULL"));
 /// assert_eq!(refused.to_string(), "FULL: the day book has no room for the file; cash letters: 2; free rows: 1");
-/// assert_eq!(book.find(1), Err(Refused::NoEntry { entry_number: 1, last: 0 }));
+/// assert_eq!(book.find(Owner::TWO, 1), Err(Refused::NoEntry { owner: Owner::TWO, entry_number: 1, last: 0 }));
 /// # Ok(())
 /// # }
 /// ```
@@ -30,24 +33,30 @@ use crate::refusal::{Number, Refusal};
 pub enum Refused {
     /// `BOOK`: the table is no book.
     Book(Option<Wrong>),
-    /// `DUPLICATE`: the file number has been entered before.
+    /// `DUPLICATE`: the owner has entered the file number before.
     Duplicate {
+        /// The owner.
+        owner: Owner,
         /// The file number.
         file_number: u64,
-        /// How many entries have it.
+        /// How many of its entries have it.
         entries: u64,
         /// The number of the first of them.
         first: Option<u64>,
     },
     /// `FULL`: there is no room for the file.
     Full(Option<Want>),
-    /// `NOENTRY`: no entry has the number.
+    /// `NOENTRY`: no entry of the owner has the number.
     NoEntry {
+        /// The owner.
+        owner: Owner,
         /// The number that was looked for.
         entry_number: u64,
-        /// The last entry number given.
+        /// The last entry number given to it.
         last: u64,
     },
+    /// `NOENTRY`: there is no such owner.
+    NoOwner(Owner),
     /// The file itself was refused, as [`read`](crate::read) refuses it.
     File(Refusal),
 }
@@ -63,8 +72,10 @@ pub enum Wrong {
         /// The rows that it has.
         capacity: u64,
     },
-    /// A running total is not the sum of its rows.
+    /// A running total of an owner is not the sum of its rows.
     Total {
+        /// Whose.
+        owner: Owner,
         /// Which figure.
         figure: Figure,
         /// The running total.
@@ -87,13 +98,17 @@ pub enum Want {
     },
     /// Entry numbers: the last one would pass 64 bits.
     EntryNumbers {
+        /// Whose.
+        owner: Owner,
         /// The cash letters of the file.
         letters: u64,
-        /// The last entry number given.
+        /// The last entry number given to it.
         last: u64,
     },
     /// A running total that holds the file's figure besides: it would pass 64 bits.
     Total {
+        /// Whose.
+        owner: Owner,
         /// Which figure.
         figure: Figure,
         /// The running total.
@@ -110,7 +125,7 @@ impl Refused {
             Refused::Book(_) => Number::BOOK,
             Refused::Duplicate { .. } => Number::DUPLICATE,
             Refused::Full(_) => Number::FULL,
-            Refused::NoEntry { .. } => Number::NOENTRY,
+            Refused::NoEntry { .. } | Refused::NoOwner(_) => Number::NOENTRY,
             Refused::File(refusal) => refusal.number(),
         }
     }
@@ -127,14 +142,15 @@ impl Refused {
     fn lines(&self) -> Vec<String> {
         match self {
             Refused::Book(wrong) => wrong.iter().flat_map(Wrong::lines).collect(),
-            Refused::Duplicate { file_number, entries, first } => {
+            Refused::Duplicate { owner, file_number, entries, first } => {
                 let entries = first.map(|first| format!("entries with it: {entries}, the first of them entry {first}"));
-                [format!("file number {file_number}")].into_iter().chain(entries).collect()
+                [format!("file number {file_number} of {owner}")].into_iter().chain(entries).collect()
             }
             Refused::Full(want) => want.iter().flat_map(Want::lines).collect(),
-            Refused::NoEntry { entry_number, last } => {
-                vec![format!("entry number {entry_number}"), format!("last entry number given: {last}")]
+            Refused::NoEntry { owner, entry_number, last } => {
+                vec![format!("entry number {entry_number} of {owner}"), format!("last entry number given: {last}")]
             }
+            Refused::NoOwner(owner) => vec![owner.to_string(), "a day book has owners 1 and 2".to_string()],
             Refused::File(_) => Vec::new(),
         }
     }
@@ -146,8 +162,8 @@ impl Wrong {
             Wrong::Rows { claimed, capacity } => {
                 vec![format!("rows claimed: {claimed}"), format!("rows there: {capacity}")]
             }
-            Wrong::Total { figure, total, rows } => {
-                vec![format!("running total of {}: {total}", figure.name()), format!("its rows come to: {rows}")]
+            Wrong::Total { owner, figure, total, rows } => {
+                vec![running(*owner, *figure, *total), format!("its rows come to: {rows}")]
             }
         }
     }
@@ -158,12 +174,16 @@ impl Want {
         let past = |more: u64| format!("with {more} more it would pass 64 bits");
         match self {
             Want::Rows { letters, free } => vec![format!("cash letters: {letters}"), format!("free rows: {free}")],
-            Want::EntryNumbers { letters, last } => vec![format!("last entry number given: {last}"), past(*letters)],
-            Want::Total { figure, total, more } => {
-                vec![format!("running total of {}: {total}", figure.name()), past(*more)]
+            Want::EntryNumbers { owner, letters, last } => {
+                vec![format!("last entry number given to {owner}: {last}"), past(*letters)]
             }
+            Want::Total { owner, figure, total, more } => vec![running(*owner, *figure, *total), past(*more)],
         }
     }
+}
+
+fn running(owner: Owner, figure: Figure, total: u64) -> String {
+    format!("running total of {} of {owner}: {total}", figure.name())
 }
 
 impl From<Refusal> for Refused {
@@ -191,9 +211,9 @@ mod tests {
 
     #[test]
     fn words_of_each() {
-        let total = Wrong::Total { figure: Figure::DebitCents, total: 350, rows: 1 << 64 };
-        let most = Want::EntryNumbers { letters: 2, last: u64::MAX - 1 };
-        let cents = Want::Total { figure: Figure::CreditCents, total: u64::MAX, more: 7 };
+        let total = Wrong::Total { owner: Owner::TWO, figure: Figure::DebitCents, total: 350, rows: 1 << 64 };
+        let most = Want::EntryNumbers { owner: Owner::ONE, letters: 2, last: u64::MAX - 1 };
+        let cents = Want::Total { owner: Owner::TWO, figure: Figure::CreditCents, total: u64::MAX, more: 7 };
         for (refused, words) in [
             (Refused::Book(None), "BOOK: the day book is not sound"),
             (
@@ -202,28 +222,32 @@ mod tests {
             ),
             (
                 Refused::Book(Some(total)),
-                "BOOK: the day book is not sound; running total of debit cents: 350; its rows come to: 18446744073709551616",
+                "BOOK: the day book is not sound; running total of debit cents of owner 2: 350; its rows come to: 18446744073709551616",
             ),
             (
-                Refused::Duplicate { file_number: 7, entries: 2, first: Some(3) },
-                "DUPLICATE: the file number has been entered already; file number 7; entries with it: 2, the first of them entry 3",
+                Refused::Duplicate { owner: Owner::ONE, file_number: 7, entries: 2, first: Some(3) },
+                "DUPLICATE: the file number has been entered already; file number 7 of owner 1; entries with it: 2, the first of them entry 3",
             ),
             (
-                Refused::Duplicate { file_number: 7, entries: 0, first: None },
-                "DUPLICATE: the file number has been entered already; file number 7",
+                Refused::Duplicate { owner: Owner::TWO, file_number: 7, entries: 0, first: None },
+                "DUPLICATE: the file number has been entered already; file number 7 of owner 2",
             ),
             (Refused::Full(None), "FULL: the day book has no room for the file"),
             (
                 Refused::Full(Some(most)),
-                "FULL: the day book has no room for the file; last entry number given: 18446744073709551614; with 2 more it would pass 64 bits",
+                "FULL: the day book has no room for the file; last entry number given to owner 1: 18446744073709551614; with 2 more it would pass 64 bits",
             ),
             (
                 Refused::Full(Some(cents)),
-                "FULL: the day book has no room for the file; running total of credit cents: 18446744073709551615; with 7 more it would pass 64 bits",
+                "FULL: the day book has no room for the file; running total of credit cents of owner 2: 18446744073709551615; with 7 more it would pass 64 bits",
             ),
             (
-                Refused::NoEntry { entry_number: 9, last: 4 },
-                "NOENTRY: the day book has no entry of this number; entry number 9; last entry number given: 4",
+                Refused::NoEntry { owner: Owner::TWO, entry_number: 9, last: 4 },
+                "NOENTRY: the day book has no such entry; entry number 9 of owner 2; last entry number given: 4",
+            ),
+            (
+                Refused::NoOwner(Owner(3)),
+                "NOENTRY: the day book has no such entry; owner 3; a day book has owners 1 and 2",
             ),
         ] {
             assert_eq!(refused.to_string(), words);

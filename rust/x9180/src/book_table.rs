@@ -1,12 +1,17 @@
 //! The table of a day book, number by number, as `include/x9180.h` lays it out: a head, and then rows of equal width. For listing the entries of a
-//! table that the library has judged, and for the plain words of a refusal; it judges nothing. Of the crate's modules it imports `figures` alone.
+//! table that the library has judged, for the plain words of a refusal, and for tables of an older form; it judges nothing. Of the crate's modules it
+//! imports `figures` and `owner` alone.
 
 use crate::figures::Figures;
+use crate::owner::Owner;
 
-/// The numbers of the head: [0] the rows claimed, [1] the last entry number given, [2] to [7] the running totals; the others are not looked at.
+/// The numbers of the head: [0] the rows claimed, [1] to [8] the first owner's block, [9] to [16] the second's.
 const HEAD: usize = 17;
 
-/// The numbers of a row: [0] is 1, [1] the entry number, [2] the file number, [3] to [8] the figures.
+/// The numbers of an owner's block in the head: [0] the last entry number given, [1] to [6] the running totals, [7] not looked at.
+const BLOCK: usize = 8;
+
+/// The numbers of a row: [0] the owner, [1] the entry number, [2] the file number, [3] to [8] the figures.
 const ROW: usize = 9;
 
 /// A lent table, of any length.
@@ -15,6 +20,7 @@ pub(crate) struct Table<'t>(pub &'t [u64]);
 
 /// A row of a table.
 pub(crate) struct BookRow {
+    pub owner: Owner,
     pub entry_number: u64,
     pub file_number: u64,
     pub figures: Figures,
@@ -36,21 +42,20 @@ impl<'t> Table<'t> {
         self.head(0)
     }
 
-    /// The last entry number given.
-    pub fn last(self) -> u64 {
-        self.head(1)
+    /// The last entry number given to an owner.
+    pub fn last(self, owner: Owner) -> u64 {
+        self.head(block(owner))
     }
 
-    /// The running totals.
-    pub fn totals(self) -> Figures {
-        Figures::of([2, 3, 4, 5, 6, 7].map(|place| self.head(place)))
+    /// The running totals of an owner.
+    pub fn totals(self, owner: Owner) -> Figures {
+        Figures::of([1, 2, 3, 4, 5, 6].map(|place| self.head(block(owner) + place)))
     }
 
-    /// The rows claimed, as far as they are there.
-    pub fn rows(self) -> impl Iterator<Item = BookRow> + 't {
-        let claimed = usize::try_from(self.claimed()).unwrap_or(usize::MAX);
-        let rows = self.0.get(HEAD..).unwrap_or_default().chunks_exact(ROW).take(claimed);
-        rows.filter_map(|row| row.first_chunk().copied().map(BookRow::of))
+    /// The rows of an owner among those claimed, as far as they are there.
+    pub fn rows_of(self, owner: Owner) -> impl Iterator<Item = BookRow> + 't {
+        let rows = self.0.get(HEAD..).unwrap_or_default().chunks_exact(ROW).take(count(self.claimed()));
+        rows.filter_map(|row| row.first_chunk().copied().map(BookRow::of)).filter(move |row| row.owner == owner)
     }
 
     /// A number of the head. One that a short table lacks counts as 0.
@@ -59,9 +64,34 @@ impl<'t> Table<'t> {
     }
 }
 
+/// A table from before there were owners (request 6), with all its entries given to one of them. In such a table the last entry number and the running
+/// totals stood where the first owner's stand; the rest of the head was not looked at, and neither was the number in a row's first place.
+pub(crate) fn given_to(owner: Owner, mut numbers: Vec<u64>) -> Vec<u64> {
+    numbers.resize(numbers.len().max(HEAD), 0);
+    let rows = count(Table(&numbers).claimed());
+    let own: Vec<u64> = numbers.iter().skip(1).take(BLOCK - 1).copied().collect();
+    numbers.iter_mut().take(HEAD).skip(1).for_each(|number| *number = 0);
+    numbers.iter_mut().skip(block(owner)).zip(own).for_each(|(place, number)| *place = number);
+    numbers.iter_mut().skip(HEAD).step_by(ROW).take(rows).for_each(|place| *place = owner.0);
+    numbers
+}
+
+/// Where an owner's block begins in the head.
+fn block(owner: Owner) -> usize {
+    match owner {
+        Owner::TWO => 1 + BLOCK,
+        _ => 1,
+    }
+}
+
+/// A number of rows; more than there can be where they are too many to count.
+fn count(rows: u64) -> usize {
+    usize::try_from(rows).unwrap_or(usize::MAX)
+}
+
 impl BookRow {
-    fn of([_, entry_number, file_number, figures @ ..]: [u64; ROW]) -> BookRow {
-        BookRow { entry_number, file_number, figures: Figures::of(figures) }
+    fn of([owner, entry_number, file_number, figures @ ..]: [u64; ROW]) -> BookRow {
+        BookRow { owner: Owner(owner), entry_number, file_number, figures: Figures::of(figures) }
     }
 }
 
@@ -72,9 +102,10 @@ mod tests {
     #[test]
     fn tables_of_any_length() {
         for (length, capacity) in [(0, 0), (1, 0), (16, 0), (17, 0), (25, 0), (26, 1), (34, 1), (35, 2)] {
-            let numbers = vec![u64::MAX; length];
+            let numbers = vec![2; length];
             assert_eq!(Table(&numbers).capacity(), capacity, "{length}");
-            assert_eq!(Table(&numbers).rows().count() as u64, capacity, "{length}");
+            assert_eq!(Table(&numbers).rows_of(Owner::TWO).count() as u64, capacity, "{length}");
+            assert_eq!(Table(&numbers).rows_of(Owner::ONE).count(), 0, "{length}");
         }
         assert_eq!([0, 1, 2].map(numbers_for), [17, 26, 35]);
         assert_eq!(numbers_for(usize::MAX), usize::MAX);
@@ -82,13 +113,33 @@ mod tests {
 
     #[test]
     fn numbers_in_their_places() {
-        let mut numbers: Vec<u64> = (100..146).collect();
-        numbers[0] = 2;
+        let mut numbers: Vec<u64> = (100..155).collect();
+        (numbers[0], numbers[17], numbers[26], numbers[35], numbers[44]) = (3, 2, 1, 2, 2);
         let table = Table(&numbers);
-        assert_eq!((table.capacity(), table.claimed(), table.last()), (3, 2, 101));
-        assert_eq!(table.totals(), Figures::of([102, 103, 104, 105, 106, 107]));
-        let rows: Vec<_> = table.rows().map(|row| (row.entry_number, row.file_number, row.figures)).collect();
-        let second = (127, 128, Figures::of([129, 130, 131, 132, 133, 134]));
-        assert_eq!(rows, [(118, 119, Figures::of([120, 121, 122, 123, 124, 125])), second]);
+        assert_eq!((table.capacity(), table.claimed()), (4, 3));
+        assert_eq!((table.last(Owner::ONE), table.last(Owner::TWO)), (101, 109));
+        assert_eq!(table.totals(Owner::ONE), Figures::of([102, 103, 104, 105, 106, 107]));
+        assert_eq!(table.totals(Owner::TWO), Figures::of([110, 111, 112, 113, 114, 115]));
+        let rows = |owner| -> Vec<(u64, u64, Figures)> {
+            table.rows_of(owner).map(|row| (row.entry_number, row.file_number, row.figures)).collect()
+        };
+        assert_eq!(rows(Owner::ONE), [(127, 128, Figures::of([129, 130, 131, 132, 133, 134]))]);
+        let third = (136, 137, Figures::of([138, 139, 140, 141, 142, 143]));
+        assert_eq!(rows(Owner::TWO), [(118, 119, Figures::of([120, 121, 122, 123, 124, 125])), third]);
+        assert!(rows(Owner(3)).is_empty());
+    }
+
+    /// Two rows claimed of three. What was not looked at goes.
+    #[test]
+    fn tables_without_owners() {
+        let old: Vec<u64> = [2].into_iter().chain(101..144).collect();
+        let rows = |owner: u64| [[owner].as_slice(), &old[18..26], &[owner], &old[27..44]].concat();
+        let first = [&old[..8], &[0; 9], &rows(1)].concat();
+        assert_eq!(given_to(Owner::ONE, old.clone()), first);
+        assert_eq!(given_to(Owner::TWO, old.clone()), [[2].as_slice(), &[0; 8], &old[1..8], &[0], &rows(2)].concat());
+        assert_eq!(given_to(Owner::TWO, first), given_to(Owner::TWO, old));
+        // A short one gets its head.
+        assert_eq!(given_to(Owner::ONE, vec![]), [0; 17]);
+        assert_eq!(given_to(Owner::TWO, vec![0, 7]), [vec![0; 9], vec![7], vec![0; 7]].concat());
     }
 }

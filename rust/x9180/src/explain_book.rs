@@ -4,6 +4,7 @@
 use crate::book_refusal::{Refused, Want, Wrong};
 use crate::book_table::Table;
 use crate::figures::{Figure, Figures};
+use crate::owner::Owner;
 
 /// Of a table that is no book.
 pub(crate) fn no_book(table: Table<'_>) -> Refused {
@@ -11,34 +12,47 @@ pub(crate) fn no_book(table: Table<'_>) -> Refused {
     if claimed > capacity {
         return Refused::Book(Some(Wrong::Rows { claimed, capacity }));
     }
-    let wrong = |figure: Figure| {
-        let rows: u128 = table.rows().map(|row| u128::from(row.figures.get(figure))).sum();
-        let total = table.totals().get(figure);
-        (rows != u128::from(total)).then_some(Wrong::Total { figure, total, rows })
-    };
-    Refused::Book(Figure::ALL.into_iter().find_map(wrong))
+    Refused::Book(Owner::BOTH.into_iter().find_map(|owner| wrong_total(table, owner)))
 }
 
-/// Of a file number that has been entered.
-pub(crate) fn duplicate(table: Table<'_>, file_number: u64) -> Refused {
-    let mut same = table.rows().filter(|row| row.file_number == file_number).map(|row| row.entry_number);
+/// The first running total of an owner that is not the sum of its rows.
+fn wrong_total(table: Table<'_>, owner: Owner) -> Option<Wrong> {
+    let wrong = |figure: Figure| {
+        let rows: u128 = table.rows_of(owner).map(|row| u128::from(row.figures.get(figure))).sum();
+        let total = table.totals(owner).get(figure);
+        (rows != u128::from(total)).then_some(Wrong::Total { owner, figure, total, rows })
+    };
+    Figure::ALL.into_iter().find_map(wrong)
+}
+
+/// Of a call that found nothing: there are no such owners, or the owner has no such entry.
+pub(crate) fn no_entry(table: Table<'_>, owner: Owner, entry_number: u64) -> Refused {
+    match Owner::BOTH.contains(&owner) {
+        true => Refused::NoEntry { owner, entry_number, last: table.last(owner) },
+        false => Refused::NoOwner(owner),
+    }
+}
+
+/// Of a file number that the owner has entered.
+pub(crate) fn duplicate(table: Table<'_>, owner: Owner, file_number: u64) -> Refused {
+    let mut same = table.rows_of(owner).filter(|row| row.file_number == file_number).map(|row| row.entry_number);
     let first = same.next();
-    Refused::Duplicate { file_number, entries: u64::from(first.is_some()) + same.count() as u64, first }
+    Refused::Duplicate { owner, file_number, entries: u64::from(first.is_some()) + same.count() as u64, first }
 }
 
 /// Of a file with so many cash letters that come to these figures.
-pub(crate) fn full(table: Table<'_>, letters: u64, figures: Figures) -> Refused {
+pub(crate) fn full(table: Table<'_>, owner: Owner, letters: u64, figures: Figures) -> Refused {
     let free = table.capacity().saturating_sub(table.claimed());
     if letters > free {
         return Refused::Full(Some(Want::Rows { letters, free }));
     }
-    let last = table.last();
+    let last = table.last(owner);
     if last.checked_add(letters).is_none() {
-        return Refused::Full(Some(Want::EntryNumbers { letters, last }));
+        return Refused::Full(Some(Want::EntryNumbers { owner, letters, last }));
     }
     let wanted = |figure: Figure| {
-        let (total, more) = (table.totals().get(figure), figures.get(figure));
-        total.checked_add(more).is_none().then_some(Want::Total { figure, total, more })
+        let (total, more) = (table.totals(owner).get(figure), figures.get(figure));
+        total.checked_add(more).is_none().then_some(Want::Total { owner, figure, total, more })
     };
     Refused::Full(Figure::ALL.into_iter().find_map(wanted))
 }

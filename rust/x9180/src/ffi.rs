@@ -23,14 +23,15 @@ extern "C" {
         file: *const u8,
         file_len: usize,
         file_number: u64,
+        owner: u64,
         table: *mut u64,
         table_len: usize,
         book: *mut u64,
         book_len: usize,
         answer: *mut u64,
     ) -> u64;
-    fn x9_book_find(book: *const u64, book_len: usize, entry_number: u64, found: *mut u64) -> u64;
-    fn x9_book_totals(book: *const u64, book_len: usize, totals: *mut u64) -> u64;
+    fn x9_book_find(book: *const u64, book_len: usize, owner: u64, entry_number: u64, found: *mut u64) -> u64;
+    fn x9_book_totals(book: *const u64, book_len: usize, owner: u64, totals: *mut u64) -> u64;
 }
 
 /// Reads a file into rows and gives the twelve numbers of the answer.
@@ -98,8 +99,8 @@ pub(crate) fn tiff(image: &[u8]) -> [u64; 2] {
     answer
 }
 
-/// Reads a file into rows, enters its cash letters into a book, and gives the thirteen numbers of the answer.
-pub(crate) fn book_enter(file: &[u8], file_number: u64, rows: &mut [Row], book: &mut [u64]) -> [u64; 13] {
+/// Reads a file into rows, enters its cash letters into a book for the owner of this number, and gives the thirteen numbers of the answer.
+pub(crate) fn book_enter(file: &[u8], file_number: u64, owner: u64, rows: &mut [Row], book: &mut [u64]) -> [u64; 13] {
     let mut answer = [0; 13];
     let numbers = rows.len() * Row::NUMBERS;
     // SAFETY: as in `read`; the book's pointer goes with its own length, and its exclusive borrow keeps it apart from the file and the rows. The
@@ -109,6 +110,7 @@ pub(crate) fn book_enter(file: &[u8], file_number: u64, rows: &mut [Row], book: 
             file.as_ptr(),
             file.len(),
             file_number,
+            owner,
             rows.as_mut_ptr().cast(),
             numbers,
             book.as_mut_ptr(),
@@ -119,18 +121,18 @@ pub(crate) fn book_enter(file: &[u8], file_number: u64, rows: &mut [Row], book: 
     answer
 }
 
-/// Finds an entry of a book and gives the nine numbers of the answer.
-pub(crate) fn book_find(book: &[u64], entry_number: u64) -> [u64; 9] {
+/// Finds an entry of an owner in a book and gives the nine numbers of the answer.
+pub(crate) fn book_find(book: &[u64], owner: u64, entry_number: u64) -> [u64; 9] {
     let mut found = [0; 9];
     // SAFETY: the book's pointer goes with its own length, and the answer has the nine numbers that the call fills.
-    unsafe { x9_book_find(book.as_ptr(), book.len(), entry_number, found.as_mut_ptr()) };
+    unsafe { x9_book_find(book.as_ptr(), book.len(), owner, entry_number, found.as_mut_ptr()) };
     found
 }
 
-/// Gives the eight numbers of the answer on a book's running totals.
-pub(crate) fn book_totals(book: &[u64]) -> [u64; 8] {
+/// Gives the eight numbers of the answer on the running totals of an owner.
+pub(crate) fn book_totals(book: &[u64], owner: u64) -> [u64; 8] {
     let mut totals = [0; 8];
     // SAFETY: as in `book_find`, with eight numbers.
-    unsafe { x9_book_totals(book.as_ptr(), book.len(), totals.as_mut_ptr()) };
+    unsafe { x9_book_totals(book.as_ptr(), book.len(), owner, totals.as_mut_ptr()) };
     totals
 }

@@ -4,7 +4,8 @@
 //! repository builds it). This crate lends it the bytes, keeps the rows that come back, and says refusals in plain words.
 //!
 //! [`read`] reads a file and [`picture`] finds a picture in it; [`tags`] judges the tags of a TIFF picture, one that came in or one that is to go
-//! out; [`make`] makes a file out from nothing, and [`Draft`] changes one and writes it again. [`Book`] is a day book that files are entered into.
+//! out; [`make`] makes a file out from nothing, and [`Draft`] changes one and writes it again. [`Book`] is a day book that files are entered into,
+//! which two bureaus may share.
 //!
 //! ```
 //! # fn main() -> Result<(), Box<dyn std::error::Error>> {
@@ -48,7 +49,9 @@
 //     before → kinds → digits → character_set
 //     book → explain_book → book_refusal → refusal → kinds
 //     book → explain_book → book_refusal → figures
+//     book → explain_book → book_refusal → owner
 //     book → explain_book → book_table → figures
+//     book → explain_book → book_table → owner
 //     book → explain → more_bytes → refusal
 //     book → reading → row
 //     book → ffi → row
@@ -80,6 +83,7 @@ mod make_items;
 mod make_view;
 mod misfit;
 mod more_bytes;
+mod owner;
 mod reading;
 mod refusal;
 mod room;

@@ -47,7 +47,7 @@ const NUMBERS: [(Number, &str, &str); 18] = [
     (Number::AFTER, "AFTER", "bytes follow the File Control Record (type 99)"),
     (Number::DUPLICATE, "DUPLICATE", "the file number has been entered already"),
     (Number::FULL, "FULL", "the day book has no room for the file"),
-    (Number::NOENTRY, "NOENTRY", "the day book has no entry of this number"),
+    (Number::NOENTRY, "NOENTRY", "the day book has no such entry"),
     (Number::TAGORDER, "TAGORDER", "a tag of a picture is not above the tag before it"),
     (Number::TAGVALUE, "TAGVALUE", "the header of a picture is wrong, or a required tag is wrong or absent"),
     (Number::BOOK, "BOOK", "the day book is not sound"),

@@ -1,5 +1,5 @@
-//! The C examples, compiled and run: the reader on the samples with pictures, in ASCII and EBCDIC, every line worked out by hand; the writer beside the
-//! makers of this package.
+//! The C examples, compiled and run: the reader on the samples with pictures, in ASCII and EBCDIC, and the day book, every line worked out by hand; the
+//! writer beside the makers of this package.
 
 use std::path::{Path, PathBuf};
 use std::process::Command;
@@ -70,6 +70,35 @@ letter 2 credit 1: picture of 178 bytes at 7521
     // It prints no characters of a file, so that the set makes no difference (request 5).
     assert_eq!(checks_in_ebcdic, checks);
     assert_eq!(refused_in_ebcdic, (Some(1), "refused 9 record 7 field 4 offset 563\n".to_string()));
+}
+
+/// Two samples in a book that two owners share. The second file is refused where it is damaged, and the first stays entered.
+#[test]
+fn keeps_a_day_book() {
+    let folder = std::env::temp_dir().join(format!("x9180-example-book-{}", std::process::id()));
+    std::fs::create_dir(&folder).unwrap();
+    let program = compiled(&folder, "book");
+    let run = |files: [&str; 2]| {
+        let output = Command::new(&program).args(files.map(|file| root().join(file))).output().unwrap();
+        (output.status.code(), String::from_utf8(output.stdout).unwrap())
+    };
+    let pictured = "samples/two-letters-with-pictures.x9";
+    let both = run([pictured, "samples/credits-with-pictures.x9"]);
+    let one = run([pictured, "peer/samples/damaged-24-credit-as-debit.x9"]);
+    let none = run(["no such file", pictured]);
+    std::fs::remove_dir_all(&folder).unwrap();
+
+    // The letters of the samples as in `tests/book.rs`; 16557 + 31000 debit cents, 16807 + 31000, and 33364 + 131000 credit cents.
+    let entered = "owner 1: 2 letters entered, from entry 1 on\n";
+    let of_one = "owner 1: entries 2 bundles 3 debits 4 credits 0 views 8 debit 47557 credit 0\n\
+                  owner 1: entry 2 bundles 1 debits 1 credits 0 views 2 debit 31000 credit 0\n";
+    let of_two = "owner 2: entries 2 bundles 3 debits 5 credits 6 views 14 debit 47807 credit 164364\n\
+                  owner 2: entry 2 bundles 1 debits 1 credits 2 views 4 debit 31000 credit 131000\n";
+    let nothing = |owner| format!("owner {owner}: entries 0 bundles 0 debits 0 credits 0 views 0 debit 0 credit 0\n");
+    assert_eq!(both, (Some(0), [entered, &entered.replace("owner 1", "owner 2"), of_one, of_two].concat()));
+    let refused = "refused 9 record 10 field 3 offset 764\n";
+    assert_eq!(one, (Some(1), [entered, refused, of_one, &nothing(2)].concat()));
+    assert_eq!(none, (Some(2), [nothing(1), nothing(2)].concat()));
 }
 
 /// The same letter by name: a check of 123.45 with a picture of either side.

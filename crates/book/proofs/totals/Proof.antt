@@ -1,10 +1,14 @@
-use mathlib.Core.Path.{sym, ap₂, _∙_}
+use mathlib.Core.Path.{sym, ap, ap₂, _∙_}
+use Prim.Native.Nat.{ℕ, _+_}
 use denote.Ref.{now}
+use lib.ListN.{length}
 use borrow.Author.Tests.{not-true, not-false}
-use borrow.Author.Needs.{needs}
-use Rattle.book.specs.declared.Tally.the-variants.{Totals}
+use Rattle.figures.specs.Figures.{figuresAt}
+use Rattle.book_table.specs.declared.Tally.the-variants.{Totals}
+use Rattle.book_table.specs.Table.{entriesFrom, entriesOf}
+use Rattle.book_table.proofs.Laws.{sound}
 use Rattle.book.specs.Calls.{totalsAnswer}
-use Rattle.book.proofs.Laws.{sound}
+use borrow.Author.Needs.{needs}
 use Rattle.book.proofs.totals.Statement.{statement}
 use Rattle.book.proofs.totals.Tie as tie
 
@@ -15,16 +19,48 @@ returns : tie.Need-returns
 unfolding totalsAnswer
 returns c = rw (sym (c .before .is-book .ensures) ∙ not-true (c .before .is-book .result) (c .if1 .taken))
 
+is-owner-requires : tie.Need-is-owner-requires
+is-owner-requires c κs = search needs
+
+returns-2 : tie.Need-returns-2
+unfolding totalsAnswer
+returns-2 c = rw (sym (c .before .before .before .is-book .ensures) ∙ not-false (c .before .before .before .is-book .result) (c .before .before .if1 .left), sym (c .before .is-owner .ensures) ∙ not-true (c .before .is-owner .result) (c .if2 .taken))
+
 number-at-requires : tie.Need-number-at-requires
 number-at-requires c κs = search needs
+
+own-rows-requires : tie.Need-own-rows-requires
+own-rows-requires c κs = rw (c .number-at .ensures) (sound (now (c .before .before .before .before .before .before .args .book)) (sym (c .before .before .before .before .is-book .ensures) ∙ not-false (c .before .before .before .before .is-book .result) (c .before .before .before .if1 .left)) .claims)
+
+block-of-requires : tie.Need-block-of-requires
+block-of-requires c κs = search needs
+
+add-figures-at : tie.Need-add-figures-at
+add-figures-at c = search needs
 
 figures-at-requires : tie.Need-figures-at-requires
 figures-at-requires c κs = search needs
 
-returns-2 : tie.Need-returns-2
-unfolding totalsAnswer
-returns-2 c = let e = sym (c .before .before .before .is-book .ensures) ∙ not-false (c .before .before .before .is-book .result) (c .before .before .if1 .left) in let v = sound (now (c .before .before .before .before .before .args .book)) e in rw e (ap₂ Totals (c .before .number-at .ensures ∙ sym (v .count)) (c .figures-at .ensures ∙ v .sums))
+returns-3 : tie.Need-returns-3
+unfolding totalsAnswer entriesOf
+returns-3 c =
+    let e = sym (c .before .before .before .before .before .before .before .is-book .ensures) ∙ not-false (c .before .before .before .before .before .before .before .is-book .result) (c .before .before .before .before .before .before .if1 .left) in
+    let w = sym (c .before .before .before .before .before .is-owner .ensures) ∙ not-false (c .before .before .before .before .before .is-owner .result) (c .before .before .before .before .if2 .left) in
+    let count = c .before .before .own-rows .ensures ∙ ap (λ (n : ℕ). length (entriesFrom (c .before .before .before .before .before .before .before .before .before .args .owner) (now (c .before .before .before .before .before .before .before .before .before .args .book)) n 17)) (c .before .before .before .number-at .ensures) in
+    let sums = c .figures-at .ensures ∙ ap (λ (n : ℕ). figuresAt (now (c .before .before .before .before .before .before .before .before .before .args .book)) (n + 1)) (c .before .block-of .ensures .0) ∙ sound (now (c .before .before .before .before .before .before .before .before .before .args .book)) e .sums (c .before .before .before .before .before .before .before .before .before .args .owner) w in
+    rw (e, w) (ap₂ Totals count sums)
 
 pub totals-spec : {M : Type 1} → statement M
 totals-spec =
-    tie.close (tie.spec is-book-requires returns number-at-requires figures-at-requires returns-2)
+    tie.close
+    (tie.spec
+    is-book-requires
+    returns
+    is-owner-requires
+    returns-2
+    number-at-requires
+    own-rows-requires
+    block-of-requires
+    add-figures-at
+    figures-at-requires
+    returns-3)

@@ -5,6 +5,7 @@
 use std::process::ExitCode;
 use std::time::Instant;
 
+use peer_book::apart::put_second;
 use peer_book::call::SecondOpinion;
 use peer_book::generate::{self, WHOLE_RUN};
 use peer_book::points::{demanded, Tally};
@@ -22,10 +23,21 @@ fn main() -> ExitCode {
     for index in 0..histories {
         let history = generate::history(seed, index);
         calls += history.calls.len();
-        match put(&SecondOpinion, &history, &mut Random::for_file(!seed, index), |seen| tally.note(seen)) {
-            Ok(outcomes) => tally.note_history(&history, &outcomes),
+        let random = &mut Random::for_file(!seed, index);
+        let outcomes = match put(&SecondOpinion, &history, random, |seen| tally.note(seen)) {
+            Ok(outcomes) => outcomes,
             Err(broken) => {
                 println!("history {index}, {}, call {}: {}", history.shape, broken.at + 1, broken.difference);
+                unlike += 1;
+                continue;
+            }
+        };
+        tally.note_history(&history, &outcomes);
+        let Some(pair) = generate::pair(seed, index) else { continue };
+        match put_second(&SecondOpinion, &pair, random) {
+            Ok(second) => tally.note_pair(&pair, [&outcomes, &second]),
+            Err(difference) => {
+                println!("pair {index}: {difference}");
                 unlike += 1;
             }
         }

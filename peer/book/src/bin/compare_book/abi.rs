@@ -1,4 +1,4 @@
-//! The proved library's calls of request 6 (point 37), as a side that answers.
+//! The proved library's calls of requests 6 and 8 (points 37 and 39), as a side that answers.
 
 use peer_book::call::{Lent, Outcome, Side};
 use peer_book::layout::{ENTER_ANSWER, FIND_ANSWER, TOTALS_ANSWER};
@@ -9,14 +9,15 @@ extern "C" {
         file: *const u8,
         file_len: usize,
         file_number: u64,
+        owner: u64,
         table: *mut u64,
         table_len: usize,
         book: *mut u64,
         book_len: usize,
         answer: *mut u64,
     ) -> u64;
-    fn x9_book_find(book: *const u64, book_len: usize, entry_number: u64, found: *mut u64) -> u64;
-    fn x9_book_totals(book: *const u64, book_len: usize, totals: *mut u64) -> u64;
+    fn x9_book_find(book: *const u64, book_len: usize, owner: u64, entry_number: u64, found: *mut u64) -> u64;
+    fn x9_book_totals(book: *const u64, book_len: usize, owner: u64, totals: *mut u64) -> u64;
 }
 
 /// What an answer holds before a call.
@@ -44,24 +45,24 @@ fn outcome(length: usize, call: impl FnOnce(*mut u64) -> u64) -> Result<Outcome,
 pub struct Library;
 
 impl Side for Library {
-    fn enter(&self, paper: &Paper, file_number: u64, lent: Lent) -> Result<Outcome, String> {
+    fn enter(&self, paper: &Paper, file_number: u64, owner: u64, lent: Lent) -> Result<Outcome, String> {
         let (file, rows, book) = (&paper.bytes, lent.rows, lent.book);
         // SAFETY: each pointer goes with its slice's own length, and the answer holds more than the numbers the call fills.
         outcome(ENTER_ANSWER, |answer| unsafe {
-            let (rows_at, book_at) = (rows.as_mut_ptr(), book.as_mut_ptr());
-            x9_book_enter(file.as_ptr(), file.len(), file_number, rows_at, rows.len(), book_at, book.len(), answer)
+            let (file_at, rows_at, book_at) = (file.as_ptr(), rows.as_mut_ptr(), book.as_mut_ptr());
+            x9_book_enter(file_at, file.len(), file_number, owner, rows_at, rows.len(), book_at, book.len(), answer)
         })
     }
 
-    fn find(&self, entry_number: u64, lent: Lent) -> Result<Outcome, String> {
+    fn find(&self, owner: u64, entry_number: u64, lent: Lent) -> Result<Outcome, String> {
         let book = lent.book;
         // SAFETY: as above. The pointer is one that may be written through, so that a call that does is told as a difference.
-        outcome(FIND_ANSWER, |found| unsafe { x9_book_find(book.as_mut_ptr(), book.len(), entry_number, found) })
+        outcome(FIND_ANSWER, |found| unsafe { x9_book_find(book.as_mut_ptr(), book.len(), owner, entry_number, found) })
     }
 
-    fn totals(&self, lent: Lent) -> Result<Outcome, String> {
+    fn totals(&self, owner: u64, lent: Lent) -> Result<Outcome, String> {
         let book = lent.book;
         // SAFETY: as above.
-        outcome(TOTALS_ANSWER, |totals| unsafe { x9_book_totals(book.as_mut_ptr(), book.len(), totals) })
+        outcome(TOTALS_ANSWER, |totals| unsafe { x9_book_totals(book.as_mut_ptr(), book.len(), owner, totals) })
     }
 }

@@ -9,6 +9,7 @@ use std::sync::atomic::{AtomicBool, Ordering};
 use std::sync::Mutex;
 use std::time::{Instant, SystemTime, UNIX_EPOCH};
 
+use peer_book::apart::put_second;
 use peer_book::call::{Call, History, Side};
 use peer_book::generate::{self, USUAL_RUN, WHOLE_RUN};
 use peer_book::points::Tally;
@@ -33,9 +34,20 @@ struct Shared {
     found: Mutex<Vec<String>>,
 }
 
+impl Shared {
+    /// One more difference. After ten the run stops.
+    fn note(&self, name: String) {
+        if let Ok(mut found) = self.found.lock() {
+            found.push(name);
+            self.stop.fetch_or(found.len() >= 10, Ordering::Relaxed);
+        }
+    }
+}
+
 #[derive(Default)]
 struct Counts {
     histories: u64,
+    pairs: u64,
     calls: u64,
     entered: u64,
     letters: u64,
@@ -45,6 +57,7 @@ struct Counts {
 impl Counts {
     fn add(&mut self, other: &Counts) {
         self.histories += other.histories;
+        self.pairs += other.pairs;
         self.calls += other.calls;
         self.entered += other.entered;
         self.letters += other.letters;
@@ -123,9 +136,19 @@ fn work(options: &Options, shared: &Shared, first: u64) -> (Tally, Counts) {
                 counts.letters += seen.outcome.answer[5];
             }
         });
-        match compared {
-            Ok(outcomes) => tally.note_history(&history, &outcomes),
-            Err(broken) => report(options, shared, &history, index, &broken),
+        let outcomes = match compared {
+            Ok(outcomes) => outcomes,
+            Err(broken) => {
+                report(options, shared, &history, index, &broken);
+                continue;
+            }
+        };
+        tally.note_history(&history, &outcomes);
+        let Some(pair) = generate::pair(options.seed, index) else { continue };
+        counts.pairs += 1;
+        match put_second(&Library, &pair, random) {
+            Ok(second) => tally.note_pair(&pair, [&outcomes, &second]),
+            Err(difference) => report_pair(options, shared, index, &difference),
         }
     }
     (tally, counts)
@@ -159,7 +182,7 @@ fn shrink(single: &History) -> History {
     small
 }
 
-/// Prints and saves a difference: the call, its table as numbers a line each, and its file. After ten the run stops.
+/// Prints and saves a difference: the call, its table as numbers a line each, and its file.
 fn report(options: &Options, shared: &Shared, history: &History, index: u64, broken: &Broken) {
     let call = &history.calls[broken.at];
     let single = alone(history, broken, broken.book.clone());
@@ -178,10 +201,13 @@ fn report(options: &Options, shared: &Shared, history: &History, index: u64, bro
         Ok(()) => println!("  saved as {name}"),
         Err(error) => println!("  not saved: {error}"),
     }
-    if let Ok(mut found) = shared.found.lock() {
-        found.push(name);
-        shared.stop.fetch_or(found.len() >= 10, Ordering::Relaxed);
-    }
+    shared.note(name);
+}
+
+/// Prints a difference in a pair of histories, which seed and index give again.
+fn report_pair(options: &Options, shared: &Shared, index: u64, difference: &str) {
+    println!("DIFFERENCE in pair {index}: {difference}");
+    shared.note(format!("seed{}-pair{index}", options.seed));
 }
 
 fn save(options: &Options, name: &str, single: &History, small: &History, call: &Call) -> std::io::Result<()> {
@@ -200,8 +226,9 @@ fn save(options: &Options, name: &str, single: &History, small: &History, call: 
 fn conclude(options: &Options, shared: &Shared, tally: &Tally, counts: &Counts, begun: Instant) -> ExitCode {
     let differences = shared.found.lock().map(|found| found.len()).unwrap_or(1);
     println!(
-        "{} histories, {} calls, {} files entered with {} letters, {} bytes, {:.1} seconds",
+        "{} histories, {} pairs of them, {} calls, {} files entered with {} letters, {} bytes, {:.1} seconds",
         counts.histories,
+        counts.pairs,
         counts.calls,
         counts.entered,
         counts.letters,

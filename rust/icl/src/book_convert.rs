@@ -1,0 +1,43 @@
+//! `icl book convert`: a day book of an older version, written anew as one of today. It does so only when a person asks, and leaves the old one as it is.
+
+use std::path::Path;
+
+use x9180::book::{Owner, Refused};
+use x9180::Book;
+
+use crate::args::Args;
+use crate::book_file::{self, MOST_BYTES, VERSION};
+use crate::book_words::{faulty, free_rows, missing, owner, shown, told};
+use crate::durable::Watched;
+use crate::output::{self, trouble};
+use crate::screen::{print, with_clock};
+use crate::stop::{Stop, DONE};
+use crate::words;
+
+pub fn run(args: Args) -> Result<u8, Stop> {
+    let [old_path, new_path] = args.exactly(["OLD", "NEW"])?;
+    let (old_path, new_path) = (Path::new(old_path), Path::new(new_path));
+    let owner = owner(&args)?;
+    let (folder, name) = output::place(new_path)?;
+    let waiting = format!("waiting for {}, which another process holds", shown(old_path));
+    let old = with_clock(&waiting, || Watched::of(old_path)).map_err(|error| missing(old_path, &error))?;
+    let bytes = old.bytes(MOST_BYTES).map_err(|error| trouble(old_path, &error))?;
+    let (version, numbers) = book_file::older_in(&bytes).map_err(|fault| faulty(old_path, fault))?;
+    let book = given_to(owner, numbers).map_err(|refused| told(old_path, &refused))?;
+    let totals = book.totals(owner).map_err(|refused| told(old_path, &refused))?;
+    let (entries, free) = (words::entries(totals.entries), free_rows(old_path, &book)?);
+    old.create_alike(folder, name, &book_file::bytes_of(&book)).map_err(|error| trouble(new_path, &error))?;
+    let (old_name, new_name) = (shown(old_path), shown(new_path));
+    print(&format!(
+        "{new_name}, version {VERSION}, written from {old_name}, version {version}, which stays as it is\n\
+         {entries}, all of {owner}\n{free}\n"
+    ))?;
+    Ok(DONE)
+}
+
+/// The book of a table without owners. The library judges it whole before it says whether there is such an owner.
+fn given_to(owner: Owner, numbers: Vec<u64>) -> Result<Book, Refused> {
+    let book = Book::given_to(Owner::ONE, numbers);
+    book.totals(owner)?;
+    Ok(Book::given_to(owner, book.into_memory()))
+}
