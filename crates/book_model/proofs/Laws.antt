@@ -13,10 +13,10 @@ use Rattle.figures.specs.Figures.{noFigures, plus, minus, same, covers, figures
 use Rattle.figures.proofs.Laws.{both, same-true, same-step, none-plus}
 use Rattle.net.specs.Net.{isNet}
 use Rattle.passes.specs.declared.Fault.the-variants.{NoEntry}
-use Rattle.book_table.specs.declared.Entry.{Entry}
-use Rattle.book_table.specs.declared.Finding.the-variants.{Found, Refused}
-use Rattle.book_table.specs.PlainList.{totalsOf, positionOf, isTaken, finding}
-use Rattle.book_table.specs.Table.{isOwner, blockOf, rowsClaimed, runningTotals, netNumber, rowsThere, entryAt, ownFiguresAt, entriesFrom, entriesOf, addsUp, isBook}
+use Rattle.book_model.specs.declared.Entry.{Entry}
+use Rattle.book_model.specs.declared.Finding.the-variants.{Found, Refused}
+use Rattle.book_model.specs.PlainList.{totalsOf, positionOf, finding}
+use Rattle.book_model.specs.Table.{isOwner, blockOf, rowsClaimed, runningTotals, netNumber, rowsThere, entryAt, ownFiguresAt, entriesFrom, entriesOf, addsUp, isBook}
 
 -- where a walk over the rows claimed stands with so many still to come; the next of them lies within the table
 abbrev pub Walk : ℕ → ℕ → ℕ → Type 0
@@ -43,11 +43,6 @@ block-within o = by-owner (eqb o 2)
 
 -- an entry that is the owner's, or is not, before others
 module _ (e : Entry) (es : List Entry) where
-  taken-if : (t : Bool) (m : ℕ) → isTaken m (cond t (e ∷ es) es) ≡ (t && eqb (e .file) m) || isTaken m es
-  unfolding isTaken
-  taken-if true m = refl
-  taken-if false m = refl
-
   found-if : (t : Bool) (m : ℕ) → finding (cond t (e ∷ es) es) m ≡ cond (t && eqb (e .number) m) (Found e) (finding es m)
   unfolding finding
   found-if true m = refl
@@ -75,23 +70,7 @@ module _ (o : ℕ) (book : List ℕ) (at : ℕ) where
     others : List Entry
     others = entriesFrom o book (n - 1) (at + 9)
 
-    -- a file number
     module _ (m : ℕ) where
-      pub taken-none : n ≤ 0 → isTaken m (entriesFrom o book n at) ≡ false
-      unfolding isTaken
-      taken-none h = rw (rows-none n h)
-
-      taken-more : 0 < n → isTaken m (entriesFrom o book n at) ≡ (eqb (getD book at 0) o && eqb (getD book (at + 2) 0) m) || isTaken m (entriesFrom o book (n - 1) (at + 9))
-      unfolding entryAt
-      taken-more h = rw (rows-more n h) (taken-if (entryAt book at) (entriesFrom o book (n - 1) (at + 9)) (eqb (getD book at 0) o) m)
-
-      pub taken-here : 0 < n → eqb (getD book at 0) o && eqb (getD book (at + 2) 0) m ≡ true → isTaken m (entriesFrom o book n at) ≡ true
-      taken-here h e = taken-more h ∙ rw e
-
-      pub taken-behind : 0 < n → eqb (getD book at 0) o && eqb (getD book (at + 2) 0) m ≡ false
-          → isTaken m (entriesFrom o book n at) ≡ isTaken m (entriesFrom o book (n - 1) (at + 9))
-      taken-behind h e = taken-more h ∙ rw e
-
       -- an entry number
       pub found-none : n ≤ 0 → finding (entriesFrom o book n at) m ≡ Refused NoEntry
       unfolding finding
