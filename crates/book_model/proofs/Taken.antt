@@ -5,10 +5,11 @@ use native.Mathlib.Omega.{arith}
 use mathlib.Core.Bool.{Bool, true, false, _&&_, _||_, cond}
 use mathlib.Core.List.{List, [], _∷_}
 use mathlib.Core.Path.{_≡_, refl, _∙_}
-use lib.Dec.{eqb}
+use lib.Dec.{leb, eqb}
 use lib.ListN.{length, getD}
+use borrow.Author.Tests.{leb-true}
 use Rattle.book_model.specs.PlainList.{isTaken}
-use Rattle.book_model.specs.Table.{placesThere, takenFrom}
+use Rattle.book_model.specs.Table.{placesClaimed, placesThere, freePlaces, takenFrom, isList}
 
 -- where a walk over the places claimed stands with so many still to come; the next of them lies within the list
 abbrev pub Walk : ℕ → ℕ → ℕ → Type 0
@@ -52,3 +53,14 @@ module _ (o : ℕ) (list : List ℕ) (at : ℕ) where
     pub taken-behind : 0 < n → eqb (getD list at 0) o && eqb (getD list (at + 1) 0) m ≡ false
         → isTaken m (takenFrom o list n at) ≡ isTaken m (takenFrom o list (n - 1) (at + 2))
     taken-behind h e = taken-more h ∙ rw e
+
+-- a list that is one claims no more places than it has, and where one is free, it lies within the list
+pub in-list : (list : List ℕ) → isList list ≡ true → placesClaimed list ≤ placesThere list
+unfolding isList
+in-list list e = leb-true (placesClaimed list) (placesThere list) e
+
+pub free-within : (list : List ℕ) → isList list ≡ true → leb 1 (freePlaces list) ≡ true → 3 + 2 * placesClaimed list ≤ length list
+free-within list e f =
+    let claims = in-list list e in
+    let free = leb-true 1 (freePlaces list) f in
+    omega arith
