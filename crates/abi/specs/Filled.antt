@@ -12,15 +12,15 @@ use Rattle.passes.specs.Answers.{numberOf, numbersOf}
 use Rattle.draft.specs.declared.Outcome.{Outcome}
 use Rattle.draft.specs.declared.Outcome.the-variants.{Written, Refused}
 use Rattle.net.specs.Net.{bitsOf}
-use Rattle.book_table.specs.declared.Entering.{Entering}
-use Rattle.book_table.specs.declared.Finding.{Finding}
-use Rattle.book_table.specs.declared.Tally.{Tally}
+use Rattle.book_model.specs.declared.Entering.{Entering}
+use Rattle.book_model.specs.declared.Finding.{Finding}
+use Rattle.book_model.specs.declared.Tally.{Tally}
 use Rattle.judge.specs.Alone as alone
 use Rattle.passes.specs.declared.Answer.the-variants as answers
 use Rattle.picture.specs.Picture as picture
-use Rattle.book_table.specs.declared.Entering.the-variants as entering
-use Rattle.book_table.specs.declared.Finding.the-variants as finding
-use Rattle.book_table.specs.declared.Tally.the-variants as tally
+use Rattle.book_model.specs.declared.Entering.the-variants as entering
+use Rattle.book_model.specs.declared.Finding.the-variants as finding
+use Rattle.book_model.specs.declared.Tally.the-variants as tally
 use Rattle.figures.specs.Figures as figures
 use Rattle.tiff.specs.Judged as tiff
 

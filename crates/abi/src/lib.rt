@@ -12,7 +12,7 @@ ghost use Rattle.text.specs.declared.character_set.CharacterSet.the-variants.{A
 ghost use Prim.Native.Nat.{ℕ};
 ghost use Rattle.passes.specs.Answers.{numberOf, numbersOf};
 ghost use Rattle.passes.specs.declared.Answer.the-variants.{Accepted, Refused};
-ghost use Rattle.book_table.specs.declared.Entering.the-variants.{Entered, Refused as NotEntered};
+ghost use Rattle.book_model.specs.declared.Entering.the-variants.{Entered, Refused as NotEntered};
 ghost use Rattle.abi.specs.Filled.{setNumbered, enteringNumbers};
 ghost use Rattle.abi.specs.Outcomes.{Reading, Writing, Drafting, Picturing, Judging, Tagging, Booking, LookingUp, Tallying};
 

@@ -19,11 +19,11 @@ use Rattle.figures.proofs.Laws.{both}
 use Rattle.net.specs.Net.{within}
 use Rattle.letters.specs.Letters.{lettersOf}
 use Rattle.letters.proofs.Theorem.{AcceptedLetters}
-use Rattle.book_table.specs.declared.Entering.the-variants.{Entered, Refused}
-use Rattle.book_table.specs.PlainList.{totalsOf, positionOf, isTaken, entriesOn, keepsRange, hasRoom, entering}
-use Rattle.book_table.specs.Table.{isOwner, blockOf, rowsClaimed, lastNumber, runningTotals, freeRows, rowsOf, entriesOf, ownOf, isBook, blockWith, withEntries}
-use Rattle.book.specs.Calls.{enterAnswer}
-use Rattle.book_table.proofs.Laws.{block-within, sound}
+use Rattle.book_model.specs.declared.Entering.the-variants.{Entered, Refused}
+use Rattle.book_model.specs.PlainList.{totalsOf, positionOf, isTaken, entriesOn, keepsRange, hasRoom, entering}
+use Rattle.book_model.specs.Table.{isOwner, blockOf, rowsClaimed, lastNumber, runningTotals, freeRows, rowsOf, entriesOf, ownOf, isBook, blockWith, withEntries}
+use Rattle.book_model.specs.Calls.{enterAnswer}
+use Rattle.book_model.proofs.Laws.{block-within, sound}
 use Rattle.passes.specs.declared.Answer.the-variants as answers
 use Rattle.passes.specs.Rows as rows
 

@@ -21,8 +21,8 @@ use Rattle.figures.specs.declared.Figures.{Figures}
 use Rattle.figures.specs.Figures.{figures}
 use Rattle.letters.specs.Letters.{lettersFrom, lettersOf}
 use Rattle.letters.proofs.Steps.{letters-end, letters-cut, letters-other, letters-90}
-use Rattle.book_table.specs.PlainList.{entry, entriesOn}
-use Rattle.book_table.specs.Table.{rowOf, rowsOf}
+use Rattle.book_model.specs.PlainList.{entry, entriesOn}
+use Rattle.book_model.specs.Table.{rowOf, rowsOf}
 
 -- one list behind another
 sets-behind : (l : List ℕ) (at : ℕ) (xs ys : List ℕ) → sets l at (xs ++ ys) ≡ sets (sets l at xs) (at + length xs) ys

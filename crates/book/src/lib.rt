@@ -21,8 +21,9 @@ ghost use Rattle.letters.specs.OfArrangement.{LettersOwn};
 ghost use Rattle.passes.specs.declared.Answer.the-variants.{Accepted};
 ghost use Rattle.passes.specs.Reading.{surveyed};
 ghost use Rattle.passes.specs.Rows.{rowsOf as rowsOfFile};
-ghost use Rattle.book_model.specs.PlainList.{entriesOn};
-ghost use Rattle.book_model.specs.Table.{isOwner, entriesFrom, isBook, isList, placed};
+ghost use Rattle.book_model.specs.PlainList.{entriesOn, finding, withdrawing};
+ghost use Rattle.book_model.specs.Table.{isOwner, entriesFrom, entriesOf, isBook, isList, placed};
+ghost use Rattle.book_model.specs.declared.Finding.the-variants.{Found};
 ghost use Rattle.book_model.specs.Calls.{enterAnswer, rowsAfter, bookAfter, listAfter, findAnswer, totalsAnswer, withdrawAnswer, bookWithdrawn, tidyAnswer, bookTidied};
 
 // A row for each cash letter of an accepted file, in the lowest gaps among so many rows claimed and then behind them, numbered on from a number.
@@ -190,12 +191,13 @@ pub fn totals(book: &[u64], owner: u64) -> Tally
     Tally::Totals(entries, figures, position)
 }
 
-// The entry of an owner's that a look-up finds, with these figures, leaves the book, unless the net position would then lie beyond its bound.
-fn withdraw_found(book: &mut [u64], owner: u64, number: u64, figures: Figures) -> Change
-    requires { ⌜ (isBook (now book) ≡ true) × (isOwner owner ≡ true) × (figuresFound (finding (entriesOf owner (now book)) number) figures) ⌝ }
+// The entry that a look-up of an owner's finds leaves the book, unless the net position would then lie beyond its bound.
+fn withdraw_found(book: &mut [u64], owner: u64, number: u64, e: Entry) -> Change
+    requires { ⌜ (isBook (now book) ≡ true) × (isOwner owner ≡ true) × (finding (entriesOf owner (now book)) number ≡ Found e) ⌝ }
     ensures answer { λ r. ⌜ r ≡ withdrawing (entriesOf owner (now (book .entry))) number ⌝ }
     ensures book { λ r. ⌜ now (book .exit) ≡ bookWithdrawn owner number (now (book .entry)) r ⌝ }
 {
+    let figures = e.figures;
     if !book_table::keeps_range_without(book, owner, figures) {
         return Change::Refused(Fault::Range);
     }
@@ -218,10 +220,7 @@ pub fn withdraw(book: &mut [u64], list: &[u64], owner: u64, number: u64) -> Chan
     }
     match book_table::first_numbered(book, owner, book_table::number_at(book, 0), number) {
         Finding::Refused(fault) => Change::Refused(fault),
-        Finding::Found(e) => {
-            let figures = e.figures;
-            withdraw_found(book, owner, number, figures)
-        }
+        Finding::Found(e) => withdraw_found(book, owner, number, e),
     }
 }
 

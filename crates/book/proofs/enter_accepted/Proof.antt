@@ -11,10 +11,10 @@ use Rattle.figures.specs.Figures.{figures, plus}
 use Rattle.net.specs.Net.{within}
 use Rattle.letters.specs.Letters.{lettersOf}
 use Rattle.letters.proofs.Theorem.{AcceptedLetters, accepted-letters}
-use Rattle.book_table.specs.declared.Entering.the-variants.{Entered}
-use Rattle.book_table.specs.PlainList.{positionOf, isTaken, entriesOn, keepsRange, hasRoom}
-use Rattle.book_table.specs.Table.{lastNumber, runningTotals, freeRows, entriesFrom, rowsOf, entriesOf, ownOf}
-use Rattle.book_table.proofs.Laws.{sound}
+use Rattle.book_model.specs.declared.Entering.the-variants.{Entered}
+use Rattle.book_model.specs.PlainList.{positionOf, isTaken, entriesOn, keepsRange, hasRoom}
+use Rattle.book_model.specs.Table.{lastNumber, runningTotals, freeRows, entriesFrom, rowsOf, entriesOf, ownOf}
+use Rattle.book_model.proofs.Laws.{sound}
 use Rattle.book.proofs.Accepted.{HasRoom, no-room, duplicate, beyond, full, enters, filled, range-is, room-is, has-room, raisable, book-raised}
 use borrow.Author.Needs.{needs}
 use Rattle.book.proofs.enter_accepted.Statement.{statement}
