@@ -1,5 +1,5 @@
 -- An owner's block of the head written anew: it says what was written, and the other owner's block and the rows are as they were. Assumes nothing.
-use Prim.Native.Nat.{ℕ, _+_, _≤_, _<_}
+use Prim.Native.Nat.{ℕ, _+_, _-_, _/_, _≤_, _<_}
 use native.Mathlib.Omega.{arith}
 use mathlib.Core.Bool.{Bool, true, false, cond}
 use mathlib.Core.Path.{_≡_, refl, sym, ap, _∙_, subst}
@@ -40,6 +40,18 @@ pub book-adds : (book : List ℕ) → isBook book ≡ true → (p : ℕ) → isO
 book-adds book good p who =
     let s = sound book good .sums p who in
     record { sums = s; net = ap (λ (f : Figures). isNet (netNumber p book) (positionOf f)) (sym s) ∙ sound book good .nets p who }
+
+-- a table that was a book and is still one
+pub record StillBook (book after : List ℕ) : Type 0 where
+  pub long : length after ≡ length book
+  pub claims : rowsClaimed after ≤ rowsThere book
+  pub adds : (p : ℕ) → isOwner p ≡ true → Adds p after (entriesOf p after)
+
+pub as-there : (book after : List ℕ) → StillBook book after → rowsThere after ≡ rowsThere book
+as-there book after s = ap (λ (n : ℕ). (n - 17) / 9) (s .long)
+
+pub still-book : (book after : List ℕ) → StillBook book after → isBook after ≡ true
+still-book book after s = book-is after (omega (arith, as-there book after s)) (s .adds)
 
 pub adds-alike : (p : ℕ) (t u : List ℕ) (es : List Entry) → Alike t u (blockOf p) (blockOf p + 8) → Adds p u es → Adds p t es
 adds-alike p t u es h a =

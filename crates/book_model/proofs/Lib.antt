@@ -8,3 +8,7 @@ pub mod Placed
 pub mod Cleared
 pub mod Tidied
 pub mod Head
+pub mod MoreEntries
+pub mod FewerEntries
+pub mod NoGaps
+pub mod MoreTaken
