@@ -1,5 +1,5 @@
 -- A table without an entry of an owner: it is still a book, the owner's entries are those without it, and the other owner's are as they were. Assumes nothing.
-use Prim.Native.Nat.{ℕ, _+_, _*_, _≤_, _<_}
+use Prim.Native.Nat.{ℕ, suc, _+_, _*_, _≤_, _<_}
 use native.Mathlib.Omega.{arith}
 use mathlib.Core.Bool.{Bool, true, false, cond}
 use mathlib.Core.Path.{_≡_, refl, sym, ap, _∙_, subst}
@@ -11,8 +11,8 @@ use Rattle.figures.specs.declared.Figures.{Figures}
 use Rattle.net.specs.Net.{within}
 use Rattle.book_model.specs.declared.Entry.{Entry}
 use Rattle.book_model.specs.PlainList.{totalsOf, positionOf, without}
-use Rattle.book_model.specs.Table.{isOwner, blockOf, rowsClaimed, lastNumber, rowsThere, entriesFrom, entriesOf, isBook, cleared, withoutEntry}
-use Rattle.book_model.proofs.Laws.{block-within, sound}
+use Rattle.book_model.specs.Table.{isOwner, blockOf, rowsClaimed, lastNumber, rowsThere, entriesFrom, entriesOf, rowsUsed, isBook, cleared, withoutEntry}
+use Rattle.book_model.proofs.Laws.{block-within, of-either, sound}
 use Rattle.book_model.proofs.Rows.{Alike, entries-alike}
 use Rattle.book_model.proofs.Cleared.{cleared-long, cleared-before, leftOf, cleared-entries}
 use Rattle.book_model.proofs.Head.{Adds, StillBook, book-adds, adds-alike, headed, headed-long, headed-claimed, headed-behind, headed-last, headed-adds}
@@ -90,3 +90,10 @@ module _ (o m : ℕ) (book : List ℕ) where
           lasts = last-left;
           entries = entries-left;
         }
+
+-- a row less is used, where there was one to take out
+pub shrunk-used : (o m : ℕ) (book after : List ℕ) → isOwner o ≡ true → length (entriesOf o book) ≡ suc (length (without m (entriesOf o book)))
+    → Shrunk o m book after → rowsUsed book ≡ suc (rowsUsed after)
+unfolding isOwner
+shrunk-used o m book after who one s =
+    omega (arith, ap length (s .entries 1 refl), ap length (s .entries 2 refl), of-either (λ (p : ℕ). length (entriesOf p book) ≡ suc (length (without m (entriesOf p book))) → rowsUsed book ≡ suc (length (leftOf p m 1 (entriesOf 1 book)) + length (leftOf p m 2 (entriesOf 2 book)))) (λ h. omega arith) (λ h. omega arith) o who one)

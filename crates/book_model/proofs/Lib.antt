@@ -12,3 +12,4 @@ pub mod MoreEntries
 pub mod FewerEntries
 pub mod NoGaps
 pub mod MoreTaken
+pub mod Without

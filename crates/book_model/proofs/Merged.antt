@@ -46,7 +46,7 @@ merged-many none = refl
 merged-many (left m) = omega (arith, merged-many m)
 merged-many (right m) = omega (arith, merged-many m)
 
-plus-across : (a b c : Figures) → plus a (plus b c) ≡ plus b (plus a c)
+pub plus-across : (a b c : Figures) → plus a (plus b c) ≡ plus b (plus a c)
 plus-across a b c =
     λ i. figures (across (a .bundles) (b .bundles) (c .bundles) i) (sums (across (a .sums .debits .0) (b .sums .debits .0) (c .sums .debits .0) i) (across (a .sums .debit .0) (b .sums .debit .0) (c .sums .debit .0) i) (across (a .sums .credits .0) (b .sums .credits .0) (c .sums .credits .0) i) (across (a .sums .credit .0) (b .sums .credit .0) (c .sums .credit .0) i) (across (a .sums .views .0) (b .sums .views .0) (c .sums .views .0) i))
   where
@@ -63,11 +63,11 @@ merged-totals (right {e = e} {es = es} {fs = fs} m) = ap (plus (e .figures)) (me
 abbrev pub Absent : ℕ → List Entry → Type 0
 Absent n es = finding es n ≡ Refused NoEntry
 
-record NotHere (n : ℕ) (e : Entry) (es : List Entry) : Type 0 where
-  here : eqb (e .number) n ≡ false
-  behind : Absent n es
+pub record NotHere (n : ℕ) (e : Entry) (es : List Entry) : Type 0 where
+  pub here : eqb (e .number) n ≡ false
+  pub behind : Absent n es
 
-not-here : (n : ℕ) (e : Entry) (es : List Entry) → Absent n (e ∷ es) → NotHere n e es
+pub not-here : (n : ℕ) (e : Entry) (es : List Entry) → Absent n (e ∷ es) → NotHere n e es
 unfolding finding
 not-here n e es a = by-test (eqb (e .number) n) refl a
   where

@@ -19,9 +19,9 @@ use Rattle.net.proofs.Laws.{net-bits}
 use Rattle.book_model.specs.declared.Entry.{Entry}
 use Rattle.book_model.specs.PlainList.{totalsOf, positionOf}
 use Rattle.book_model.specs.Table.{isOwner, blockOf, rowsClaimed, lastNumber, runningTotals, netNumber, rowsThere, rowsOf, entriesFrom, entriesOf, rowsUsed, freeRows, gaps, isBook, blockWith, placed, withEntries}
-use Rattle.book_model.proofs.Laws.{block-within, sound}
+use Rattle.book_model.proofs.Laws.{block-within, of-either, sound}
 use Rattle.book_model.proofs.Rows.{Alike, entries-alike, shareOf}
-use Rattle.book_model.proofs.Merged.{Merged, all-left, alone, merged-totals}
+use Rattle.book_model.proofs.Merged.{Merged, all-left, alone, merged-many, merged-totals}
 use Rattle.book_model.proofs.Used.{used, used-claimed}
 use Rattle.book_model.proofs.Placed.{placed-long, placed-before, placed-merged}
 use Rattle.book_model.proofs.Head.{Adds, StillBook, book-adds, adds-alike, headed, headed-long, headed-claimed, headed-behind, headed-last, headed-adds}
@@ -155,3 +155,9 @@ pub grown : (o : ℕ) (book : List ℕ) (es : List Entry) → isBook book ≡ tr
     → within (positionOf (plus (runningTotals o book) (totalsOf es))) ≡ true → Grown o book (withEntries o book es) es
 grown o book [] good who h inside = rw (nothing-more o book good who) (not-grown o book good)
 grown o book (e ∷ es) good who h inside = some-more o book (e ∷ es) good who h inside (omega arith)
+
+-- as many rows more are used
+pub grown-used : (o : ℕ) (book after : List ℕ) (es : List Entry) → isOwner o ≡ true → Grown o book after es → rowsUsed after ≡ rowsUsed book + length es
+unfolding isOwner
+grown-used o book after es who g =
+    omega (arith, merged-many (g .entries 1 refl), merged-many (g .entries 2 refl), of-either (λ (p : ℕ). length (shareOf 1 p es) + length (shareOf 2 p es) ≡ length es) (omega arith) (omega arith) o who)
