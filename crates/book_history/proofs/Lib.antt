@@ -1,9 +1,4 @@
-pub mod Stores
-pub mod Rows
-pub mod Grown
-pub mod MoreEntries
-pub mod EachCall
-pub mod Empty
-pub mod Lasting
-pub mod Theorem
-pub mod Separate
+pub mod Matched
+pub mod Held
+pub mod Entered
+pub mod Withdrawn

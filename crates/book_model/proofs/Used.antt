@@ -60,3 +60,6 @@ used-of book = refl
 pub used-claimed : (book : List ℕ) → rowsUsed book ≤ rowsClaimed book
 unfolding entriesOf
 used-claimed book = used-most book (rowsClaimed book) 17
+
+pub own-claimed : (book : List ℕ) (o : ℕ) → isOwner o ≡ true → length (entriesOf o book) ≤ rowsClaimed book
+own-claimed book = of-either (λ (o : ℕ). length (entriesOf o book) ≤ rowsClaimed book) (omega (arith, used-claimed book)) (omega (arith, used-claimed book))
