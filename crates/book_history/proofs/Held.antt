@@ -49,3 +49,9 @@ unchanged o l own g h =
   where
     back : (a b : ℕ) → a ≡ a + b - b
     back a b = omega arith
+
+-- a tidy-up
+pub record TidiedUp (l after : Lent) : Type 0 where
+  pub good : Good after
+  pub same : (p : ℕ) → isOwner p ≡ true → Same p l after
+  pub free : freeIn (after .book) (after .list) ≡ freeIn (l .book) (l .list)

@@ -2,3 +2,8 @@ pub mod Matched
 pub mod Held
 pub mod Entered
 pub mod Withdrawn
+pub mod EachCall
+pub mod Empty
+pub mod Both
+pub mod Lasting
+pub mod Theorem
