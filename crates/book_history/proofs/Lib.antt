@@ -7,3 +7,4 @@ pub mod Empty
 pub mod Both
 pub mod Lasting
 pub mod Theorem
+pub mod Separate
