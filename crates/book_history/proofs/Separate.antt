@@ -38,7 +38,7 @@ module _ (o : ℕ) (who : isOwner o ≡ true) where
     one-more : (t : Bool) → eqb p o ≡ t → OnTables (callThen l p c) (cond t next own) more → After t
     one-more true e behind =
         let first : reply l p c ≡ ownReply own (freeIn (l .book) (l .list)) c =
-            subst (λ (q : ℕ). reply l q c ≡ ownReply own (freeIn (l .book) (l .list)) c) (sym (eqb-true p o e)) (own-answered l b s o c who) in
+        subst (λ (q : ℕ). reply l q c ≡ ownReply own (freeIn (l .book) (l .list)) c) (sym (eqb-true p o e)) (own-answered l b s o c who) in
         (λ i. first i ∷ behind .answers i, behind .entries)
     one-more false e behind = (behind .answers, behind .entries)
 

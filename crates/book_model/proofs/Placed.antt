@@ -104,7 +104,7 @@ module _ (o : ℕ) where
         by-test false nobodys behind filled =
             let t = sets book at (rowOf o e) in
             let alike : (q : ℕ) → entriesFrom q t n (at + 9) ≡ entriesFrom q book n (at + 9) =
-                λ q. entries-alike q t book n (at + 9) (λ k a b. stored-behind (rowOf o e) book at k a) in
+            λ q. entries-alike q t book n (at + 9) (λ k a b. stored-behind (rowOf o e) book at k a) in
             let as-used : used t n (at + 9) ≡ used book n (at + 9) = λ i. length (alike 1 i) + length (alike 2 i) in
             let as-many : suc n + more book (suc n) at (e ∷ es) ≡ suc (n + more t n (at + 9) es) = omega (arith, used-gap book n at nobodys, used-most book n (at + 9)) in
             rw (as-many, gap-row book n at p who nobodys)

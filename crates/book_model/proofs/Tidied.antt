@@ -87,9 +87,9 @@ module _ (book : List ℕ) where
             let nine = length-part book from 9 (omega arith) in
             let one = used-row book n from e in
             let apart : sets t at (row ++ behind) ≡ sets (sets t at row) (at + 9) behind =
-                stored-apart row behind t at ∙ ap (λ (k : ℕ). sets (sets t at row) (at + k) behind) nine in
+            stored-apart row behind t at ∙ ap (λ (k : ℕ). sets (sets t at row) (at + k) behind) nine in
             let rest : entriesFrom p (sets t at (row ++ behind)) (used book n (from + 9)) (at + 9) ≡ entriesFrom p book n (from + 9) =
-                ap (λ (l : List ℕ). entriesFrom p l (used book n (from + 9)) (at + 9)) apart ∙ later (sets t at row) (omega (arith, length-sets t at row)) in
+            ap (λ (l : List ℕ). entriesFrom p l (used book n (from + 9)) (at + 9)) apart ∙ later (sets t at row) (omega (arith, length-sets t at row)) in
             ap (λ (k : ℕ). entriesFrom p (sets t at (row ++ behind)) k at) one
             ∙ rw (owner-again from (omega arith) behind t at (omega arith), entry-again from (omega arith) behind t at (omega arith), rest)
         by-test false e later gap =
