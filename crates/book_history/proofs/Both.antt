@@ -1,17 +1,14 @@
 -- Lent tables that hold a plain book, and go on holding it through every act. Assumes nothing.
 use Prim.Native.Nat.{ℕ}
-use native.Mathlib.Omega.{arith}
 use mathlib.Core.Bool.{Bool, true, false, _||_, cond}
-use mathlib.Core.Path.{_≡_, refl, sym, ap, _∙_, subst}
-use mathlib.Core.List.{List}
+use mathlib.Core.Path.{_≡_, refl, ap, _∙_, subst}
 use lib.Dec.{eqb}
-use Rattle.book_model.specs.PlainList.{Own, Free}
+use Rattle.book_model.specs.PlainList.{Free}
 use Rattle.book_model.specs.Table.{isOwner, freeIn}
-use Rattle.book_model.specs.Calls.{tidyAnswer}
 use Rattle.book_model.proofs.Laws.{of-either}
 use Rattle.book_model.proofs.Used.{not-theirs}
 use Rattle.book_history.specs.Histories.{Call, Act, by, tidy, changed, Lent, reply, callThen, actReply, lentThen, ownReply, ownThen, PlainBook, listOf, freeThen, noOwner, plainReply, plainThen, zeros, emptyBook}
-use Rattle.book_history.proofs.Held.{Good, Holds, Called, TidiedUp, holds-still}
+use Rattle.book_history.proofs.Held.{Good, Holds, Called, holds-still}
 use Rattle.book_history.proofs.EachCall.{refused, left, answered, called, tidy-done, tidied-up}
 use Rattle.book_history.proofs.Empty.{empty, nobodys, all-free}
 

@@ -2,8 +2,8 @@
 -- tidy-up leaves each owner's as it is. Assumes nothing.
 use Prim.Native.Nat.{ℕ}
 use native.Mathlib.Omega.{arith}
-use mathlib.Core.Bool.{Bool, true, false}
-use mathlib.Core.Path.{_≡_, refl, sym, ap, _∙_, subst}
+use mathlib.Core.Bool.{true, false}
+use mathlib.Core.Path.{_≡_, refl, sym, ap, subst}
 use mathlib.Core.List.{List}
 use lib.ListN.{length}
 use Rattle.passes.specs.Reading.{answerOf}
@@ -12,13 +12,13 @@ use Rattle.book_model.specs.declared.Entering.{Entering}
 use Rattle.book_model.specs.declared.Change.{Change}
 use Rattle.book_model.specs.declared.Change.the-variants.{Done}
 use Rattle.book_model.specs.declared.Tally.the-variants.{Totals}
-use Rattle.book_model.specs.PlainList.{Own, totalsOf, positionOf, withdrawing, afterEntering, afterWithdrawing}
-use Rattle.book_model.specs.Table.{isOwner, rowsThere, entriesOf, ownOf, rowsUsed, freeRows, freeIn, tidied}
-use Rattle.book_model.specs.Calls.{enterAnswer, rowsAfter, bookAfter, listAfter, findAnswer, totalsAnswer, withdrawAnswer, bookWithdrawn, tidyAnswer, bookTidied}
+use Rattle.book_model.specs.PlainList.{Own, positionOf, withdrawing, afterEntering, afterWithdrawing}
+use Rattle.book_model.specs.Table.{isOwner, entriesOf, ownOf, freeRows, freeIn, tidied}
+use Rattle.book_model.specs.Calls.{enterAnswer, rowsAfter, bookAfter, listAfter, findAnswer, totalsAnswer, withdrawAnswer, bookWithdrawn, tidyAnswer}
 use Rattle.book_model.proofs.Head.{as-there, still-book}
 use Rattle.book_model.proofs.NoGaps.{ClosedUp, closed-up}
-use Rattle.book_history.specs.Histories.{Call, enter, find, totals, withdraw, entered, found, told, changed, tidy, Lent, enteringIn, reply, callThen, actReply, lentThen, enteringOn, ownReply, ownThen, noOwner}
-use Rattle.book_history.proofs.Held.{Good, Holds, Same, Called, TidiedUp, unchanged}
+use Rattle.book_history.specs.Histories.{Call, enter, find, totals, withdraw, entered, found, told, changed, tidy, Lent, enteringIn, reply, callThen, lentThen, enteringOn, ownReply, ownThen, noOwner}
+use Rattle.book_history.proofs.Held.{Good, Holds, Called, TidiedUp, unchanged}
 use Rattle.book_history.proofs.Entered.{entering-alike, after-answer}
 use Rattle.book_history.proofs.Withdrawn.{withdrawing-alike, after-change}
 

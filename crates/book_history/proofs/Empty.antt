@@ -2,8 +2,8 @@
 use Prim.Native.Nat.{ℕ, zero, suc, _+_, _-_, _/_}
 use native.Mathlib.Omega.{arith}
 use mathlib.Core.Bool.{true}
-use mathlib.Core.Path.{_≡_, refl, sym, ap, _∙_}
-use mathlib.Core.List.{List, []}
+use mathlib.Core.Path.{_≡_, refl, ap, _∙_}
+use mathlib.Core.List.{[]}
 use lib.ListN.{length, getD}
 use borrow.Author.Tests.{le-leb}
 use Rattle.copying.specs.Times.{times}
@@ -11,12 +11,11 @@ use Rattle.copying.proofs.Laws.{length-times}
 use Rattle.figures.specs.Figures.{noFigures, figuresAt}
 use Rattle.net.specs.Net.{netOf, isNet, within}
 use Rattle.net.proofs.Laws.{net-is}
-use Rattle.book_model.specs.declared.Entry.{Entry}
 use Rattle.book_model.specs.PlainList.{totalsOf, finding, without}
-use Rattle.book_model.specs.Table.{isOwner, blockOf, placesClaimed, placesThere, entriesFrom, entriesOf, freeRows, freePlaces, freeIn, takenFrom, takenBy, isBook, isList}
+use Rattle.book_model.specs.Table.{blockOf, placesClaimed, placesThere, entriesFrom, entriesOf, freeRows, freePlaces, freeIn, takenFrom, takenBy, isBook, isList}
 use Rattle.book_model.proofs.Head.{book-is}
 use Rattle.book_history.specs.Histories.{nothing, zeros, emptyBook}
-use Rattle.book_history.proofs.Matched.{Matched, Numbered}
+use Rattle.book_history.proofs.Matched.{Numbered}
 use Rattle.book_history.proofs.Held.{Good, Holds}
 
 all-zero : (n k : ℕ) → getD (times n 0) k 0 ≡ 0

@@ -1,9 +1,8 @@
 -- Entering a file: it is answered on the owner's own list, and what it leaves is that list with the file's entries and number. Assumes nothing.
-use Prim.Native.Nat.{ℕ, suc, _+_, _-_, _≤_}
-use native.Mathlib.Nat.{add-zero}
+use Prim.Native.Nat.{ℕ, _+_, _-_, _≤_}
 use native.Mathlib.Omega.{arith}
-use mathlib.Core.Bool.{Bool, true, false, _&&_, not, cond}
-use mathlib.Core.Path.{_≡_, refl, sym, ap, _∙_, subst}
+use mathlib.Core.Bool.{Bool, true, false, _&&_, not}
+use mathlib.Core.Path.{_≡_, refl, ap, _∙_, subst}
 use mathlib.Core.List.{List, [], _∷_, _++_, append-nil}
 use lib.Dec.{leb, eqb}
 use lib.ListN.{length, length-append}
@@ -22,16 +21,15 @@ use Rattle.book_model.specs.declared.Entry.{Entry}
 use Rattle.book_model.specs.declared.Entering.{Entering}
 use Rattle.book_model.specs.declared.Entering.the-variants.{Entered, Refused}
 use Rattle.book_model.specs.PlainList.{Own, Free, totalsOf, positionOf, isTaken, entriesOn, keepsRange, hasRoom, entering, afterEntering}
-use Rattle.book_model.specs.Table.{isOwner, lastNumber, runningTotals, rowsThere, entriesOf, rowsUsed, freeRows, freePlaces, takenBy, freeIn, withEntries, withTaken}
+use Rattle.book_model.specs.Table.{isOwner, lastNumber, runningTotals, entriesOf, freeRows, freePlaces, takenBy, freeIn, withEntries, withTaken}
 use Rattle.book_model.specs.Calls.{bookAfter, listAfter}
 use Rattle.book_model.proofs.Laws.{sound}
 use Rattle.book_model.proofs.Merged.{Merged, alone}
-use Rattle.book_model.proofs.Used.{used-claimed}
 use Rattle.book_model.proofs.Head.{as-there, still-book}
 use Rattle.book_model.proofs.MoreEntries.{Grown, grown, grown-used}
 use Rattle.book_model.proofs.MoreTaken.{Taken, taken-more}
 use Rattle.book_history.specs.Histories.{Lent, freeThen}
-use Rattle.book_history.proofs.Matched.{Matched, new-many, new-totals, matched-more}
+use Rattle.book_history.proofs.Matched.{new-many, new-totals, matched-more}
 use Rattle.book_history.proofs.Held.{Good, Holds, Same, Called, unchanged}
 
 -- entering looks at the totals, the last number and the file numbers taken alone

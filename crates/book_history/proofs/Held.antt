@@ -1,13 +1,11 @@
 -- Lent tables that are a book and its list, an owner's own that they hold, and what a call leaves of both. Assumes nothing.
 use Prim.Native.Nat.{ℕ, _+_, _-_}
 use native.Mathlib.Omega.{arith}
-use mathlib.Core.Bool.{Bool, true, false}
-use mathlib.Core.Path.{_≡_, refl, sym, ap, _∙_}
-use mathlib.Core.List.{List}
+use mathlib.Core.Bool.{true, false}
+use mathlib.Core.Path.{_≡_, refl, _∙_}
 use lib.Dec.{eqb}
 use lib.ListN.{length}
-use Rattle.book_model.specs.declared.Entry.{Entry}
-use Rattle.book_model.specs.PlainList.{Own, Free}
+use Rattle.book_model.specs.PlainList.{Own}
 use Rattle.book_model.specs.Table.{isOwner, lastNumber, entriesOf, takenBy, freeIn, isBook, isList}
 use Rattle.book_history.specs.Histories.{Lent, freeThen}
 use Rattle.book_history.proofs.Matched.{Matched}

@@ -1,13 +1,11 @@
 -- What stays through a history on the plain book: what is found and not withdrawn, what is gone, what is taken. Assumes nothing.
-use Prim.Native.Nat.{ℕ, _+_, _≤_}
+use Prim.Native.Nat.{ℕ, _≤_}
 use native.Mathlib.Omega.{arith}
 use mathlib.Core.Bool.{Bool, true, false, _&&_, _||_, not, cond}
-use mathlib.Core.Path.{_≡_, refl, sym, ap, _∙_}
+use mathlib.Core.Path.{_≡_, refl, sym, _∙_}
 use mathlib.Core.List.{List, [], _∷_, _++_}
 use lib.Dec.{eqb}
-use lib.ListN.{length}
 use borrow.Author.Tests.{eqb-true}
-use Rattle.figures.specs.declared.Figures.{Figures}
 use Rattle.figures.proofs.Laws.{both}
 use Rattle.letters.specs.Letters.{lettersOf}
 use Rattle.book_model.specs.declared.Entry.{Entry}
@@ -19,9 +17,10 @@ use Rattle.book_model.specs.declared.Change.the-variants as changes
 use Rattle.book_model.specs.PlainList.{Own, Free, isTaken, entriesOn, finding, withdrawing, afterEntering, afterWithdrawing}
 use Rattle.book_model.specs.Table.{isOwner}
 use Rattle.book_model.proofs.Laws.{of-either}
+use Rattle.book_model.proofs.Used.{never}
 use Rattle.book_model.proofs.Merged.{Absent, behind, merged-found}
 use Rattle.book_model.proofs.Without.{absent-still, others-still}
-use Rattle.book_history.specs.Histories.{Call, enter, find, totals, withdraw, Act, by, tidy, History, enteringOn, ownThen, PlainBook, listOf, plainThen, plainAfter, isWithdrawal, neverWithdrawn}
+use Rattle.book_history.specs.Histories.{Call, enter, find, totals, withdraw, by, tidy, History, enteringOn, ownThen, PlainBook, listOf, plainThen, plainAfter, isWithdrawal, neverWithdrawn}
 use Rattle.book_history.proofs.Matched.{none-below}
 use Rattle.book_history.proofs.Both.{nobody-then}
 
@@ -34,9 +33,6 @@ module _ (P : Own → Type 0) (b : PlainBook) (o : ℕ) where
     where
       Then : ℕ → Type 0
       Then p = ((own : Own) → (isOwner o ≡ true → eqb p o ≡ true) → P own → P (ownThen own (b .free) c)) → P (listOf o (plainThen b (by p c)))
-
-      never : {A : Type 0} → _≡_ {A = Bool} true false → A
-      never e = absurd (let z : _≡_ {A = ℕ} 0 1 = cc in omega arith)
 
       firsts : (t : Bool) → eqb o 2 ≡ t → ((own : Own) → (isOwner o ≡ true → eqb 1 o ≡ true) → P own → P (ownThen own (b .free) c))
           → P (cond t (b .second) (b .first)) → P (cond t (b .second) (ownThen (b .first) (b .free) c))
@@ -99,7 +95,7 @@ module _ (m : ℕ) (e : Entry) where
 
 -- what is gone, and what is taken
 module _ (m : ℕ) where
-  abbrev Gone : Own → Type 0
+  abbrev pub Gone : Own → Type 0
   Gone own = (m ≤ own .last) × Absent m (own .entries)
 
   call-gone : (c : Call) (own : Own) (free : Free) → Gone own → Gone (ownThen own free c)

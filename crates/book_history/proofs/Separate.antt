@@ -8,7 +8,7 @@ use borrow.Author.Tests.{eqb-true}
 use Rattle.book_model.specs.PlainList.{Own, Free}
 use Rattle.book_model.specs.Table.{isOwner, ownOf, freeIn}
 use Rattle.book_model.proofs.Laws.{of-either}
-use Rattle.book_history.specs.Histories.{Call, Reply, by, tidy, History, Lent, reply, callThen, lentThen, lentAfter, ownReply, ownThen, nothing, PlainBook, listOf, plainThen, zeros, emptyBook}
+use Rattle.book_history.specs.Histories.{Call, by, tidy, History, Lent, reply, callThen, lentThen, lentAfter, ownReply, ownThen, nothing, PlainBook, listOf, plainThen, zeros, emptyBook}
 use Rattle.book_history.specs.Separate.{callsOf, repliesTo, ownReplies, ownAfter, SameOwn, ItsOwn, AlwaysSeparate}
 use Rattle.book_history.proofs.Both.{Both, none-held, list-then, holds-of, own-answered, still-both}
 

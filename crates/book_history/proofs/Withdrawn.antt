@@ -1,7 +1,7 @@
 -- Withdrawing an entry: it is answered on the owner's own list, and what it leaves is that list without the entry. Assumes nothing.
-use Prim.Native.Nat.{ℕ, suc, _+_, _-_, _≤_}
+use Prim.Native.Nat.{ℕ, suc, _+_, _-_}
 use native.Mathlib.Omega.{arith}
-use mathlib.Core.Bool.{Bool, true, false, cond}
+use mathlib.Core.Bool.{Bool, true, false}
 use mathlib.Core.Path.{_≡_, refl, sym, ap, _∙_}
 use mathlib.Core.List.{List}
 use lib.Dec.{eqb}
@@ -17,7 +17,7 @@ use Rattle.book_model.specs.declared.Finding.the-variants as findings
 use Rattle.book_model.specs.declared.Change.{Change}
 use Rattle.book_model.specs.declared.Change.the-variants.{Done, Refused}
 use Rattle.book_model.specs.PlainList.{Own, totalsOf, positionOf, finding, without, ofFinding, withdrawing, afterWithdrawing}
-use Rattle.book_model.specs.Table.{isOwner, rowsClaimed, rowsThere, entriesOf, rowsUsed, freeRows, freePlaces, freeIn, withoutEntry}
+use Rattle.book_model.specs.Table.{isOwner, entriesOf, freeRows, freePlaces, freeIn, withoutEntry}
 use Rattle.book_model.specs.Calls.{bookWithdrawn}
 use Rattle.book_model.proofs.Laws.{sound}
 use Rattle.book_model.proofs.Without.{found-many}
@@ -39,12 +39,12 @@ withdrawing-alike last es fs n s = by-finding (finding es n) refl
     by-finding (findings.Refused fault) e = rw (e, sym (s .found n) ∙ e)
 
 -- what is withdrawn was there, and the rest keeps the net position within its bound
-record There (es : List Entry) (n : ℕ) : Type 0 where
-  entry : Entry
-  is : finding es n ≡ findings.Found entry
-  inside : within (positionOf (totalsOf (without n es))) ≡ true
+pub record There (es : List Entry) (n : ℕ) : Type 0 where
+  pub entry : Entry
+  pub is : finding es n ≡ findings.Found entry
+  pub inside : within (positionOf (totalsOf (without n es))) ≡ true
 
-there : (es : List Entry) (n : ℕ) → withdrawing es n ≡ Done → There es n
+pub there : (es : List Entry) (n : ℕ) → withdrawing es n ≡ Done → There es n
 unfolding withdrawing
 there es n e = by-finding (finding es n) refl (within (positionOf (totalsOf (without n es)))) refl e
   where

@@ -1,17 +1,16 @@
 -- A table without an entry of an owner: it is still a book, the owner's entries are those without it, and the other owner's are as they were. Assumes nothing.
-use Prim.Native.Nat.{ℕ, suc, _+_, _*_, _≤_, _<_}
+use Prim.Native.Nat.{ℕ, suc, _+_, _*_, _≤_}
 use native.Mathlib.Omega.{arith}
 use mathlib.Core.Bool.{Bool, true, false, cond}
 use mathlib.Core.Path.{_≡_, refl, sym, ap, _∙_, subst}
 use mathlib.Core.List.{List}
 use lib.Dec.{eqb}
-use lib.ListN.{length, getD}
+use lib.ListN.{length}
 use borrow.Author.Tests.{eqb-true, eq-eqb}
 use Rattle.figures.specs.declared.Figures.{Figures}
 use Rattle.net.specs.Net.{within}
-use Rattle.book_model.specs.declared.Entry.{Entry}
 use Rattle.book_model.specs.PlainList.{totalsOf, positionOf, without}
-use Rattle.book_model.specs.Table.{isOwner, blockOf, rowsClaimed, lastNumber, rowsThere, entriesFrom, entriesOf, rowsUsed, isBook, cleared, withoutEntry}
+use Rattle.book_model.specs.Table.{isOwner, blockOf, rowsClaimed, lastNumber, entriesFrom, entriesOf, rowsUsed, isBook, cleared, withoutEntry}
 use Rattle.book_model.proofs.Laws.{block-within, of-either, sound}
 use Rattle.book_model.proofs.Rows.{Alike, entries-alike}
 use Rattle.book_model.proofs.Cleared.{cleared-long, cleared-before, leftOf, cleared-entries}

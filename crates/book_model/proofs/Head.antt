@@ -1,5 +1,5 @@
 -- An owner's block of the head written anew: it says what was written, and the other owner's block and the rows are as they were. Assumes nothing.
-use Prim.Native.Nat.{ℕ, _+_, _-_, _/_, _≤_, _<_}
+use Prim.Native.Nat.{ℕ, _+_, _-_, _/_, _≤_}
 use native.Mathlib.Omega.{arith}
 use mathlib.Core.Bool.{Bool, true, false, cond}
 use mathlib.Core.Path.{_≡_, refl, sym, ap, _∙_, subst}
@@ -7,18 +7,18 @@ use mathlib.Core.List.{List, [], _∷_, _++_}
 use lib.Dec.{eqb}
 use lib.ListN.{length, getD}
 use lib.Seq.{sets, length-sets}
-use borrow.Author.Tests.{eqb-true}
+use borrow.Author.Tests.{le-leb, eqb-true}
 use Rattle.figures.specs.declared.Figures.{Figures}
 use Rattle.figures.specs.Figures.{same, numbersOf, figuresAt}
 use Rattle.figures.proofs.Laws.{same-refl}
 use Rattle.net.specs.Net.{bitsOf, isNet, within}
 use Rattle.net.proofs.Laws.{net-is}
-use borrow.Author.Tests.{le-leb}
 use Rattle.book_model.specs.declared.Entry.{Entry}
 use Rattle.book_model.specs.PlainList.{totalsOf, positionOf}
 use Rattle.book_model.specs.Table.{isOwner, blockOf, rowsClaimed, lastNumber, runningTotals, netNumber, rowsThere, entriesOf, addsUp, isBook, blockWith}
 use Rattle.book_model.proofs.Laws.{block-within, of-either, sound}
 use Rattle.book_model.proofs.Stores.{stored-before, stored-behind, stored-first, stored-in, stored-apart}
+use Rattle.book_model.proofs.Used.{never}
 use Rattle.book_model.proofs.Rows.{Alike, figures-alike, figures-back}
 
 -- an owner's block adds up to entries
@@ -70,9 +70,6 @@ module _ (vs l : List ℕ) (eight : length vs ≡ 8) where
   blocks-apart o p q r =
       of-either (λ (a : ℕ). Apart a p) (of-either (Apart 1) never (λ e k a b. stored-behind vs l 1 k (omega arith)) p r)
       (of-either (Apart 2) (λ e k a b. stored-before vs l 9 k (omega arith)) never p r) o q
-    where
-      never : {A : Type 0} → _≡_ {A = Bool} true false → A
-      never e = absurd (let z : _≡_ {A = ℕ} 0 1 = cc in omega arith)
 
 abbrev pub headed : ℕ → List ℕ → ℕ → Figures → List ℕ
 headed o t last totals = sets t (blockOf o) (blockWith last totals)

@@ -1,5 +1,5 @@
 -- Two lists of entries merged into one, each in its own order, and what is looked up, taken out and summed in the one. Assumes nothing.
-use Prim.Native.Nat.{ℕ, suc, _+_, _<_, _≤_}
+use Prim.Native.Nat.{ℕ, _+_}
 use native.Mathlib.Omega.{arith}
 use mathlib.Core.Bool.{Bool, true, false, cond}
 use mathlib.Core.Path.{_≡_, refl, sym, ap, _∙_}
@@ -23,6 +23,10 @@ pub data Merged : List Entry → List Entry → List Entry → Type 0 where
 pub all-left : (es : List Entry) → Merged es [] es
 all-left [] = none
 all-left (e ∷ es) = left (all-left es)
+
+pub none-shared : (t : Bool) (es : List Entry) → Merged es (cond t [] []) es
+none-shared true es = all-left es
+none-shared false es = all-left es
 
 pub all-right : (es : List Entry) → Merged [] es es
 all-right [] = none

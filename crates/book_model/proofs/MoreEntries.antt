@@ -1,6 +1,6 @@
 -- A table with more entries of an owner: it is still a book, the owner's entries have the new ones merged in, and the other owner's are as they were. Assumes
 -- nothing.
-use Prim.Native.Nat.{ℕ, zero, suc, _+_, _-_, _*_, _/_, _≤_, _<_}
+use Prim.Native.Nat.{ℕ, zero, suc, _+_, _-_, _*_, _≤_}
 use native.Mathlib.Nat.{add-zero}
 use native.Mathlib.Numerals.{towards-suc}
 use native.Mathlib.Omega.{arith}
@@ -18,11 +18,11 @@ use Rattle.net.specs.Net.{within}
 use Rattle.net.proofs.Laws.{net-bits}
 use Rattle.book_model.specs.declared.Entry.{Entry}
 use Rattle.book_model.specs.PlainList.{totalsOf, positionOf}
-use Rattle.book_model.specs.Table.{isOwner, blockOf, rowsClaimed, lastNumber, runningTotals, netNumber, rowsThere, rowsOf, entriesFrom, entriesOf, rowsUsed, freeRows, gaps, isBook, blockWith, placed, withEntries}
+use Rattle.book_model.specs.Table.{isOwner, blockOf, rowsClaimed, lastNumber, runningTotals, netNumber, rowsThere, rowsOf, entriesOf, rowsUsed, freeRows, gaps, isBook, blockWith, placed, withEntries}
 use Rattle.book_model.proofs.Laws.{block-within, of-either, sound}
 use Rattle.book_model.proofs.Rows.{Alike, entries-alike, shareOf}
-use Rattle.book_model.proofs.Merged.{Merged, all-left, alone, merged-many, merged-totals}
-use Rattle.book_model.proofs.Used.{used, used-claimed}
+use Rattle.book_model.proofs.Merged.{Merged, none-shared, alone, merged-many, merged-totals}
+use Rattle.book_model.proofs.Used.{used-claimed}
 use Rattle.book_model.proofs.Placed.{placed-long, placed-before, placed-merged}
 use Rattle.book_model.proofs.Head.{Adds, StillBook, book-adds, adds-alike, headed, headed-long, headed-claimed, headed-behind, headed-last, headed-adds}
 
@@ -64,10 +64,6 @@ not-grown o book good =
     same-last : (p : ℕ) (t : Bool) → eqb o p ≡ t → lastNumber p book ≡ cond t (lastNumber o book + 0) (lastNumber p book)
     same-last p true e = rw (eqb-true o p e) (sym (add-zero (lastNumber p book)))
     same-last p false e = refl
-
-    none-shared : (t : Bool) (es : List Entry) → Merged es (cond t [] []) es
-    none-shared true es = all-left es
-    none-shared false es = all-left es
 
 module _ (o : ℕ) (book : List ℕ) (es : List Entry) where
   abbrev claimedAfter : ℕ

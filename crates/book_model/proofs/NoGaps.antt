@@ -1,5 +1,5 @@
 -- A table tidied up: it is still a book, and each owner's entries are as they were, in their order. Assumes nothing.
-use Prim.Native.Nat.{ℕ, _+_, _*_, _≤_, _<_}
+use Prim.Native.Nat.{ℕ, _*_}
 use native.Mathlib.Omega.{arith}
 use mathlib.Core.Bool.{Bool, true, false}
 use mathlib.Core.Path.{_≡_, refl, sym, ap, _∙_}
@@ -9,12 +9,11 @@ use lib.ListN.{length, getD, set, length-set}
 use lib.Seq.{sets, length-sets, getD-set-other}
 use borrow.Author.Tests.{leb-true, leb-false}
 use Rattle.copying.specs.Times.{times}
-use Rattle.book_model.specs.declared.Entry.{Entry}
-use Rattle.book_model.specs.Table.{isOwner, blockOf, rowsClaimed, lastNumber, rowsThere, entriesFrom, entriesOf, rowsUsed, isBook, usedFrom, tidied}
+use Rattle.book_model.specs.Table.{isOwner, blockOf, rowsClaimed, lastNumber, entriesFrom, entriesOf, rowsUsed, gaps, isBook, usedFrom, tidied}
 use Rattle.book_model.proofs.Laws.{block-within, sound}
 use Rattle.book_model.proofs.Stores.{stored-before}
 use Rattle.book_model.proofs.Rows.{Alike, entries-alike}
-use Rattle.book_model.proofs.Used.{used, used-claimed}
+use Rattle.book_model.proofs.Used.{used-claimed}
 use Rattle.book_model.proofs.Tidied.{tidied-entries}
 use Rattle.book_model.proofs.Head.{Adds, StillBook, book-adds, adds-alike}
 
@@ -87,3 +86,8 @@ module _ (book : List ℕ) where
           lasts = λ p who. head-kept (blockOf p) (block-within p .0) (omega (arith, block-within p));
           entries = entries-closed;
         }
+
+    -- what is claimed is used
+    pub no-gaps : gaps (tidied book) ≡ 0
+    unfolding tidied isOwner
+    no-gaps = omega (arith, after-claimed, ap length (entries-closed 1 refl), ap length (entries-closed 2 refl))

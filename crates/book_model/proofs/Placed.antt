@@ -1,10 +1,9 @@
 -- Entries set down in gaps and behind the rows claimed: the owner's rows are then its old ones with the new ones merged in, and the other owner's are as they
 -- were. Assumes nothing.
 use Prim.Native.Nat.{ℕ, zero, suc, _+_, _-_, _*_, _≤_, _<_}
-use native.Mathlib.Nat.{zero-add, suc-add}
 use native.Mathlib.Omega.{arith}
 use mathlib.Core.Bool.{Bool, true, false, cond}
-use mathlib.Core.Path.{_≡_, refl, sym, ap, subst, _∙_}
+use mathlib.Core.Path.{_≡_, refl, _∙_}
 use mathlib.Core.List.{List, [], _∷_}
 use lib.Dec.{eqb}
 use lib.ListN.{length, getD}
@@ -14,7 +13,7 @@ use Rattle.book_model.specs.declared.Entry.{Entry}
 use Rattle.book_model.specs.Table.{isOwner, entryAt, rowOf, rowsOf, entriesFrom, placed}
 use Rattle.book_model.proofs.Stores.{stored-before, stored-behind, stored-first}
 use Rattle.book_model.proofs.Rows.{Alike, entry-alike, entries-alike, entry-back, entries-back, shareOf}
-use Rattle.book_model.proofs.Merged.{Merged, none, left, right, all-left, all-right}
+use Rattle.book_model.proofs.Merged.{Merged, left, right, none-shared, all-right}
 use Rattle.book_model.proofs.Used.{used, used-row, used-gap, used-most, gap-row}
 
 either : {A : Type 0} (P : A → Type 0) (t : Bool) (a b : A) → P a → P b → P (cond t a b)
@@ -47,10 +46,6 @@ module _ (o : ℕ) where
   Set book n at es p = Merged (entriesFrom p book n at) (shareOf p o es) (entriesFrom p (placed o book n at es) (n + more book n at es) at)
 
   module _ (p : ℕ) (who : isOwner p ≡ true) where
-    none-shared : (t : Bool) (es : List Entry) → Merged es (cond t [] []) es
-    none-shared true es = all-left es
-    none-shared false es = all-left es
-
     -- a row that is an owner's, and those behind it
     row-kept : (t u : List ℕ) (n m at : ℕ) (fs : List Entry) → Alike u t at (at + 9) → Merged (entriesFrom p t n (at + 9)) fs (entriesFrom p u m (at + 9))
         → Merged (entriesFrom p t (suc n) at) fs (entriesFrom p u (suc m) at)

@@ -4,14 +4,12 @@ use native.Mathlib.Nat.{add-assoc}
 use native.Mathlib.Omega.{arith}
 use mathlib.Core.Bool.{Bool, true, false, cond}
 use mathlib.Core.Path.{_≡_, refl, sym, ap, _∙_}
-use mathlib.Core.List.{List, [], _∷_, _++_}
-use lib.Dec.{eqb}
+use mathlib.Core.List.{List, _++_}
 use lib.ListN.{length, getD, length-append}
 use lib.Seq.{sets, length-sets}
 use Rattle.frame.specs.Frames.{part}
 use Rattle.copying.proofs.Laws.{length-part, part-at}
 use Rattle.figures.specs.Figures.{figuresAt}
-use Rattle.book_model.specs.declared.Entry.{Entry}
 use Rattle.book_model.specs.Table.{isOwner, entryAt, entriesFrom, usedFrom}
 use Rattle.book_model.proofs.Stores.{stored-before, stored-in, stored-apart}
 use Rattle.book_model.proofs.Used.{used, used-row, used-gap, gap-row}

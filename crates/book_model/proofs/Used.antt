@@ -1,9 +1,9 @@
 -- How many of the rows claimed are either owner's. Assumes nothing.
 use Prim.Native.Nat.{ℕ, zero, suc, _+_, _≤_}
 use native.Mathlib.Omega.{arith}
-use mathlib.Core.Bool.{Bool, true, false, _||_, cond}
+use mathlib.Core.Bool.{Bool, true, false, cond}
 use mathlib.Core.Path.{_≡_, refl, sym, _∙_}
-use mathlib.Core.List.{List, [], _∷_}
+use mathlib.Core.List.{List, _∷_}
 use lib.Dec.{eqb}
 use lib.ListN.{length, getD}
 use borrow.Author.Tests.{eqb-true}
@@ -11,7 +11,7 @@ use Rattle.book_model.specs.declared.Entry.{Entry}
 use Rattle.book_model.specs.Table.{isOwner, rowsClaimed, entryAt, entriesFrom, entriesOf, rowsUsed}
 use Rattle.book_model.proofs.Laws.{of-either}
 
-never : {A : Type 0} → _≡_ {A = Bool} true false → A
+pub never : {A : Type 0} → _≡_ {A = Bool} true false → A
 never e = absurd (let z : _≡_ {A = ℕ} 0 1 = cc in omega arith)
 
 -- a row of neither owner is not any owner's
