@@ -41,12 +41,12 @@ entering-alike a b free m letters (answers.Refused fault place offset) p q r = r
 entering-alike a b free m letters (answers.Accepted t) p q r = rw (p, q, r)
 
 -- a file that is entered has room, and keeps the net position within its bound
-pub record Fits (own : Own) (free : Free) (letters : List Figures) : Type 0 where
-  pub rows : length letters ≤ free .rows
-  pub places : 1 ≤ free .places
-  pub inside : within (positionOf (plus (totalsOf (own .entries)) (allOf letters))) ≡ true
+record Fits (own : Own) (free : Free) (letters : List Figures) : Type 0 where
+  rows : length letters ≤ free .rows
+  places : 1 ≤ free .places
+  inside : within (positionOf (plus (totalsOf (own .entries)) (allOf letters))) ≡ true
 
-pub entered-fits : (own : Own) (free : Free) (m : ℕ) (letters : List Figures) (answer : Answer) (first : ℕ) (t : Totals)
+entered-fits : (own : Own) (free : Free) (m : ℕ) (letters : List Figures) (answer : Answer) (first : ℕ) (t : Totals)
     → entering own free m letters answer ≡ Entered first t → Fits own free letters
 unfolding entering keepsRange hasRoom
 entered-fits own free m letters (answers.Refused fault place offset) first t e = absurd (let z : _≡_ {A = ℕ} 0 1 = cc in omega arith)

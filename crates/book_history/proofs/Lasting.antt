@@ -142,7 +142,7 @@ module _ (m : ℕ) where
       by-answer changes.Done = h
 
 -- what every call keeps, every history does
-pub always : (P : Own → Type 0) → ((c : Call) (own : Own) (free : Free) → P own → P (ownThen own free c)) → (more : History) (b : PlainBook) (o : ℕ)
+always : (P : Own → Type 0) → ((c : Call) (own : Own) (free : Free) → P own → P (ownThen own free c)) → (more : History) (b : PlainBook) (o : ℕ)
     → P (listOf o b) → P (listOf o (plainAfter b more))
 unfolding plainThen
 always P step [] b o h = h

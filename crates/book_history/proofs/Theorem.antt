@@ -1,14 +1,14 @@
 -- After any sequence of acts a book grown from an empty one answers as two plain lists of entries would, one for each owner. Assumes nothing.
-use Prim.Native.Nat.{ℕ, _≤_, _<_}
+use Prim.Native.Nat.{ℕ, _≤_}
 use native.Mathlib.Omega.{arith}
 use mathlib.Core.Bool.{Bool, true, false}
-use mathlib.Core.Path.{_≡_, refl, sym, _∙_}
+use mathlib.Core.Path.{_≡_, refl, _∙_}
 use mathlib.Core.List.{List, [], _∷_}
 use lib.Dec.{leb}
 use borrow.Author.Tests.{leb-true, leb-false, eq-eqb}
 use Rattle.book_model.specs.declared.Entry.{Entry}
 use Rattle.book_model.specs.declared.Change.the-variants.{Done}
-use Rattle.book_model.specs.PlainList.{Own, withdrawing}
+use Rattle.book_model.specs.PlainList.{withdrawing}
 use Rattle.book_model.specs.Table.{isOwner}
 use Rattle.book_model.proofs.Merged.{Absent}
 use Rattle.book_history.specs.Histories.{withdraw, by, History, Lent, lentThen, lentAfter, replies, ownThen, PlainBook, listOf, plainThen, plainReplies, plainAfter, zeros, emptyBook, AsAPlainList}

@@ -8,14 +8,10 @@ use mathlib.Core.List.{List, [], _∷_, _++_}
 use lib.Dec.{eqb}
 use lib.ListN.{length, getD, set, length-set}
 use lib.Seq.{sets, length-sets, getD-set-same, getD-set-other}
-use borrow.Author.Tests.{leb-true, le-leb}
+use borrow.Author.Tests.{le-leb}
 use Rattle.book_model.specs.Table.{placesClaimed, placesThere, freePlaces, takenFrom, takenBy, isList, withTaken}
 use Rattle.book_model.proofs.Stores.{stored-before, stored-first, stored-in}
 use Rattle.book_model.proofs.Rows.{Alike}
-
-pub list-claims : (list : List ℕ) → isList list ≡ true → placesClaimed list ≤ placesThere list
-unfolding isList
-list-claims list e = leb-true (placesClaimed list) (placesThere list) e
 
 module _ (p : ℕ) where
   taken-alike : (t u : List ℕ) (n at : ℕ) → Alike t u at (at + 2 * n) → takenFrom p t n at ≡ takenFrom p u n at

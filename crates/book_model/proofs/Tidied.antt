@@ -5,7 +5,7 @@ use native.Mathlib.Omega.{arith}
 use mathlib.Core.Bool.{Bool, true, false, cond}
 use mathlib.Core.Path.{_≡_, refl, sym, ap, _∙_}
 use mathlib.Core.List.{List, _++_}
-use lib.ListN.{length, getD, length-append}
+use lib.ListN.{length, getD}
 use lib.Seq.{sets, length-sets}
 use Rattle.frame.specs.Frames.{part}
 use Rattle.copying.proofs.Laws.{length-part, part-at}
@@ -15,17 +15,6 @@ use Rattle.book_model.proofs.Stores.{stored-before, stored-in, stored-a
 use Rattle.book_model.proofs.Used.{used, used-row, used-gap, gap-row}
 
 module _ (book : List ℕ) where
-  pub used-long : (n from : ℕ) → from + 9 * n ≤ length book → length (usedFrom book n from) ≡ 9 * used book n from
-  unfolding usedFrom entriesFrom
-  used-long zero from h = refl
-  used-long (suc n) from h = by-test (isOwner (getD book from 0)) refl (used-long n (from + 9) (omega arith))
-    where
-      by-test : (t : Bool) → isOwner (getD book from 0) ≡ t → length (usedFrom book n (from + 9)) ≡ 9 * used book n (from + 9)
-          → length (cond t (part from 9 book ++ usedFrom book n (from + 9)) (usedFrom book n (from + 9))) ≡ 9 * used book (suc n) from
-      by-test true e behind =
-          omega (arith, length-append (part from 9 book) (usedFrom book n (from + 9)), length-part book from 9 (omega arith), used-row book n from e)
-      by-test false e behind = omega (arith, used-gap book n from e)
-
   -- a row set down again elsewhere
   abbrev againAt : ℕ → List ℕ → List ℕ → ℕ → List ℕ
   againAt from behind t at = sets t at (part from 9 book ++ behind)

@@ -53,10 +53,6 @@ used-most book (suc n) at = by-owner (isOwner (getD book at 0)) refl (used-most 
     by-owner false e h = omega (arith, used-gap book n at e)
 
 -- of a whole table
-pub used-of : (book : List ℕ) → rowsUsed book ≡ used book (rowsClaimed book) 17
-unfolding entriesOf
-used-of book = refl
-
 pub used-claimed : (book : List ℕ) → rowsUsed book ≤ rowsClaimed book
 unfolding entriesOf
 used-claimed book = used-most book (rowsClaimed book) 17
