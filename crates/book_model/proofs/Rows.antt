@@ -10,9 +10,9 @@ use lib.ListN.{length, getD}
 use lib.Seq.{sets, length-sets}
 use Rattle.figures.specs.declared.Figures.{Figures}
 use Rattle.figures.specs.Figures.{figuresAt, numbersOf}
-use Rattle.book_table.specs.declared.Entry.{Entry}
-use Rattle.book_table.specs.Table.{entryAt, rowOf, rowsOf, entriesFrom}
-use Rattle.book_history.proofs.Stores.{stored-before, stored-first, stored-in, stored-apart}
+use Rattle.book_model.specs.declared.Entry.{Entry}
+use Rattle.book_model.specs.Table.{entryAt, rowOf, rowsOf, entriesFrom}
+use Rattle.book_model.proofs.Stores.{stored-before, stored-first, stored-in, stored-apart}
 
 -- tables that agree on a stretch have the same figures and entries there
 abbrev pub Alike : List ℕ → List ℕ → ℕ → ℕ → Type 0
@@ -30,7 +30,7 @@ figures-alike t u at h =
       h (at + 5) (omega arith) (omega arith),
     )
 
-entry-alike : (t u : List ℕ) (at : ℕ) → Alike t u at (at + 9) → entryAt t at ≡ entryAt u at
+pub entry-alike : (t u : List ℕ) (at : ℕ) → Alike t u at (at + 9) → entryAt t at ≡ entryAt u at
 unfolding entryAt
 entry-alike t u at h =
     rw (
@@ -82,7 +82,7 @@ figures-back t i f h =
     )
 
 module _ (o : ℕ) (t : List ℕ) (i : ℕ) (e : Entry) (h : i + 9 ≤ length t) where
-  entry-back : entryAt (sets t i (rowOf o e)) i ≡ e
+  pub entry-back : entryAt (sets t i (rowOf o e)) i ≡ e
   unfolding entryAt
   entry-back = rw (stored-in (rowOf o e) t i 1 h (omega arith), stored-in (rowOf o e) t i 2 h (omega arith), figures-in)
     where
