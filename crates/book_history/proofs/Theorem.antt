@@ -22,16 +22,6 @@ all-alike [] l b s = refl
 all-alike (a ∷ more) l b s =
     λ i. answered-alike l b s a i ∷ all-alike more (lentThen l a) (plainThen b a) (still-both l b s a) i
 
-pub theorem : (n k : ℕ) (history : History) → AsAPlainList n k history
-theorem n k history =
-    let b = plainAfter (emptyBook n k) history in
-    record {
-      replies-alike = all-alike history (zeros n k) (emptyBook n k) (none-held n k);
-      lasting = λ more o m e who h never. lasts m e more b o who h never;
-      gone = λ more o m given h. gone-stays m more b o (given, h) .1;
-      stays-taken = λ more o m h. taken-stays m more b o h;
-    }
-
 -- "A withdrawn entry reads NOENTRY", straight behind its withdrawal and for ever
 both-after : (history : History) (l : Lent) (b : PlainBook) → Both l b → Both (lentAfter l history) (plainAfter b history)
 both-after [] l b s = s
@@ -55,9 +45,20 @@ module _ (o m : ℕ) (who : isOwner o ≡ true) where
       let now : listOf o (plainThen b (by o (withdraw m))) ≡ ownThen (listOf o b) (b .free) (withdraw m) = list-then b o (withdraw m) o who ∙ rw (eq-eqb o o refl) in
       rw (now, done) (given (listOf o b .last) (listOf o b .entries) m numbered (there (listOf o b .entries) m done), numbered .once m)
 
-  pub withdrawn : (n k : ℕ) (history more : History) → withdrawing (listOf o (plainAfter (emptyBook n k) history) .entries) m ≡ Done
+  withdrawn-absent : (n k : ℕ) (history more : History) → withdrawing (listOf o (plainAfter (emptyBook n k) history) .entries) m ≡ Done
       → Absent m (listOf o (plainAfter (plainThen (plainAfter (emptyBook n k) history) (by o (withdraw m))) more) .entries)
-  withdrawn n k history more done =
+  withdrawn-absent n k history more done =
       let b = plainAfter (emptyBook n k) history in
       gone-stays m more (plainThen b (by o (withdraw m))) o
       (gone-now (lentAfter (zeros n k) history) b (both-after history (zeros n k) (emptyBook n k) (none-held n k)) done) .1
+
+pub theorem : (n k : ℕ) (history : History) → AsAPlainList n k history
+theorem n k history =
+    let b = plainAfter (emptyBook n k) history in
+    record {
+      replies-alike = all-alike history (zeros n k) (emptyBook n k) (none-held n k);
+      lasting = λ more o m e who h never. lasts m e more b o who h never;
+      gone = λ more o m given h. gone-stays m more b o (given, h) .1;
+      withdrawn = λ more o m who done. withdrawn-absent o m who n k history more done;
+      stays-taken = λ more o m h. taken-stays m more b o h;
+    }

@@ -186,6 +186,9 @@ pub record AsAPlainList (n k : ℕ) (history : History) : Type 0 where
   pub gone : (more : History) (o m : ℕ) → m ≤ listOf o (plainAfter (emptyBook n k) history) .last
       → finding (listOf o (plainAfter (emptyBook n k) history) .entries) m ≡ findings.Refused NoEntry
       → finding (listOf o (plainAfter (plainAfter (emptyBook n k) history) more) .entries) m ≡ findings.Refused NoEntry
+  -- "A withdrawn entry reads NOENTRY", straight behind its withdrawal and after whatever comes then
+  pub withdrawn : (more : History) (o m : ℕ) → isOwner o ≡ true → withdrawing (listOf o (plainAfter (emptyBook n k) history) .entries) m ≡ Done
+      → finding (listOf o (plainAfter (plainThen (plainAfter (emptyBook n k) history) (by o (withdraw m))) more) .entries) m ≡ findings.Refused NoEntry
   -- "its file number stays taken"
   pub stays-taken : (more : History) (o m : ℕ) → isTaken m (listOf o (plainAfter (emptyBook n k) history) .taken) ≡ true
       → isTaken m (listOf o (plainAfter (plainAfter (emptyBook n k) history) more) .taken) ≡ true
