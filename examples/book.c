@@ -1,5 +1,5 @@
 /* Keeps a day book that two bureaus share: enters the first file named on the command line for owner 1 and the second for owner 2, both under the file
- * number 20240116, and prints what each owner's entries come to.
+ * number 20240116, and prints what each owner's entries come to, and its net position.
  *
  *     cc -std=c99 -Iinclude examples/book.c target/staticlib/libabi.a -o target/book
  *     target/book samples/two-letters-with-pictures.x9 samples/credits-with-pictures.x9
@@ -77,15 +77,21 @@ static void print_figures(const uint64_t figures[6]) {
            (unsigned long long)figures[2], (unsigned long long)figures[3], (unsigned long long)figures[4], (unsigned long long)figures[5]);
 }
 
-/* What an owner's entries come to, and its last entry. */
+/* The net position is in two's complement. */
+static int64_t signed_number(uint64_t number) {
+    return number <= INT64_MAX ? (int64_t)number : -(int64_t)(UINT64_MAX - number) - 1;
+}
+
+/* What an owner's entries come to, its net position in cents, and its last entry. */
 static void print_owner(uint64_t owner) {
-    uint64_t totals[8], found[9];
+    uint64_t totals[9], found[9];
 
     if (x9_book_totals(book, NUMBERS, owner, totals) != ACCEPTED) {
         return;
     }
     printf("owner %llu: entries %llu ", (unsigned long long)owner, (unsigned long long)totals[1]);
     print_figures(totals + 2);
+    printf("owner %llu: net %lld\n", (unsigned long long)owner, (long long)signed_number(totals[8]));
     if (x9_book_find(book, NUMBERS, owner, totals[1], found) == ACCEPTED) {
         printf("owner %llu: entry %llu ", (unsigned long long)owner, (unsigned long long)found[1]);
         print_figures(found + 3);

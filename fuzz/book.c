@@ -21,19 +21,21 @@
 #define CALLS_MOST 128
 #define CALL 16 /* bytes */
 #define OWNERS 2 /* their numbers are 1 and 2 */
-#define BOOK_CAUSES 128 /* of each owner */
+#define BOOK_CAUSES 256 /* of each owner */
 #define FULL_CAUSES 256
 #define CLAIMS 64
 #define COUNTERS                                                                \
     uint8_t pairs[KINDS * ALL_NUMBERS * KINDS * ALL_NUMBERS * RELATIONS];       \
     uint8_t no_book[OWNERS * BOOK_CAUSES];                                      \
     uint8_t full[FULL_CAUSES];                                                  \
+    uint8_t nets[NETS];                                                         \
     uint8_t claims[CLAIMS];
 #define MUTATE peer_mutate_history
 #define CROSS peer_cross_histories
 
 enum { ENTER, FIND, SUM_UP, KINDS };
 enum { SAME_OWNER, OTHER_OWNER, NO_OWNER, RELATIONS }; /* of a call to the one before it */
+enum { WITHIN, AT_THE_BOUND, A_CENT_BEYOND, BEYOND, NETS }; /* a net position that a file would lead to */
 
 #include "common.h"
 
@@ -53,7 +55,7 @@ static uint64_t enterings, look_ups, sums, entered;
 #define WIDTH 9
 #define SIX 6
 #define CLAIMED 0                                 /* in the head; then each owner's part */
-enum { LAST, TOTALS, NOT_LOOKED_AT = TOTALS + SIX, PART }; /* in a part */
+enum { LAST, TOTALS, NET = TOTALS + SIX, PART };     /* in a part */
 enum { OWNER, ENTRY_NUMBER, FILE_NUMBER, FIGURES };  /* in a row */
 
 #define BOOK_MOST ((size_t)1 << 13)  /* numbers */
@@ -73,8 +75,11 @@ static uint64_t part_of(uint64_t owner, size_t place) { return head_of(place_of(
 static size_t rows_there(void) { return book_len < HEAD ? 0 : (book_len - HEAD) / WIDTH; }
 static const uint64_t *row_of(size_t row) { return book + HEAD + WIDTH * row; }
 
-/* Wide enough for any sum of numbers here. */
+/* Wide enough for any sum of numbers here, and for the difference of two. */
 typedef unsigned __int128 wide;
+typedef __int128 wide_net;
+
+enum { BUNDLES, DEBIT_ITEMS, CREDIT_ITEMS, VIEWS, DEBIT_CENTS, CREDIT_CENTS };
 
 /* Of the claimed rows an owner's own alone count for it. */
 static wide sum_of(uint64_t owner, size_t figure) {
@@ -83,6 +88,9 @@ static wide sum_of(uint64_t owner, size_t figure) {
         if (row_of(row)[OWNER] == owner) sum += row_of(row)[FIGURES + figure];
     return sum;
 }
+
+/* An owner's net position: credit cents minus debit cents over its rows. */
+static wide_net net_of(uint64_t owner) { return (wide_net)sum_of(owner, CREDIT_CENTS) - (wide_net)sum_of(owner, DEBIT_CENTS); }
 
 static uint64_t entries_of(uint64_t owner) {
     uint64_t entries = 0;
@@ -103,6 +111,7 @@ static unsigned why_no_book(uint64_t owner) {
     if (head_of(CLAIMED) > rows_there()) return 1;
     for (size_t figure = 0; figure < SIX; figure++)
         if (sum_of(owner, figure) != part_of(owner, TOTALS + figure)) causes |= 2u << figure;
+    if (net_of(owner) != (int64_t)part_of(owner, NET)) causes |= 2u << SIX;
     return causes;
 }
 
@@ -123,8 +132,6 @@ typedef struct {
 
 static file files[FILES_MOST];
 static size_t file_count;
-
-enum { BUNDLES, DEBIT_ITEMS, CREDIT_ITEMS, VIEWS, DEBIT_CENTS, CREDIT_CENTS };
 
 /* A record of an accepted file, by its row, counted in its letter's figures. Of a 61 the third character says whether it is a debit. */
 static void count_record(file *f, const uint64_t row[TABLE_ROW]) {
@@ -168,7 +175,7 @@ typedef struct {
 } call;
 
 /* The numbers of an answer, by kind. */
-static const size_t answer_len[KINDS] = {13, 9, 8};
+static const size_t answer_len[KINDS] = {13, 9, 9};
 
 typedef struct {
     uint64_t answer[13];
@@ -185,7 +192,18 @@ static unsigned why_full(const file *f, uint64_t owner) {
     return causes;
 }
 
-/* Each letter in a row of its own, numbered on from the owner's last, and the owner's running totals updated where they stand. */
+/* What a file does to the net position of its owner. */
+static int64_t net_of_letters(const file *f) { return (int64_t)(sum_of_letters(f, CREDIT_CENTS) - sum_of_letters(f, DEBIT_CENTS)); }
+
+/* Where the owner's net position with all letters of a file would lie; from A_CENT_BEYOND on it is RANGE. */
+#define BOUND INT64_C(1000000000000000000)
+static unsigned net_with(const file *f, uint64_t owner) {
+    wide_net net = net_of(owner) + net_of_letters(f), far = net < 0 ? -net : net;
+    if (far < BOUND) return WITHIN;
+    return far == BOUND ? AT_THE_BOUND : far == BOUND + 1 ? A_CENT_BEYOND : BEYOND;
+}
+
+/* Each letter in a row of its own, numbered on from the owner's last, and the owner's running totals and net position updated where they stand. */
 static void set_down(const call *c, uint64_t after[BOOK_MOST]) {
     uint64_t *part = after + place_of(c->owner, 0);
     for (size_t letter = 0; letter < c->of->letters; letter++) {
@@ -194,17 +212,22 @@ static void set_down(const call *c, uint64_t after[BOOK_MOST]) {
         memcpy(row + FIGURES, c->of->figures[letter], SIX * 8);
     }
     for (size_t figure = 0; figure < SIX; figure++) part[TOTALS + figure] += sum_of_letters(c->of, figure);
+    part[NET] += (uint64_t)net_of_letters(c->of);
 }
 
 static void due_of_entering(const call *c, outcome *due) {
     const uint64_t *read = c->of->answer;
-    int lacks_room = read[0] == ACCEPTED && read[4] > c->room / TABLE_ROW;
     if (read[0] != ACCEPTED) {
         memcpy(due->answer, read, ANSWER * 8);
-    } else if (lacks_room) {
+        return;
+    }
+    COUNT(nets, net_with(c->of, c->owner));
+    if (read[4] > c->room / TABLE_ROW) {
         due->answer[0] = ROOM, due->answer[1] = read[4];
     } else if (first_with(c->owner, FILE_NUMBER, c->number)) {
         due->answer[0] = DUPLICATE;
+    } else if (net_with(c->of, c->owner) >= A_CENT_BEYOND) {
+        due->answer[0] = RANGE;
     } else if (why_full(c->of, c->owner)) {
         due->answer[0] = FULL;
         COUNT(full, why_full(c->of, c->owner));
@@ -225,6 +248,7 @@ static void due_of_finding(const call *c, uint64_t answer[]) {
 static void due_of_totals(uint64_t owner, uint64_t answer[]) {
     answer[0] = ACCEPTED, answer[1] = entries_of(owner);
     for (size_t figure = 0; figure < SIX; figure++) answer[2 + figure] = (uint64_t)sum_of(owner, figure);
+    answer[2 + SIX] = (uint64_t)net_of(owner);
 }
 
 /* What a call is to answer and to leave. A refusal leaves everything as it was, and the book's own have 0 in all behind the number. */
@@ -398,14 +422,16 @@ static void find_again(void) {
         for (uint64_t owner = 1; owner <= OWNERS; owner++) find_once_more(owner, list[i][ENTRY_NUMBER]);
 }
 
-/* And an owner's totals are the sums of what the list has of it. */
+/* And an owner's totals and net position are the sums of what the list has of it. */
 static void sum_up_again(uint64_t owner) {
-    uint64_t totals[8];
+    uint64_t totals[9];
+    wide_net net = (wide_net)sum_of_list(owner, CREDIT_CENTS) - (wide_net)sum_of_list(owner, DEBIT_CENTS);
     x9_book_totals(book, book_len, owner, totals);
     sums++;
     MUST(totals[0] == ACCEPTED && totals[1] == entries_in_list(owner), "%" PRIu64 " entries of %zu, answer %" PRIu64, totals[1], entries_in_list(owner), totals[0]);
     for (size_t figure = 0; figure < SIX; figure++)
         MUST(totals[2 + figure] == sum_of_list(owner, figure), "total %zu is not the sum of the owner's entries", figure);
+    MUST((int64_t)totals[2 + SIX] == net, "the net position %" PRId64 " is not that of the owner's entries", (int64_t)totals[2 + SIX]);
 }
 
 /* ---- One input ---- */
@@ -549,5 +575,6 @@ int LLVMFuzzerTestOneInput(const uint8_t *data, size_t size) {
 
 static void tell_counts(FILE *to) {
     fprintf(to, " enterings %" PRIu64 " entered %" PRIu64 " look_ups %" PRIu64 " sums %" PRIu64, enterings, entered, look_ups, sums);
-    fprintf(to, " no_book %zu full %zu pairs %zu", held_in(seen.no_book, OWNERS * BOOK_CAUSES), held_in(seen.full, FULL_CAUSES), held_in(seen.pairs, sizeof seen.pairs));
+    fprintf(to, " no_book %zu full %zu nets %zu pairs %zu", held_in(seen.no_book, OWNERS * BOOK_CAUSES), held_in(seen.full, FULL_CAUSES), held_in(seen.nets, NETS),
+            held_in(seen.pairs, sizeof seen.pairs));
 }

@@ -16,7 +16,7 @@ uint64_t proved_x9_tiff(const uint8_t *image, size_t image_len, uint64_t answer[
 uint64_t proved_x9_book_enter(const uint8_t *file, size_t file_len, uint64_t file_number, uint64_t owner, uint64_t *table, size_t table_len,
                               uint64_t *book, size_t book_len, uint64_t answer[13]);
 uint64_t proved_x9_book_find(const uint64_t *book, size_t book_len, uint64_t owner, uint64_t entry_number, uint64_t found[9]);
-uint64_t proved_x9_book_totals(const uint64_t *book, size_t book_len, uint64_t owner, uint64_t totals[8]);
+uint64_t proved_x9_book_totals(const uint64_t *book, size_t book_len, uint64_t owner, uint64_t totals[9]);
 
 /* Bytes 5 and 6 say that the file is EBCDIC. */
 static inline int is_ebcdic(const uint8_t *file, size_t file_len) { return file_len >= 6 && file[4] == 0xF0 && file[5] == 0xF1; }
@@ -378,7 +378,8 @@ uint64_t x9_tiff(const uint8_t *image, size_t image_len, uint64_t answer[2]) {
 
 #define HEAD 17
 #define WIDTH 9
-#define TOTALS (6 * sizeof(uint64_t)) /* the running totals of an owner, in bytes */
+#define FIGURES (6 * sizeof(uint64_t)) /* of a row, in bytes, and the running totals of an owner */
+#define SUMS (7 * sizeof(uint64_t))    /* the running totals of an owner and its net position */
 
 /* The rows of a sound book that are claimed. */
 static inline uint64_t *book_row(uint64_t *book, size_t row) { return book + HEAD + WIDTH * row; }
@@ -387,7 +388,7 @@ static inline size_t rows_there(size_t book_len) { return book_len < HEAD ? 0 : 
 
 static inline int is_owner(uint64_t number) { return number == 1 || number == 2; }
 static inline uint64_t other_than(uint64_t owner) { return 3 - owner; }
-/* Where the last number given to an owner stands; its running totals stand behind it. */
+/* Where the last number given to an owner stands; its running totals and its net position stand behind it. */
 static inline size_t last_of(uint64_t owner) { return owner == 2 ? 9 : 1; }
 
 /* A file number that no row has. */
@@ -431,15 +432,40 @@ static inline uint64_t refuse_entering(const entering *e, const uint64_t *table,
     return e->answer[0] = number;
 }
 
-/* Enters a file that a running total has no room for, and lets the total wrap: the figures that are there stand aside for the while. */
+/* Enters a file that a running total or the net position has no room for, and lets it wrap: the figures that are there stand aside for the while. */
 static inline uint64_t enter_wrapped(const entering *e, const uint64_t *book) {
     size_t rows = claimed(book, e->book_len);
-    for (size_t row = 0; row < rows; row++) memset(book_row(e->book, row) + 3, 0, TOTALS);
-    for (uint64_t owner = 1; rows && owner <= 2; owner++) memset(e->book + last_of(owner) + 1, 0, TOTALS);
+    for (size_t row = 0; row < rows; row++) memset(book_row(e->book, row) + 3, 0, FIGURES);
+    for (uint64_t owner = 1; rows && owner <= 2; owner++) memset(e->book + last_of(owner) + 1, 0, SUMS);
     uint64_t number = enter_again(e, e->file_number);
-    for (size_t row = 0; row < rows; row++) memcpy(book_row(e->book, row) + 3, book + HEAD + WIDTH * row + 3, TOTALS);
-    for (size_t i = 0; rows && i < 12; i++) e->book[2 + i + i / 6 * 2] += book[2 + i + i / 6 * 2];
+    for (size_t row = 0; row < rows; row++) memcpy(book_row(e->book, row) + 3, book + HEAD + WIDTH * row + 3, FIGURES);
+    for (size_t i = 0; rows && i < 14; i++) e->book[2 + i + i / 7] += book[2 + i + i / 7];
     return number;
+}
+
+/* Net positions: an owner's as the head states it, and whether one is beyond a bound. */
+#define BOUND INT64_C(1000000000000000000)
+static inline int64_t net_in(const uint64_t *book, uint64_t owner) { return (int64_t)book[last_of(owner) + 7]; }
+static inline int beyond(__int128 net, int64_t bound) { return net < -bound || net > bound; }
+
+/* Enters a file in spite of RANGE where the net position is then as asked; otherwise `number` stays. */
+static inline uint64_t enter_beyond(const entering *e, const uint64_t *table, const uint64_t *book, int (*asked)(int64_t before, int64_t after)) {
+    if (enter_wrapped(e, book) == 0 && asked(net_in(book, e->owner), net_in(e->book, e->owner))) return 0;
+    return refuse_entering(e, table, book, 16);
+}
+
+static inline int by_one_cent(int64_t before, int64_t after) { return (void)before, after == BOUND + 1 || after == -BOUND - 1; }
+static inline int nearer(int64_t before, int64_t after) { return before < -BOUND ? after > before : before > BOUND && after < before; }
+
+/* Whether the letters just entered carried the net position beyond the bound on the way. */
+static inline int beyond_on_the_way(const entering *e, const uint64_t *book, size_t before) {
+    __int128 net = net_in(book, e->owner);
+    int was = 0;
+    for (size_t row = before; row < claimed(e->book, e->book_len); row++) {
+        net += (__int128)book_row(e->book, row)[8] - book_row(e->book, row)[7];
+        was |= beyond(net, BOUND);
+    }
+    return was;
 }
 
 /* The numbers of a file just entered go on from a number this much higher. */
@@ -451,13 +477,17 @@ static inline void number_on(const entering *e, size_t before, uint64_t more) {
 /* What the planted fault makes of an answered entering; `table` and `book` are as they were before it. */
 static inline uint64_t spoil_entering(const entering *e, uint64_t number, const uint64_t *table, const uint64_t *book) {
     size_t before = claimed(book, e->book_len), len = e->book_len, last = last_of(e->owner);
-    (void)enter_in_spite, (void)refuse_entering, (void)enter_wrapped, (void)number_on, (void)other_than, (void)table, (void)before, (void)len, (void)last;
+    (void)enter_in_spite, (void)refuse_entering, (void)enter_wrapped, (void)number_on, (void)other_than, (void)enter_beyond;
+    (void)by_one_cent, (void)nearer, (void)beyond_on_the_way, (void)table, (void)before, (void)len, (void)last;
 #if PLANT == 78 /* a duplicate is accepted */
     if (number == 12) number = enter_in_spite(e);
 #elif PLANT == 79 /* a later file alters an entry, and the total with it */
-    if (!number && before && book_row(e->book, 0)[0] == e->owner) book_row(e->book, 0)[7] ^= 1, e->book[last + 5] += book_row(e->book, 0)[7] & 1 ? 1 : UINT64_MAX;
+    if (!number && before && book_row(e->book, 0)[0] == e->owner) {
+        uint64_t *row = book_row(e->book, 0), more = row[7] & 1 ? UINT64_MAX : 1;
+        row[7] += more, e->book[last + 5] += more, e->book[last + 7] -= more;
+    }
 #elif PLANT == 80 /* the totals are not updated */
-    if (!number) memcpy(e->book + last + 1, book + last + 1, TOTALS);
+    if (!number) memcpy(e->book + last + 1, book + last + 1, FIGURES);
 #elif PLANT == 81 /* the row table is filled on DUPLICATE */
     if (number == 12) {
         uint64_t answer[12];
@@ -483,8 +513,8 @@ static inline uint64_t spoil_entering(const entering *e, uint64_t number, const 
         if (book[HEAD + WIDTH * row] == e->owner && (uint32_t)book[HEAD + WIDTH * row + 2] == (uint32_t)e->file_number) number = refuse_entering(e, table, book, 12);
 #elif PLANT == 91 /* entries are numbered by the rows claimed, not from the last number given */
     if (!number) number_on(e, before, before - book[last]);
-#elif PLANT == 92 /* a number of the head that is not looked at is written */
-    if (!number) e->book[16] = 0;
+#elif PLANT == 92 /* a number behind the last whole row is written */
+    if (!number && (len - HEAD) % WIDTH) e->book[len - 1] = 0;
 #elif PLANT == 93 /* FULL names a record */
     if (number == 13) e->answer[1] = 1;
 #elif PLANT == 94 /* what a second letter has is added to the first one's entry */
@@ -509,6 +539,24 @@ static inline uint64_t spoil_entering(const entering *e, uint64_t number, const 
     size_t own = 0;
     for (size_t row = 0; !number && row < before; row++) own += book[HEAD + WIDTH * row] == e->owner;
     if (!number && own + e->answer[5] > (rows_there(len) + 1) / 2) number = refuse_entering(e, table, book, 13);
+#elif PLANT == 116 /* a net position of exactly 10^18 is RANGE */
+    if (!number && beyond(net_in(e->book, e->owner), BOUND - 1)) number = refuse_entering(e, table, book, 16);
+#elif PLANT == 117 /* a net position of 10^18 and a cent is not */
+    if (number == 16) number = enter_beyond(e, table, book, by_one_cent);
+#elif PLANT == 118 /* FULL comes before RANGE */
+    if (number == 16) number = refuse_entering(e, table, book, enter_wrapped(e, book) == 13 ? 13 : 16);
+#elif PLANT == 120 /* RANGE for the letters one by one */
+    if (!number && beyond_on_the_way(e, book, before)) number = refuse_entering(e, table, book, 16);
+#elif PLANT == 121 /* RANGE for both owners together */
+    if (!number && beyond((__int128)net_in(e->book, 1) + net_in(e->book, 2), BOUND)) number = refuse_entering(e, table, book, 16);
+#elif PLANT == 122 /* the net position is not updated */
+    if (!number) e->book[last + 7] = book[last + 7];
+#elif PLANT == 124 /* RANGE comes before DUPLICATE */
+    if (number == 12) number = refuse_entering(e, table, book, enter_again(e, unused(e->book, len)) == 16 ? 16 : 12);
+#elif PLANT == 125 /* from beyond the bound a file may lead nearer to it */
+    if (number == 16) number = enter_beyond(e, table, book, nearer);
+#elif PLANT == 126 /* RANGE names a record */
+    if (number == 16) e->answer[1] = 1;
 #endif
     return number;
 }
@@ -568,10 +616,10 @@ uint64_t x9_book_find(const uint64_t *book, size_t book_len, uint64_t owner, uin
 }
 
 /* The totals as if the other owner's were the sums of its rows: its rows are taken for no one's, its totals for 0. */
-static inline uint64_t totals_of_one(const uint64_t *book, size_t book_len, uint64_t owner, uint64_t totals[8]) {
+static inline uint64_t totals_of_one(const uint64_t *book, size_t book_len, uint64_t owner, uint64_t totals[9]) {
     uint64_t *copy = malloc(book_len * 8 + 8), other = other_than(owner);
     memcpy(copy, book, book_len * 8);
-    if (book_len >= HEAD) memset(copy + last_of(other) + 1, 0, TOTALS);
+    if (book_len >= HEAD) memset(copy + last_of(other) + 1, 0, SUMS);
     for (size_t row = 0; row < rows_there(book_len); row++)
         if (book_row(copy, row)[0] == other) book_row(copy, row)[0] = 0;
     uint64_t number = proved_x9_book_totals(copy, book_len, owner, totals);
@@ -579,26 +627,61 @@ static inline uint64_t totals_of_one(const uint64_t *book, size_t book_len, uint
     return number;
 }
 
-uint64_t x9_book_totals(const uint64_t *book, size_t book_len, uint64_t owner, uint64_t totals[8]) {
+/* The net positions are what 64 bits leave of the running totals' difference. */
+static inline int nets_wrap(const uint64_t *book) {
+    return book[7] - book[6] == book[8] && book[15] - book[14] == book[16];
+}
+
+/* The credit cents of an owner are the sum of its rows, in whole numbers. */
+static inline int credits_right(const uint64_t *book, size_t book_len, uint64_t owner) {
+    unsigned __int128 sum = 0;
+    for (size_t row = 0; row < claimed(book, book_len) && row < rows_there(book_len); row++)
+        if (book[HEAD + WIDTH * row] == owner) sum += book[HEAD + WIDTH * row + 8];
+    return sum == book[last_of(owner) + 6];
+}
+
+/* The totals as if the net positions were right: the debit cents stand in for the credit cents for the while. */
+static inline uint64_t totals_in_spite(const uint64_t *book, size_t book_len, uint64_t owner, uint64_t totals[9]) {
+    uint64_t *copy = malloc(book_len * 8 + 8), net = book[last_of(owner) + 7];
+    memcpy(copy, book, book_len * 8);
+    for (size_t row = 0; row < rows_there(book_len); row++) book_row(copy, row)[8] = book_row(copy, row)[7];
+    copy[7] = copy[6], copy[15] = copy[14], copy[8] = copy[16] = 0;
+    uint64_t number = proved_x9_book_totals(copy, book_len, owner, totals);
+    free(copy);
+    if (!number && credits_right(book, book_len, 1) && credits_right(book, book_len, 2)) return totals[7] = book[last_of(owner) + 6], totals[8] = net, 0;
+    memset(totals, 0, 9 * 8);
+    return totals[0] = 20;
+}
+
+uint64_t x9_book_totals(const uint64_t *book, size_t book_len, uint64_t owner, uint64_t totals[9]) {
+    uint64_t ninth = totals[8];
     uint64_t number = proved_x9_book_totals(book, book_len, owner, totals);
     size_t right = 0;
 #if PLANT == 100 /* sums past 64 bits are taken for what these leave of them */
     for (size_t i = 0; number == 20 && is_owner(owner) && book_len > HEAD && claimed(book, book_len) <= rows_there(book_len) && i < 12; i++)
         right += (size_t)sums_wrap(book, book_len, 1 + i / 6, i % 6);
-    if (right == 12) number = totals[0] = 0, totals[1] = book[0], memcpy(totals + 2, book + last_of(owner) + 1, TOTALS);
+    if (right == 12) number = totals[0] = 0, totals[1] = book[0], memcpy(totals + 2, book + last_of(owner) + 1, SUMS);
 #elif PLANT == 101 /* the last entry number is given, not how many entries there are */
     if (!number && book_len > last_of(owner)) totals[1] = book[last_of(owner)];
 #elif PLANT == 102 /* reads a number before the book */
     sink = (uint8_t)book[-1];
 #elif PLANT == 105 /* a total is that of both owners */
-    for (size_t i = 0; !number && book_len >= HEAD && i < 6; i++) totals[2 + i] += book[last_of(other_than(owner)) + 1 + i];
+    for (size_t i = 0; !number && book_len >= HEAD && i < 7; i++) totals[2 + i] += book[last_of(other_than(owner)) + 1 + i];
 #elif PLANT == 112 /* the rows claimed are given, not the owner's own */
     if (!number && book_len) totals[1] = book[0];
 #elif PLANT == 113 /* the other owner's totals are not judged */
     if (number == 20 && is_owner(owner)) number = totals_of_one(book, book_len, owner, totals);
 #elif PLANT == 114 /* NOENTRY comes before BOOK */
     if (number == 20 && !is_owner(owner)) number = totals[0] = 15;
+#elif PLANT == 115 /* the sign of the net position is turned round */
+    if (!number) totals[8] = -totals[8];
+#elif PLANT == 119 /* a net position wraps: one that no i64 holds is taken for what 64 bits leave of it */
+    if (number == 20 && is_owner(owner) && book_len >= HEAD && nets_wrap(book)) number = totals_in_spite(book, book_len, owner, totals);
+#elif PLANT == 123 /* the ninth number is not written */
+    totals[8] = ninth;
+#elif PLANT == 127 /* the net positions are not judged */
+    if (number == 20 && is_owner(owner) && book_len >= HEAD) number = totals_in_spite(book, book_len, owner, totals);
 #endif
-    (void)right, (void)sums_wrap, (void)totals_of_one;
+    (void)right, (void)sums_wrap, (void)totals_of_one, (void)ninth, (void)nets_wrap, (void)totals_in_spite;
     return number;
 }

@@ -2,7 +2,7 @@
  *
  * Every call takes any bytes and gives a definite answer. The numbers are those of the answers in README.md:
  * 0 ACCEPTED, 1 SIZE, 2 ROOM, 3 CUT, 4 LENGTH, 5 TYPE, 6 PLACE, 7 FIELD, 8 LINK, 9 TOTAL, 10 OPEN, 11 AFTER,
- * 12 DUPLICATE, 13 FULL, 15 NOENTRY, 18 TAGORDER, 19 TAGVALUE, 20 BOOK.
+ * 12 DUPLICATE, 13 FULL, 15 NOENTRY, 16 RANGE, 18 TAGORDER, 19 TAGVALUE, 20 BOOK.
  *
  * A pointer must not be null, must be aligned for what it points to, and must point to as many elements as the length beside it says;
  * with length 0 it may point anywhere. What is lent to be written must not overlap what is lent to be read. The calls keep nothing and
@@ -92,11 +92,11 @@ uint64_t x9_draft(const uint8_t *file, size_t file_len, uint64_t *draft, size_t 
 uint64_t x9_tiff(const uint8_t *image, size_t image_len, uint64_t answer[2]);
 
 /* The day book: a lent table of 64-bit numbers, which keeps the figures of cash letters as they were when their files were entered. Two owners, 1 and 2,
- * share it: each has entries, entry numbers, file numbers and running totals of its own. A table of zeros is an empty book. A head of 17 numbers:
+ * share it: each has entries, entry numbers, file numbers, running totals and a net position of its own. A table of zeros is an empty book. A head of 17 numbers:
  *   [0] the rows claimed, for both owners
  *   of owner 1:   [1] the last entry number given
  *                 [2] bundles   [3] debit items   [4] credit items   [5] views   [6] debit cents   [7] credit cents: the running totals, the sums of its rows
- *                 [8] not looked at and left as it is
+ *                 [8] the net position, the credit cents of its rows minus their debit cents, below zero in two's complement
  *   of owner 2:   [9] to [16] the same
  * and then rows of 9, one for each cash letter entered:
  *   [0] the owner; a row with any other number than 1 or 2 here is no one's   [1] the entry number, from 1 on   [2] the file number that the caller gave
@@ -104,16 +104,18 @@ uint64_t x9_tiff(const uint8_t *image, size_t image_len, uint64_t answer[2]);
  * `book_len` counts numbers. Numbers of the head that a short table lacks count as 0, and such a table has no rows; the rows there are the whole nines
  * behind the head. What stands behind the rows claimed, and behind the last whole row, is not looked at.
  * Every call first asks whether the table is a book: BOOK where it claims more rows than there are, or a running total of either owner is not the sum of
- * its own rows. So the time of a call grows with the rows claimed. Then NOENTRY, where the owner is neither 1 nor 2. What an owner is answered depends on
- * its own calls and on how many rows are free, and on nothing else that the other did. On the book's own refusals (BOOK, DUPLICATE, FULL, NOENTRY) all
- * behind the number is 0. A table that was filled before there were owners (request 6) is a book in which all
- * entries are owner 1's, as long as [8] to [16] are 0 in it.
+ * its own rows, or its net position is not what they come to (what 64 bits with a sign do not hold is none). So the time of a call grows with the rows
+ * claimed. Then NOENTRY, where the owner is neither 1 nor 2. What an owner is answered depends on its own calls and on how many rows are free, and on nothing
+ * else that the other did. On the book's own refusals (BOOK, DUPLICATE, FULL, NOENTRY, RANGE) all behind the number is 0.
+ * Tables from before: where [9] to [16] are 0, one that was filled before there were owners (request 6) is a book in which all entries are owner 1's; one
+ * that was filled before net positions were kept is a book as soon as [8] and [16] hold them.
  *
  * Entering a file for an owner: reads it as x9_read does, with its row table, and enters each of its cash letters in a row of its own, numbered on from the
  * last number given to the owner. Returns the number and fills `answer` as x9_read does, with
  *   [12] the first entry number given, 0 where nothing was entered
  * Refused, book and table untouched: BOOK; NOENTRY; then x9_read's own answers, with record, field and offset; DUPLICATE, the file number stands in a row of
- * the owner already; FULL, more letters than free rows, or a running total or the last entry number of the owner would pass 64 bits. */
+ * the owner already; RANGE, the net position of the owner with all the file's letters would lie beyond 1,000,000,000,000,000,000 cents either side; FULL,
+ * more letters than free rows, or a running total or the last entry number of the owner would pass 64 bits. */
 uint64_t x9_book_enter(const uint8_t *file, size_t file_len, uint64_t file_number, uint64_t owner, uint64_t *table, size_t table_len, uint64_t *book,
                        size_t book_len, uint64_t answer[13]);
 
@@ -125,8 +127,10 @@ uint64_t x9_book_find(const uint64_t *book, size_t book_len, uint64_t owner, uin
 
 /* The running totals of an owner. Returns the number and fills `totals` with
  *   [0] the number   [1] its entries
- *   [2] bundles   [3] debit items   [4] credit items   [5] views   [6] debit cents   [7] credit cents */
-uint64_t x9_book_totals(const uint64_t *book, size_t book_len, uint64_t owner, uint64_t totals[8]);
+ *   [2] bundles   [3] debit items   [4] credit items   [5] views   [6] debit cents   [7] credit cents
+ *   [8] the net position, credit cents minus debit cents, as a signed number in two's complement: where it is 2^63 or more, it stands for itself minus 2^64.
+ *       In C, a number above INT64_MAX is -(int64_t)(UINT64_MAX - totals[8]) - 1, and any other one (int64_t)totals[8]; a memcpy into an int64_t does the same */
+uint64_t x9_book_totals(const uint64_t *book, size_t book_len, uint64_t owner, uint64_t totals[9]);
 
 #ifdef __cplusplus
 }

@@ -11,6 +11,7 @@ use Rattle.tiff.specs.declared.Tags.{Tags}
 use Rattle.passes.specs.Answers.{numberOf, numbersOf}
 use Rattle.draft.specs.declared.Outcome.{Outcome}
 use Rattle.draft.specs.declared.Outcome.the-variants.{Written, Refused}
+use Rattle.net.specs.Net.{bitsOf}
 use Rattle.book_table.specs.declared.Entering.{Entering}
 use Rattle.book_table.specs.declared.Finding.{Finding}
 use Rattle.book_table.specs.declared.Tally.{Tally}
@@ -66,11 +67,11 @@ abbrev pub findingNumbers : Finding → List ℕ
 findingNumbers (finding.Found e) = 0 ∷ e .number ∷ e .file ∷ figures.numbersOf (e .figures)
 findingNumbers (finding.Refused fault) = numberOf fault ∷ 0 ∷ 0 ∷ 0 ∷ 0 ∷ 0 ∷ 0 ∷ 0 ∷ 0 ∷ []
 
--- x9_book_totals: number, entries, and the running totals
+-- x9_book_totals: number, entries, the running totals, and the net position in two's complement
 abbrev pub tallyNumber : Tally → ℕ
-tallyNumber (tally.Totals n f) = 0
+tallyNumber (tally.Totals n f position) = 0
 tallyNumber (tally.Refused fault) = numberOf fault
 
 abbrev pub tallyNumbers : Tally → List ℕ
-tallyNumbers (tally.Totals n f) = 0 ∷ n ∷ figures.numbersOf f
-tallyNumbers (tally.Refused fault) = numberOf fault ∷ 0 ∷ 0 ∷ 0 ∷ 0 ∷ 0 ∷ 0 ∷ 0 ∷ []
+tallyNumbers (tally.Totals n f position) = 0 ∷ n ∷ figures.numbersOf f ++ (bitsOf position ∷ [])
+tallyNumbers (tally.Refused fault) = numberOf fault ∷ 0 ∷ 0 ∷ 0 ∷ 0 ∷ 0 ∷ 0 ∷ 0 ∷ 0 ∷ []

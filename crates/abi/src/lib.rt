@@ -273,13 +273,14 @@ pub extern "C" fn x9_book_find(book: &[u64], owner: u64, number: u64, found: &mu
     }
 }
 
-// An owner's running totals in a day book: the number, and in `totals` number, entries, and the six figures.
+// An owner's running totals in a day book: the number, and in `totals` number, entries, the six figures, and the net position in two's complement.
 #[no_mangle]
-pub extern "C" fn x9_book_totals(book: &[u64], owner: u64, totals: &mut [u64; 8]) -> u64
+pub extern "C" fn x9_book_totals(book: &[u64], owner: u64, totals: &mut [u64; 9]) -> u64
     ensures { λ r. ⌜ Tallying (now (book .entry)) owner r (now (totals .exit)) ⌝ }
 {
     match book::totals(book, owner) {
-        Tally::Totals(entries, figures) => {
+        Tally::Totals(entries, figures, position) => {
+            let net = net::bits_of(position);
             let sums = figures.sums;
             *totals = [
                 0,
@@ -290,12 +291,13 @@ pub extern "C" fn x9_book_totals(book: &[u64], owner: u64, totals: &mut [u64; 8]
                 sums.views.0,
                 sums.debit.0,
                 sums.credit.0,
+                net,
             ];
             0
         }
         Tally::Refused(fault) => {
             let refused = fault.number();
-            *totals = [refused, 0, 0, 0, 0, 0, 0, 0];
+            *totals = [refused, 0, 0, 0, 0, 0, 0, 0, 0];
             refused
         }
     }

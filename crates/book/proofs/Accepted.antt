@@ -9,18 +9,19 @@ use lib.ListN.{length, getD, set, drop}
 use lib.Seq.{sets, length-sets, getD-set-other}
 use borrow.Author.Tests.{leb-true, le-leb, lt-leb}
 use Rattle.passes.specs.declared.Fault.{Fault}
-use Rattle.passes.specs.declared.Fault.the-variants.{Room, Duplicate, Full, NoEntry, Book}
+use Rattle.passes.specs.declared.Fault.the-variants.{Room, Duplicate, Full, NoEntry, Range, Book}
 use Rattle.passes.specs.declared.Totals.{Totals}
 use Rattle.passes.specs.declared.Answer.the-variants.{Accepted}
 use Rattle.passes.specs.Reading.{surveyed, answerOf, tableOf}
 use Rattle.figures.specs.declared.Figures.{Figures}
-use Rattle.figures.specs.Figures.{figures, plus, allOf, fits, numbersOf, figuresAt}
+use Rattle.figures.specs.Figures.{figures, plus, allOf, fits, figuresAt}
 use Rattle.figures.proofs.Laws.{both}
+use Rattle.net.specs.Net.{within}
 use Rattle.letters.specs.Letters.{lettersOf}
 use Rattle.letters.proofs.Theorem.{AcceptedLetters}
 use Rattle.book_table.specs.declared.Entering.the-variants.{Entered, Refused}
-use Rattle.book_table.specs.PlainList.{totalsOf, isTaken, entriesOn, hasRoom, entering}
-use Rattle.book_table.specs.Table.{isOwner, blockOf, rowsClaimed, lastNumber, runningTotals, freeRows, rowsOf, entriesOf, ownOf, isBook, withEntries}
+use Rattle.book_table.specs.PlainList.{totalsOf, positionOf, isTaken, entriesOn, keepsRange, hasRoom, entering}
+use Rattle.book_table.specs.Table.{isOwner, blockOf, rowsClaimed, lastNumber, runningTotals, freeRows, rowsOf, entriesOf, ownOf, isBook, blockWith, withEntries}
 use Rattle.book.specs.Calls.{enterAnswer}
 use Rattle.book_table.proofs.Laws.{block-within, sound}
 use Rattle.passes.specs.declared.Answer.the-variants as answers
@@ -79,19 +80,28 @@ module _ (file table book : List ℕ) (m o : ℕ) (t : Totals) (b : isBook book 
     unfolding enterAnswer entering
     duplicate d = rw (b, w, accepted, d)
 
-    pub full : isTaken m (entriesOf o book) ≡ false → hasRoom (ownOf o book) (freeRows book) (lettersOf file) ≡ false
-        → Refused Full 0 0 ≡ enterAnswer file m o (length table) book
-    unfolding enterAnswer entering
-    full d r = rw (b, w, accepted, d, r)
+    module _ (d : isTaken m (entriesOf o book) ≡ false) where
+      pub beyond : keepsRange (ownOf o book) (lettersOf file) ≡ false → Refused Range 0 0 ≡ enterAnswer file m o (length table) book
+      unfolding enterAnswer entering
+      beyond k = rw (b, w, accepted, d, k)
 
-    pub enters : isTaken m (entriesOf o book) ≡ false → hasRoom (ownOf o book) (freeRows book) (lettersOf file) ≡ true
-        → Entered (lastNumber o book + 1) t ≡ enterAnswer file m o (length table) book
-    unfolding enterAnswer entering
-    enters d r = rw (b, w, accepted, d, r)
+      pub full : keepsRange (ownOf o book) (lettersOf file) ≡ true → hasRoom (ownOf o book) (freeRows book) (lettersOf file) ≡ false
+          → Refused Full 0 0 ≡ enterAnswer file m o (length table) book
+      unfolding enterAnswer entering
+      full k r = rw (b, w, accepted, d, k, r)
+
+      pub enters : keepsRange (ownOf o book) (lettersOf file) ≡ true → hasRoom (ownOf o book) (freeRows book) (lettersOf file) ≡ true
+          → Entered (lastNumber o book + 1) t ≡ enterAnswer file m o (length table) book
+      unfolding enterAnswer entering
+      enters k r = rw (b, w, accepted, d, k, r)
 
     pub filled : tableOf file table ≡ rows.rowsOf file ++ drop (length (rows.rowsOf file)) table
     unfolding tableOf
     filled = rw accepted
+
+  pub range-is : keepsRange (ownOf o book) (lettersOf file) ≡ within (positionOf (plus (runningTotals o book) (figures (t .bundles) (t .sums))))
+  unfolding keepsRange
+  range-is = rw (sym (sound book b .sums o w), a .sum)
 
   pub room-is : hasRoom (ownOf o book) (freeRows book) (lettersOf file)
       ≡ leb (t .letters) (freeRows book) && fits (plus (runningTotals o book) (figures (t .bundles) (t .sums)))
@@ -131,17 +141,23 @@ module _ (file book : List ℕ) (m o : ℕ) (t : Totals) (a : AcceptedLetters fi
   long-kept : length written ≡ length book
   long-kept = ap length w ∙ length-sets book (17 + 9 * rowsClaimed book) (rowsOf o (entriesOn (lastNumber o book) m (lettersOf file)))
 
-  pub raisable : HasRoom file book o t → length book < 0x1_0000_0000_0000_0000
+  pub raisable : HasRoom file book o t → within (positionOf (plus (runningTotals o book) (figures (t .bundles) (t .sums)))) ≡ true → length book < 0x1_0000_0000_0000_0000
       → (17 ≤ length written)
       × (rowsClaimed written + t .letters < 0x1_0000_0000_0000_0000)
       × (lastNumber o written + t .letters < 0x1_0000_0000_0000_0000)
       × (fits (plus (runningTotals o written) (figures (t .bundles) (t .sums))) ≡ true)
-  raisable h l =
-      (omega (arith, h .rows, long-kept), omega (arith, h .rows, claimed-kept), omega (arith, h .numbers, last-kept), rw sums-kept (h .sums))
+      × (within (positionOf (plus (runningTotals o written) (figures (t .bundles) (t .sums)))) ≡ true)
+  raisable h k l = (
+    omega (arith, h .rows, long-kept),
+    omega (arith, h .rows, claimed-kept),
+    omega (arith, h .numbers, last-kept),
+    rw sums-kept (h .sums),
+    ap (λ (f : Figures). within (positionOf (plus f (figures (t .bundles) (t .sums))))) sums-kept ∙ k,
+  )
 
   pub book-raised : (after : List ℕ)
       → after
-      ≡ sets (set written 0 (rowsClaimed written + t .letters)) (blockOf o) ((lastNumber o written + t .letters) ∷ numbersOf (plus (runningTotals o written) (figures (t .bundles) (t .sums))))
+      ≡ sets (set written 0 (rowsClaimed written + t .letters)) (blockOf o) (blockWith (lastNumber o written + t .letters) (plus (runningTotals o written) (figures (t .bundles) (t .sums))))
       → after ≡ withEntries o book (entriesOn (lastNumber o book) m (lettersOf file))
   unfolding withEntries
   book-raised after r =

@@ -92,6 +92,9 @@ fn enter_accepted(
         bundles: totals.bundles,
         sums,
     };
+    if !book_table::keeps_range(book, owner, added) {
+        return Entering::Refused(Fault::Range, 0, 0);
+    }
     if !book_table::has_room(book, owner, letters, added) {
         return Entering::Refused(Fault::Full, 0, 0);
     }
@@ -135,7 +138,7 @@ pub fn find(book: &[u64], owner: u64, number: u64) -> Finding
     book_table::first_numbered(book, owner, book_table::number_at(book, 0), number)
 }
 
-// How many entries an owner has, and its running totals, which stand in the head.
+// How many entries an owner has, and its running totals and net position, which stand in the head.
 pub fn totals(book: &[u64], owner: u64) -> Tally
     ensures { λ r. ⌜ r ≡ totalsAnswer (now (book .entry)) owner ⌝ }
 {
@@ -147,8 +150,8 @@ pub fn totals(book: &[u64], owner: u64) -> Tally
     }
     let claimed = book_table::number_at(book, 0);
     let entries = book_table::own_rows(book, owner, claimed);
-    Tally::Totals(
-        entries,
-        book_table::figures_at(book, book_table::block_of(owner) + 1),
-    )
+    let block = book_table::block_of(owner);
+    let figures = book_table::figures_at(book, block + 1);
+    let position = net::signed_of(book_table::number_at(book, block + 7));
+    Tally::Totals(entries, figures, position)
 }

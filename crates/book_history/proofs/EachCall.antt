@@ -9,23 +9,25 @@ use lib.Dec.{leb, eqb}
 use lib.ListN.{length}
 use borrow.Author.Tests.{leb-true, eq-eqb}
 use Rattle.frame.specs.Unless.{unless}
-use Rattle.passes.specs.declared.Fault.the-variants.{Duplicate, Full}
+use Rattle.passes.specs.declared.Fault.the-variants.{Duplicate, Full, Range}
 use Rattle.passes.specs.declared.Answer.{Answer}
 use Rattle.passes.specs.Reading.{answerOf}
 use Rattle.figures.specs.declared.Figures.{Figures}
 use Rattle.figures.specs.Figures.{plus, allOf, fits}
 use Rattle.figures.proofs.Laws.{both}
 use Rattle.letters.specs.Letters.{lettersOf}
+use Rattle.net.specs.Net.{within}
+use Rattle.book_table.specs.declared.Entry.{Entry}
 use Rattle.book_table.specs.declared.Entering.{Entering}
 use Rattle.book_table.specs.declared.Entering.the-variants.{Entered, Refused}
-use Rattle.book_table.specs.PlainList.{Own, totalsOf, isTaken, entriesOn, hasRoom, entering, newEntries}
+use Rattle.book_table.specs.PlainList.{Own, totalsOf, positionOf, isTaken, entriesOn, keepsRange, hasRoom, entering, newEntries}
 use Rattle.book_table.specs.Table.{isOwner, rowsClaimed, rowsThere, freeRows, ownOf, isBook, withEntries}
 use Rattle.book_table.proofs.Laws.{sound}
 use Rattle.book.specs.Calls.{enterAnswer, bookAfter, findAnswer, totalsAnswer}
 use Rattle.passes.specs.declared.Answer.the-variants as answers
 use Rattle.book_history.specs.Histories.{Call, enter, find, totals, reply, bookThen, enteringOn, ownReply, made, ownThen, noOwner}
 use Rattle.book_history.proofs.Grown.{Grown, none-new, fewer-free, still-book}
-use Rattle.book_history.proofs.MoreEntries.{nothing-more, grown}
+use Rattle.book_history.proofs.MoreEntries.{nothing-more, Inside, grown}
 
 -- a file that is entered makes no more entries than rows are free
 numbered : (last m : ℕ) (letters : List Figures) → length (entriesOn last m letters) ≡ length letters
@@ -44,13 +46,44 @@ new-free : (own : Own) (free m : ℕ) (letters : List Figures) (answer : Answer)
     → length (newEntries own m letters (entering own free m letters answer)) ≤ free
 unfolding entering
 new-free own free m letters (answers.Refused fault place offset) = omega arith
-new-free own free m letters (answers.Accepted t) = by-tests (isTaken m (own .entries)) (hasRoom own free letters) (room-free own free letters)
+new-free own free m letters (answers.Accepted t) =
+    by-tests (isTaken m (own .entries)) (keepsRange own letters) (hasRoom own free letters) (room-free own free letters)
   where
-    by-tests : (taken room : Bool) → (room ≡ true → length letters ≤ free)
-        → length (newEntries own m letters (unless (not taken) (Refused Duplicate 0 0) (unless room (Refused Full 0 0) (Entered (own .last + 1) t)))) ≤ free
-    by-tests true room h = omega arith
-    by-tests false true h = omega (arith, numbered (own .last) m letters, h refl)
-    by-tests false false h = omega arith
+    by-tests : (taken range room : Bool) → (room ≡ true → length letters ≤ free)
+        → length (newEntries own m letters (unless (not taken) (Refused Duplicate 0 0) (unless range (Refused Range 0 0) (unless room (Refused Full 0 0) (Entered (own .last + 1) t))))) ≤ free
+    by-tests true range room h = omega arith
+    by-tests false false room h = omega arith
+    by-tests false true true h = omega (arith, numbered (own .last) m letters, h refl)
+    by-tests false true false h = omega arith
+
+-- a file that is entered keeps the net position within its bound
+all-new : (last m : ℕ) (letters : List Figures) → totalsOf (entriesOn last m letters) ≡ allOf letters
+unfolding entriesOn totalsOf allOf
+all-new last m [] = refl
+all-new last m (f ∷ fs) = ap (plus f) (all-new (last + 1) m fs)
+
+abbrev Kept : Own → List Entry → Type 0
+Kept own es = 1 ≤ length es → within (positionOf (plus (totalsOf (own .entries)) (totalsOf es))) ≡ true
+
+new-kept : (own : Own) (free m : ℕ) (letters : List Figures) (answer : Answer) → Kept own (newEntries own m letters (entering own free m letters answer))
+unfolding entering keepsRange
+new-kept own free m letters (answers.Refused fault place offset) = λ some. absurd (omega arith)
+new-kept own free m letters (answers.Accepted t) =
+    by-tests (isTaken m (own .entries)) (keepsRange own letters) (hasRoom own free letters) refl
+  where
+    by-tests : (taken range room : Bool) → keepsRange own letters ≡ range
+        → Kept own (newEntries own m letters (unless (not taken) (Refused Duplicate 0 0) (unless range (Refused Range 0 0) (unless room (Refused Full 0 0) (Entered (own .last + 1) t)))))
+    by-tests true range room e some = absurd (omega arith)
+    by-tests false false room e some = absurd (omega arith)
+    by-tests false true false e some = absurd (omega arith)
+    by-tests false true true e some =
+        ap (λ (f : Figures). within (positionOf (plus (totalsOf (own .entries)) f))) (all-new (own .last) m letters) ∙ e
+
+made-kept : (own : Own) (free : ℕ) (c : Call) → Kept own (made own free c)
+unfolding made
+made-kept own free (enter file m table) = new-kept own free m (lettersOf file) (answerOf file (length table))
+made-kept own free (find n) = λ some. absurd (omega arith)
+made-kept own free totals = λ some. absurd (omega arith)
 
 made-free : (own : Own) (free : ℕ) (c : Call) → length (made own free c) ≤ free
 unfolding made
@@ -58,10 +91,10 @@ made-free own free (enter file m table) = new-free own free m (lettersOf file) (
 made-free own free (find n) = omega arith
 made-free own free totals = omega arith
 
-entered-with : (o : ℕ) (book file : List ℕ) (m : ℕ) (a : Entering)
+entered-with : (o : ℕ) (book file : List ℕ) (m : ℕ) (a : Entering) → isBook book ≡ true → isOwner o ≡ true
     → bookAfter file m o book a ≡ withEntries o book (newEntries (ownOf o book) m (lettersOf file) a)
-entered-with o book file m (Refused fault place offset) = sym (nothing-more o book)
-entered-with o book file m (Entered first t) = refl
+entered-with o book file m (Refused fault place offset) good who = sym (nothing-more o book good who)
+entered-with o book file m (Entered first t) good who = refl
 
 module _ (book : List ℕ) (good : isBook book ≡ true) (o : ℕ) where
   -- a call of no owner
@@ -89,15 +122,20 @@ module _ (book : List ℕ) (good : isBook book ≡ true) (o : ℕ) where
     with-made : (c : Call) → bookThen book o c ≡ withEntries o book (made (ownOf o book) (freeRows book) c)
     unfolding bookThen made enterAnswer
     with-made (enter file m table) =
-        rw (good, who) (entered-with o book file m (enteringOn (ownOf o book) (freeRows book) file m table))
-    with-made (find n) = sym (nothing-more o book)
-    with-made totals = sym (nothing-more o book)
+        rw (good, who) (entered-with o book file m (enteringOn (ownOf o book) (freeRows book) file m table) good who)
+    with-made (find n) = sym (nothing-more o book good who)
+    with-made totals = sym (nothing-more o book good who)
 
     room : (c : Call) → rowsClaimed book + length (made (ownOf o book) (freeRows book) c) ≤ rowsThere book
     room c = omega (arith, sound book good .claims, made-free (ownOf o book) (freeRows book) c)
 
     grows : (c : Call) → Grown o book (bookThen book o c) (made (ownOf o book) (freeRows book) c)
-    grows c = rw (with-made c) (grown o book (made (ownOf o book) (freeRows book) c) who (room c))
+    grows c = rw (with-made c) (grown o book (made (ownOf o book) (freeRows book) c) good who (room c) inside)
+      where
+        inside : Inside o book (made (ownOf o book) (freeRows book) c)
+        inside some =
+            ap (λ (f : Figures). within (positionOf (plus f (totalsOf (made (ownOf o book) (freeRows book) c))))) (sound book good .sums o who)
+            ∙ made-kept (ownOf o book) (freeRows book) c some
 
     pub own-call : (c : Call) → ownOf o (bookThen book o c) ≡ ownThen (ownOf o book) (freeRows book) c
     own-call c = grows c .shares o who .own ∙ rw (eq-eqb o o refl)

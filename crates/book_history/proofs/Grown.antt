@@ -9,11 +9,12 @@ use lib.Dec.{eqb}
 use lib.ListN.{length}
 use borrow.Author.Tests.{le-leb}
 use Rattle.figures.specs.declared.Figures.{Figures}
-use Rattle.figures.specs.Figures.{plus}
+use Rattle.figures.specs.Figures.{plus, same}
 use Rattle.figures.proofs.Laws.{same-refl, plus-none, none-plus, plus-apart}
+use Rattle.net.specs.Net.{isNet}
 use Rattle.book_table.specs.declared.Entry.{Entry}
-use Rattle.book_table.specs.PlainList.{Own, totalsOf, withNew}
-use Rattle.book_table.specs.Table.{isOwner, rowsClaimed, runningTotals, rowsThere, freeRows, entriesOf, ownOf, addsUp, isBook}
+use Rattle.book_table.specs.PlainList.{Own, totalsOf, positionOf, withNew}
+use Rattle.book_table.specs.Table.{isOwner, rowsClaimed, runningTotals, netNumber, rowsThere, freeRows, entriesOf, ownOf, addsUp, isBook}
 use Rattle.book_table.proofs.Laws.{Sound, sound}
 use Rattle.book_history.proofs.Rows.{shareOf}
 
@@ -27,19 +28,23 @@ pub none-new : (own : Own) → withNew own [] ≡ own
 none-new own = λ i. record { entries = append-nil (own .entries) i; last = add-zero (own .last) i }
 
 -- the converse of what a book promises
-adds-up : (o : ℕ) (book : List ℕ) → runningTotals o book ≡ totalsOf (entriesOf o book) → addsUp o book ≡ true
+adds-up : (o : ℕ) (book : List ℕ) → runningTotals o book ≡ totalsOf (entriesOf o book)
+    → isNet (netNumber o book) (positionOf (runningTotals o book)) ≡ true → addsUp o book ≡ true
 unfolding addsUp
-adds-up o book e = rw e (same-refl (totalsOf (entriesOf o book)))
+adds-up o book e net =
+    rw (ap (λ (f : Figures). same f (totalsOf (entriesOf o book))) e ∙ same-refl (totalsOf (entriesOf o book)))
+    (ap (λ (f : Figures). isNet (netNumber o book) (positionOf f)) (sym e) ∙ net)
 
 pub sound-is : (book : List ℕ) → Sound book → isBook book ≡ true
 unfolding isBook isOwner
 sound-is book s =
-    rw (le-leb (rowsClaimed book) (rowsThere book) (s .claims), adds-up 1 book (s .sums 1 refl), adds-up 2 book (s .sums 2 refl))
+    rw (le-leb (rowsClaimed book) (rowsThere book) (s .claims), adds-up 1 book (s .sums 1 refl) (s .nets 1 refl), adds-up 2 book (s .sums 2 refl) (s .nets 2 refl))
 
 -- an owner's part of the table, longer by some entries
 pub record Longer (p : ℕ) (book after : List ℕ) (es : List Entry) : Type 0 where
   pub own : ownOf p after ≡ withNew (ownOf p book) es
   pub totals : runningTotals p after ≡ plus (runningTotals p book) (totalsOf es)
+  pub net : isNet (netNumber p after) (positionOf (runningTotals p after)) ≡ true
 
 -- the table, longer by some entries of one owner: each owner has its share of them
 pub record Grown (o : ℕ) (book after : List ℕ) (es : List Entry) : Type 0 where
@@ -47,13 +52,17 @@ pub record Grown (o : ℕ) (book after : List ℕ) (es : List Entry) : Type 0 wh
   pub claimed : rowsClaimed after ≡ rowsClaimed book + length es
   pub shares : (p : ℕ) → isOwner p ≡ true → Longer p book after (shareOf p o es)
 
-pub not-grown : (o : ℕ) (book : List ℕ) → Grown o book book []
+pub not-grown : (o : ℕ) (book : List ℕ) → isBook book ≡ true → Grown o book book []
 unfolding totalsOf
-not-grown o book = record { long = refl; claimed = sym (add-zero (rowsClaimed book)); shares = λ p who. by-owner p (eqb o p) }
+not-grown o book good = record { long = refl; claimed = sym (add-zero (rowsClaimed book)); shares = λ p who. by-owner p who (eqb o p) }
   where
-    by-owner : (p : ℕ) (t : Bool) → Longer p book book (cond t [] [])
-    by-owner p true = record { own = sym (none-new (ownOf p book)); totals = sym (plus-none (runningTotals p book)) }
-    by-owner p false = record { own = sym (none-new (ownOf p book)); totals = sym (plus-none (runningTotals p book)) }
+    as-it-was : (p : ℕ) → isOwner p ≡ true → Longer p book book []
+    as-it-was p who =
+        record { own = sym (none-new (ownOf p book)); totals = sym (plus-none (runningTotals p book)); net = sound book good .nets p who }
+
+    by-owner : (p : ℕ) → isOwner p ≡ true → (t : Bool) → Longer p book book (cond t [] [])
+    by-owner p who true = as-it-was p who
+    by-owner p who false = as-it-was p who
 
 module _ (o : ℕ) (book after : List ℕ) (es : List Entry) (g : Grown o book after es) where
   as-there : rowsThere after ≡ rowsThere book
@@ -63,7 +72,7 @@ module _ (o : ℕ) (book after : List ℕ) (es : List Entry) (g : Grown o book a
   fewer-free = omega (arith, as-there, g .claimed)
 
   pub still-book : isBook book ≡ true → rowsClaimed book + length es ≤ rowsThere book → isBook after ≡ true
-  still-book good room = sound-is after (record { claims = omega (arith, as-there, g .claimed); sums = summed })
+  still-book good room = sound-is after (record { claims = omega (arith, as-there, g .claimed); sums = summed; nets = λ p who. g .shares p who .net })
     where
       summed : (p : ℕ) → isOwner p ≡ true → runningTotals p after ≡ totalsOf (entriesOf p after)
       summed p who =

@@ -12,30 +12,34 @@ use lib.Seq.{sets, length-sets, set-getD, getD-set-same, getD-set-other}
 use borrow.Author.Tests.{eqb-true}
 use Rattle.figures.specs.Figures.{plus, numbersOf, figuresAt}
 use Rattle.figures.proofs.Laws.{plus-none}
+use Rattle.net.specs.Net.{bitsOf, isNet, within}
+use Rattle.net.proofs.Laws.{net-bits, net-is}
 use Rattle.book_table.specs.declared.Entry.{Entry}
-use Rattle.book_table.specs.PlainList.{totalsOf}
-use Rattle.book_table.specs.Table.{isOwner, blockOf, rowsClaimed, lastNumber, runningTotals, rowsThere, rowsOf, entriesFrom, entriesOf, withEntries}
-use Rattle.book_table.proofs.Laws.{block-within, of-either}
-use Rattle.book_history.proofs.Stores.{stored-before, stored-behind, stored-first, stored-apart}
+use Rattle.book_table.specs.PlainList.{totalsOf, positionOf}
+use Rattle.book_table.specs.Table.{isOwner, blockOf, rowsClaimed, lastNumber, runningTotals, netNumber, rowsThere, rowsOf, entriesFrom, entriesOf, isBook, blockWith, withEntries}
+use Rattle.book_table.proofs.Laws.{block-within, of-either, sound}
+use Rattle.book_history.proofs.Stores.{stored-before, stored-behind, stored-first, stored-in, stored-apart}
 use Rattle.book_history.proofs.Rows.{Alike, figures-alike, entries-alike, entries-apart, entries-back, figures-back, shareOf}
 use Rattle.book_history.proofs.Grown.{Grown, not-grown}
 
 -- nothing more: the head is written as it stands, however short the table
-block-kept : (book : List ℕ) (at : ℕ) → sets book at (getD book at 0 ∷ numbersOf (figuresAt book (at + 1))) ≡ book
+block-kept : (book : List ℕ) (at : ℕ) → sets book at (getD book at 0 ∷ numbersOf (figuresAt book (at + 1)) ++ (getD book (at + 7) 0 ∷ [])) ≡ book
 unfolding figuresAt
 block-kept book at = simp (towards-suc, set-getD)
 
-pub nothing-more : (o : ℕ) (book : List ℕ) → withEntries o book [] ≡ book
+pub nothing-more : (o : ℕ) (book : List ℕ) → isBook book ≡ true → isOwner o ≡ true → withEntries o book [] ≡ book
 unfolding withEntries rowsOf totalsOf
-nothing-more o book =
-    (λ i. sets (set book 0 (add-zero (rowsClaimed book) i)) (blockOf o) (add-zero (lastNumber o book) i ∷ numbersOf (plus-none (runningTotals o book) i)))
-    ∙ ap (λ (l : List ℕ). sets l (blockOf o) (lastNumber o book ∷ numbersOf (runningTotals o book))) (set-getD book 0 0)
+nothing-more o book good who =
+    (λ i. sets (set book 0 (add-zero (rowsClaimed book) i)) (blockOf o) (blockWith (add-zero (lastNumber o book) i) (plus-none (runningTotals o book) i)))
+    ∙ ap (λ (l : List ℕ). sets l (blockOf o) (blockWith (lastNumber o book) (runningTotals o book))) (set-getD book 0 0)
+    ∙ ap (λ (n : ℕ). sets book (blockOf o) (lastNumber o book ∷ numbersOf (runningTotals o book) ++ (n ∷ [])))
+    (sym (net-bits (netNumber o book) (positionOf (runningTotals o book)) (sound book good .nets o who)))
     ∙ block-kept book (blockOf o)
 
--- seven numbers written into an owner's block are not in the other's
-module _ (vs l : List ℕ) (seven : length vs ≡ 7) where
+-- eight numbers written into an owner's block are not in the other's
+module _ (vs l : List ℕ) (eight : length vs ≡ 8) where
   abbrev Apart : ℕ → ℕ → Type 0
-  Apart o p = eqb o p ≡ false → Alike (sets l (blockOf o) vs) l (blockOf p) (blockOf p + 7)
+  Apart o p = eqb o p ≡ false → Alike (sets l (blockOf o) vs) l (blockOf p) (blockOf p + 8)
 
   blocks-apart : (o p : ℕ) → isOwner o ≡ true → isOwner p ≡ true → Apart o p
   unfolding blockOf
@@ -54,7 +58,7 @@ module _ (o : ℕ) (book : List ℕ) (es : List Entry) where
   counted = set written 0 (rowsClaimed book + length es)
 
   block : List ℕ
-  block = (lastNumber o book + length es) ∷ numbersOf (plus (runningTotals o book) (totalsOf es))
+  block = blockWith (lastNumber o book + length es) (plus (runningTotals o book) (totalsOf es))
 
   after : List ℕ
   after = sets counted (blockOf o) block
@@ -80,7 +84,8 @@ module _ (o : ℕ) (book : List ℕ) (es : List Entry) where
       stored-behind block counted (blockOf o) k (omega (arith, block-within o))
       ∙ getD-set-other written 0 k (rowsClaimed book + length es) 0 (λ e. omega arith)
 
-  module _ (who : isOwner o ≡ true) (room : rowsClaimed book + length es ≤ rowsThere book) (some : 1 ≤ length es) where
+  module _ (good : isBook book ≡ true) (who : isOwner o ≡ true) (room : rowsClaimed book + length es ≤ rowsThere book)
+      (inside : within (positionOf (plus (runningTotals o book) (totalsOf es))) ≡ true) (some : 1 ≤ length es) where
     rows-end : 17 + 9 * rowsClaimed book + 9 * length es ≤ length book
     rows-end = omega arith
 
@@ -91,22 +96,33 @@ module _ (o : ℕ) (book : List ℕ) (es : List Entry) where
         ∙ getD-set-same written 0 (rowsClaimed book + length es) 0 (omega (arith, rows-end, length-sets book (17 + 9 * rowsClaimed book) (rowsOf o es)))
 
     -- the owner's own block, and the other's
-    block-fits : blockOf o + 7 ≤ length counted
+    block-fits : blockOf o + 8 ≤ length counted
     block-fits = omega (arith, block-within o, rows-end, counted-long)
 
     own-last : lastNumber o after ≡ lastNumber o book + length es
     unfolding after block
-    own-last = stored-first (lastNumber o book + length es) (numbersOf (plus (runningTotals o book) (totalsOf es))) counted (blockOf o) block-fits
+    own-last =
+        let totals = plus (runningTotals o book) (totalsOf es) in
+        stored-first (lastNumber o book + length es) (numbersOf totals ++ (bitsOf (positionOf totals) ∷ [])) counted (blockOf o) block-fits
 
     own-totals : runningTotals o after ≡ plus (runningTotals o book) (totalsOf es)
     unfolding after block
     own-totals =
+        let totals = plus (runningTotals o book) (totalsOf es) in
+        let first = (lastNumber o book + length es) ∷ [] in
+        let started = sets counted (blockOf o) first in
         ap (λ (t : List ℕ). figuresAt t (blockOf o + 1))
-        (stored-apart ((lastNumber o book + length es) ∷ []) (numbersOf (plus (runningTotals o book) (totalsOf es))) counted (blockOf o))
-        ∙ figures-back (sets counted (blockOf o) ((lastNumber o book + length es) ∷ [])) (blockOf o + 1) (plus (runningTotals o book) (totalsOf es))
-        (omega (arith, length-sets counted (blockOf o) ((lastNumber o book + length es) ∷ []), block-fits))
+        (stored-apart first (numbersOf totals ++ (bitsOf (positionOf totals) ∷ [])) counted (blockOf o)
+        ∙ stored-apart (numbersOf totals) (bitsOf (positionOf totals) ∷ []) started (blockOf o + 1))
+        ∙ figures-alike (sets (sets started (blockOf o + 1) (numbersOf totals)) (blockOf o + 1 + 6) (bitsOf (positionOf totals) ∷ [])) (sets started (blockOf o + 1) (numbersOf totals)) (blockOf o + 1)
+        (λ k a b. stored-before (bitsOf (positionOf totals) ∷ []) (sets started (blockOf o + 1) (numbersOf totals)) (blockOf o + 1 + 6) k b)
+        ∙ figures-back started (blockOf o + 1) totals (omega (arith, length-sets counted (blockOf o) first, block-fits))
 
-    other-block : (p : ℕ) → isOwner p ≡ true → eqb o p ≡ false → Alike after book (blockOf p) (blockOf p + 7)
+    own-net : netNumber o after ≡ bitsOf (positionOf (plus (runningTotals o book) (totalsOf es)))
+    unfolding after block
+    own-net = stored-in (blockWith (lastNumber o book + length es) (plus (runningTotals o book) (totalsOf es))) counted (blockOf o) 7 block-fits (omega arith)
+
+    other-block : (p : ℕ) → isOwner p ≡ true → eqb o p ≡ false → Alike after book (blockOf p) (blockOf p + 8)
     unfolding after block
     other-block p other e k a b =
         blocks-apart block counted refl o p who other e k a b ∙ head-kept k (omega (arith, block-within p)) (omega (arith, block-within p))
@@ -123,6 +139,14 @@ module _ (o : ℕ) (book : List ℕ) (es : List Entry) where
     totals-of p other false e =
         figures-alike after book (blockOf p + 1) (λ k a b. other-block p other e k (omega arith) (omega arith))
         ∙ sym (plus-none (runningTotals p book))
+
+    net-of : (p : ℕ) → isOwner p ≡ true → (t : Bool) → eqb o p ≡ t → isNet (netNumber p after) (positionOf (runningTotals p after)) ≡ true
+    net-of p other true e =
+        subst (λ (q : ℕ). isNet (netNumber q after) (positionOf (runningTotals q after)) ≡ true) (eqb-true o p e)
+        ((λ i. isNet (own-net i) (positionOf (own-totals i))) ∙ net-is (positionOf (plus (runningTotals o book) (totalsOf es))) inside)
+    net-of p other false e =
+        (λ i. isNet (other-block p other e (blockOf p + 7) (omega arith) (omega arith) i) (positionOf (figures-alike after book (blockOf p + 1) (λ k a b. other-block p other e k (omega arith) (omega arith)) i)))
+        ∙ sound book good .nets p other
 
     entries-of : (p : ℕ) → entriesOf p after ≡ entriesOf p book ++ shareOf p o es
     unfolding entriesOf written
@@ -148,10 +172,15 @@ module _ (o : ℕ) (book : List ℕ) (es : List Entry) where
           shares = λ p other. record {
             own = λ i. record { entries = entries-of p i; last = last-of p other (eqb o p) refl i };
             totals = totals-of p other (eqb o p) refl;
+            net = net-of p other (eqb o p) refl;
           };
         }
 
-pub grown : (o : ℕ) (book : List ℕ) (es : List Entry) → isOwner o ≡ true → rowsClaimed book + length es ≤ rowsThere book
-    → Grown o book (withEntries o book es) es
-grown o book [] who h = rw (nothing-more o book) (not-grown o book)
-grown o book (e ∷ es) who h = some-more o book (e ∷ es) who h (omega arith)
+-- some entries keep the net position within its bound, and none leave it as it is
+abbrev pub Inside : ℕ → List ℕ → List Entry → Type 0
+Inside o book es = 1 ≤ length es → within (positionOf (plus (runningTotals o book) (totalsOf es))) ≡ true
+
+pub grown : (o : ℕ) (book : List ℕ) (es : List Entry) → isBook book ≡ true → isOwner o ≡ true → rowsClaimed book + length es ≤ rowsThere book
+    → Inside o book es → Grown o book (withEntries o book es) es
+grown o book [] good who h inside = rw (nothing-more o book good who) (not-grown o book good)
+grown o book (e ∷ es) good who h inside = some-more o book (e ∷ es) good who h (inside (omega arith)) (omega arith)

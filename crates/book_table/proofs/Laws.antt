@@ -11,11 +11,12 @@ use borrow.Author.Tests.{leb-true, eqb-true, eq-eqb, ne-eqb}
 use Rattle.figures.specs.declared.Figures.{Figures}
 use Rattle.figures.specs.Figures.{noFigures, plus, minus, same, covers, figuresAt}
 use Rattle.figures.proofs.Laws.{both, same-true, same-step, none-plus}
+use Rattle.net.specs.Net.{isNet}
 use Rattle.passes.specs.declared.Fault.the-variants.{NoEntry}
 use Rattle.book_table.specs.declared.Entry.{Entry}
 use Rattle.book_table.specs.declared.Finding.the-variants.{Found, Refused}
-use Rattle.book_table.specs.PlainList.{totalsOf, isTaken, finding}
-use Rattle.book_table.specs.Table.{isOwner, blockOf, rowsClaimed, runningTotals, rowsThere, entryAt, ownFiguresAt, entriesFrom, entriesOf, addsUp, isBook}
+use Rattle.book_table.specs.PlainList.{totalsOf, positionOf, isTaken, finding}
+use Rattle.book_table.specs.Table.{isOwner, blockOf, rowsClaimed, runningTotals, netNumber, rowsThere, entryAt, ownFiguresAt, entriesFrom, entriesOf, addsUp, isBook}
 
 -- where a walk over the rows claimed stands with so many still to come; the next of them lies within the table
 abbrev pub Walk : ℕ → ℕ → ℕ → Type 0
@@ -157,21 +158,39 @@ of-either P one two o e = by-first (eqb o 1) refl
     by-first true q = subst P (sym (eqb-true o 1 q)) one
     by-first false q = by-second (eqb o 2) refl (sym (rw q refl) ∙ e)
 
+-- the net position may be judged by the running totals, which are the sums wherever it is asked for
+pub net-of-sums : (n : ℕ) (a b : Figures) → same a b && isNet n (positionOf a) ≡ same a b && isNet n (positionOf b)
+net-of-sums n a b = by-test (same a b) refl
+  where
+    by-test : (t : Bool) → same a b ≡ t → t && isNet n (positionOf a) ≡ t && isNet n (positionOf b)
+    by-test true e = ap (λ (f : Figures). isNet n (positionOf f)) (same-true a b e)
+    by-test false e = refl
+
 -- what a book that is one promises
 pub record Sound (book : List ℕ) : Type 0 where
   pub claims : rowsClaimed book ≤ rowsThere book
   pub sums : (o : ℕ) → isOwner o ≡ true → runningTotals o book ≡ totalsOf (entriesOf o book)
+  pub nets : (o : ℕ) → isOwner o ≡ true → isNet (netNumber o book) (positionOf (runningTotals o book)) ≡ true
 
-pub added-up : (o : ℕ) (book : List ℕ) → addsUp o book ≡ true → runningTotals o book ≡ totalsOf (entriesOf o book)
+pub record AddedUp (o : ℕ) (book : List ℕ) : Type 0 where
+  pub sums : runningTotals o book ≡ totalsOf (entriesOf o book)
+  pub net : isNet (netNumber o book) (positionOf (runningTotals o book)) ≡ true
+
+pub added-up : (o : ℕ) (book : List ℕ) → addsUp o book ≡ true → AddedUp o book
 unfolding addsUp
-added-up o book e = same-true (runningTotals o book) (totalsOf (entriesOf o book)) e
+added-up o book e =
+    let u = both (same (runningTotals o book) (totalsOf (entriesOf o book))) (isNet (netNumber o book) (positionOf (totalsOf (entriesOf o book)))) e in
+    let sums = same-true (runningTotals o book) (totalsOf (entriesOf o book)) (u .0) in
+    record { sums = sums; net = ap (λ (f : Figures). isNet (netNumber o book) (positionOf f)) sums ∙ u .1 }
 
 pub sound : (book : List ℕ) → isBook book ≡ true → Sound book
 unfolding isBook
 sound book e =
     let u = both _ (addsUp 2 book) e in
     let v = both (leb (rowsClaimed book) (rowsThere book)) (addsUp 1 book) (u .0) in
+    let each = of-either (λ (o : ℕ). AddedUp o book) (added-up 1 book (v .1)) (added-up 2 book (u .1)) in
     record {
       claims = leb-true (rowsClaimed book) (rowsThere book) (v .0);
-      sums = of-either (λ (o : ℕ). runningTotals o book ≡ totalsOf (entriesOf o book)) (added-up 1 book (v .1)) (added-up 2 book (u .1));
+      sums = λ o w. each o w .sums;
+      nets = λ o w. each o w .net;
     }

@@ -1,13 +1,15 @@
--- The day book as a plain list of entries for each owner (requests 6 and 8), and what each call answers on the owner's own list.
+-- The day book as a plain list of entries for each owner (requests 6, 8 and 9), and what each call answers on the owner's own list.
 use Prim.Native.Nat.{ℕ, _+_}
 use mathlib.Core.Bool.{Bool, true, false, _&&_, _||_, not, cond}
 use mathlib.Core.List.{List, [], _∷_, _++_}
 use lib.Dec.{leb, eqb}
+use lib.IntN.{ℤ}
 use lib.ListN.{length}
 use Rattle.frame.specs.Unless.{unless}
 use Rattle.figures.specs.declared.Figures.{Figures}
 use Rattle.figures.specs.Figures.{noFigures, plus, allOf, fits}
-use Rattle.passes.specs.declared.Fault.the-variants.{Duplicate, Full, NoEntry}
+use Rattle.net.specs.Net.{netOf, within}
+use Rattle.passes.specs.declared.Fault.the-variants.{Duplicate, Full, NoEntry, Range}
 use Rattle.passes.specs.declared.Answer.{Answer}
 use Rattle.book_table.specs.declared.Entry.{Entry}
 use Rattle.book_table.specs.declared.Entering.{Entering}
@@ -32,6 +34,10 @@ unfoldable pub totalsOf : List Entry → Figures
 totalsOf [] = noFigures
 totalsOf (e ∷ es) = plus (e .figures) (totalsOf es)
 
+-- the net position: "the credit cents minus debit cents, below zero when debits exceed" (request 9)
+abbrev pub positionOf : Figures → ℤ
+positionOf f = netOf (f .sums .credit .0) (f .sums .debit .0)
+
 -- "DUPLICATE (12) for a file number already entered"
 unfoldable pub isTaken : ℕ → List Entry → Bool
 isTaken m [] = false
@@ -42,18 +48,22 @@ unfoldable pub entriesOn : ℕ → ℕ → List Figures → List Entry
 entriesOn last m [] = []
 entriesOn last m (f ∷ fs) = entry (last + 1) m f ∷ entriesOn (last + 1) m fs
 
+-- "A file whose letters together would carry it beyond 10^18 cents either side is refused": RANGE (16)
+unfoldable pub keepsRange : Own → List Figures → Bool
+keepsRange own letters = within (positionOf (plus (totalsOf (own .entries)) (allOf letters)))
+
 -- "FULL (13) for more letters than free rows, or a running total or entry number beyond 64 bits"
 unfoldable pub hasRoom : Own → ℕ → List Figures → Bool
 hasRoom own free letters =
     leb (length letters) free && fits (plus (totalsOf (own .entries)) (allOf letters)) && leb (own .last + length letters) 0xFFFF_FFFF_FFFF_FFFF
 
--- Entering a file where so many rows are free, by the reader's answer to it and its letters' figures: the reader's own refusals, DUPLICATE, FULL; else the
--- first number given and the totals of the file.
+-- Entering a file where so many rows are free, by the reader's answer to it and its letters' figures: the reader's own refusals, DUPLICATE, RANGE, FULL; else
+-- the first number given and the totals of the file.
 unfoldable pub entering : Own → ℕ → ℕ → List Figures → Answer → Entering
 entering own free m letters (answers.Refused fault place offset) = Refused fault place offset
 entering own free m letters (answers.Accepted t) =
     unless (not (isTaken m (own .entries))) (Refused Duplicate 0 0)
-    (unless (hasRoom own free letters) (Refused Full 0 0) (Entered (own .last + 1) t))
+    (unless (keepsRange own letters) (Refused Range 0 0) (unless (hasRoom own free letters) (Refused Full 0 0) (Entered (own .last + 1) t)))
 
 -- the entries it makes, and the owner's list with them: entries once made stand as they were
 abbrev pub newEntries : Own → ℕ → List Figures → Entering → List Entry
@@ -68,6 +78,6 @@ unfoldable pub finding : List Entry → ℕ → Finding
 finding [] n = findings.Refused NoEntry
 finding (e ∷ es) n = cond (eqb (e .number) n) (findings.Found e) (finding es n)
 
--- how many entries there are, and the running totals
+-- how many entries there are, the running totals and the net position
 abbrev pub tally : List Entry → Tally
-tally es = tallies.Totals (length es) (totalsOf es)
+tally es = tallies.Totals (length es) (totalsOf es) (positionOf (totalsOf es))

@@ -1,4 +1,4 @@
--- A book in a lent table (points 34, 35 and 39): a head of 17 numbers and then rows of 9. "A table of zeros is an empty book. Numbers of the head that a
+-- A book in a lent table (points 34, 35, 39 and 40): a head of 17 numbers and then rows of 9. "A table of zeros is an empty book. Numbers of the head that a
 -- short table lacks count as 0, and such a table has no rows."
 use Prim.Native.Nat.{ℕ, zero, suc, _+_, _-_, _*_, _/_}
 use mathlib.Core.Bool.{Bool, _&&_, _||_, cond}
@@ -8,15 +8,16 @@ use lib.ListN.{length, getD, set}
 use lib.Seq.{sets}
 use Rattle.figures.specs.declared.Figures.{Figures}
 use Rattle.figures.specs.Figures.{noFigures, plus, same, numbersOf, figuresAt}
+use Rattle.net.specs.Net.{bitsOf, isNet}
 use Rattle.book_table.specs.declared.Entry.{Entry}
-use Rattle.book_table.specs.PlainList.{Own, entry, totalsOf}
+use Rattle.book_table.specs.PlainList.{Own, entry, totalsOf, positionOf}
 
 -- "Each entry has an owner, 1 or 2" (request 8)
 unfoldable pub isOwner : ℕ → Bool
 isOwner o = eqb o 1 || eqb o 2
 
 -- the head: [0] the rows claimed; then eight numbers for each owner, from [1] and from [9] on: the last entry number given, the six running totals, and
--- one that is not looked at
+-- the net position in two's complement
 abbrev pub rowsClaimed : List ℕ → ℕ
 rowsClaimed book = getD book 0 0
 
@@ -28,6 +29,9 @@ lastNumber o book = getD book (blockOf o) 0
 
 abbrev pub runningTotals : ℕ → List ℕ → Figures
 runningTotals o book = figuresAt book (blockOf o + 1)
+
+abbrev pub netNumber : ℕ → List ℕ → ℕ
+netNumber o book = getD book (blockOf o + 7) 0
 
 -- how many whole rows stand behind the head, and how many of them are free
 abbrev pub rowsThere : List ℕ → ℕ
@@ -65,16 +69,20 @@ abbrev pub ownOf : ℕ → List ℕ → Own
 ownOf o book = record { entries = entriesOf o book; last = lastNumber o book }
 
 -- "BOOK (20) .. exactly when the lent table claims more rows than it has or its running totals are not the sums of its rows": "each owner's running totals
--- are the sums of its own rows"
+-- are the sums of its own rows"; "BOOK judges" the net position "as a running total"
 unfoldable pub addsUp : ℕ → List ℕ → Bool
-addsUp o book = same (runningTotals o book) (totalsOf (entriesOf o book))
+addsUp o book =
+    same (runningTotals o book) (totalsOf (entriesOf o book)) && isNet (netNumber o book) (positionOf (totalsOf (entriesOf o book)))
 
 unfoldable pub isBook : List ℕ → Bool
 isBook book = leb (rowsClaimed book) (rowsThere book) && addsUp 1 book && addsUp 2 book
 
--- The table with more entries of an owner: their rows behind those claimed, and in the head the rows claimed, the owner's last number and running totals;
--- all else as it was.
+-- an owner's block of the head
+abbrev pub blockWith : ℕ → Figures → List ℕ
+blockWith last totals = last ∷ numbersOf totals ++ (bitsOf (positionOf totals) ∷ [])
+
+-- The table with more entries of an owner: their rows behind those claimed, and in the head the rows claimed and the owner's block; all else as it was.
 unfoldable pub withEntries : ℕ → List ℕ → List Entry → List ℕ
 withEntries o book es =
     sets (set (sets book (17 + 9 * rowsClaimed book) (rowsOf o es)) 0 (rowsClaimed book + length es)) (blockOf o)
-    ((lastNumber o book + length es) ∷ numbersOf (plus (runningTotals o book) (totalsOf es)))
+    (blockWith (lastNumber o book + length es) (plus (runningTotals o book) (totalsOf es)))

@@ -14,8 +14,9 @@ ghost use lib.Dec.{leb};
 ghost use lib.ListN.{length, getD, set};
 ghost use lib.Seq.{sets};
 ghost use Rattle.figures.specs.Figures.{numbersOf, figuresAt, plus, same, fits};
-ghost use Rattle.book_table.specs.PlainList.{isTaken, totalsOf, finding};
-ghost use Rattle.book_table.specs.Table.{isOwner, blockOf, rowsClaimed, rowsThere, freeRows, lastNumber, runningTotals, entryAt, ownFiguresAt, rowOf, entriesFrom, isBook};
+ghost use Rattle.net.specs.Net.{isNet, within};
+ghost use Rattle.book_table.specs.PlainList.{isTaken, totalsOf, positionOf, finding};
+ghost use Rattle.book_table.specs.Table.{isOwner, blockOf, rowsClaimed, rowsThere, freeRows, lastNumber, runningTotals, netNumber, addsUp, blockWith, entryAt, ownFiguresAt, rowOf, entriesFrom, isBook};
 
 // One cash letter as it was entered: its entry number, the caller's number for its file, its own figures.
 pub struct Entry {
@@ -35,9 +36,9 @@ pub enum Finding {
     Refused(Fault),
 }
 
-// How many entries there are, and the running totals.
+// How many entries there are, the running totals and the net position.
 pub enum Tally {
-    Totals(u64, Figures),
+    Totals(u64, Figures, i64),
     Refused(Fault),
 }
 
@@ -147,6 +148,23 @@ fn are_sums(book: &[u64], owner: u64, claimed: u64) -> bool
     left.are_none()
 }
 
+// Whether the number kept for an owner's net position is that of its running totals.
+fn keeps_net(book: &[u64], owner: u64) -> bool
+    ensures { λ r. ⌜ r ≡ isNet (netNumber owner (now (book .entry))) (positionOf (runningTotals owner (now (book .entry)))) ⌝ }
+{
+    let block = block_of(owner);
+    let sums = figures_at(book, block + 1).sums;
+    net::is_net(number_at(book, block + 7), sums.credit.0, sums.debit.0)
+}
+
+// Whether all that is kept of an owner in the head is what its rows among so many come to.
+fn adds_up(book: &[u64], owner: u64, claimed: u64) -> bool
+    requires { ⌜ (claimed ≡ rowsClaimed (now book)) × (claimed ≤ rowsThere (now book)) ⌝ }
+    ensures { λ r. ⌜ r ≡ addsUp owner (now (book .entry)) ⌝ }
+{
+    are_sums(book, owner, claimed) & keeps_net(book, owner)
+}
+
 pub fn is_book(book: &[u64]) -> bool
     ensures { λ r. ⌜ r ≡ isBook (now (book .entry)) ⌝ }
 {
@@ -154,7 +172,7 @@ pub fn is_book(book: &[u64]) -> bool
     if rows_there(book) < claimed {
         return false;
     }
-    are_sums(book, 1, claimed) & are_sums(book, 2, claimed)
+    adds_up(book, 1, claimed) & adds_up(book, 2, claimed)
 }
 
 // Whether a file number stands in one of an owner's rows among so many.
@@ -248,15 +266,36 @@ pub fn has_room(book: &[u64], owner: u64, letters: u64, added: Figures) -> bool
         & (letters <= 0xFFFF_FFFF_FFFF_FFFF - number_at(book, block))
 }
 
+// Whether an owner's net position stays within its bound with so much more.
+pub fn keeps_range(book: &[u64], owner: u64, added: Figures) -> bool
+    requires { ⌜ isNet (netNumber owner (now book)) (positionOf (runningTotals owner (now book))) ≡ true ⌝ }
+    ensures { λ r. ⌜ r ≡ within (positionOf (plus (runningTotals owner (now (book .entry))) added)) ⌝ }
+{
+    let position = net::signed_of(number_at(book, block_of(owner) + 7));
+    let sums = added.sums;
+    net::stays_within(position, sums.credit.0, sums.debit.0)
+}
+
+// An owner's block of the head: the last number, the running totals and the net position of these, which is within its bound.
+fn put_block(book: &mut [u64], at: usize, last: u64, totals: Figures)
+    requires { ⌜ (at + 8 ≤ length (now book)) × (within (positionOf totals) ≡ true) ⌝ }
+    ensures { λ _. ⌜ now (book .exit) ≡ sets (now (book .entry)) at (blockWith last totals) ⌝ }
+{
+    let sums = totals.sums;
+    let position = net::net_of(sums.credit.0, sums.debit.0);
+    book[at] = last;
+    put_figures(book, at + 1, totals);
+    book[at + 7] = net::bits_of(position);
+}
+
 // The head with so many rows more, and of an owner so many numbers more and the running totals raised where they stand.
 pub fn raise_head(book: &mut [u64], owner: u64, letters: u64, added: Figures)
-    requires { ⌜ (17 ≤ length (now book)) × (rowsClaimed (now book) + letters < 0x1_0000_0000_0000_0000) × (lastNumber owner (now book) + letters < 0x1_0000_0000_0000_0000) × (fits (plus (runningTotals owner (now book)) added) ≡ true) ⌝ }
-    ensures { λ _. ⌜ now (book .exit) ≡ sets (set (now (book .entry)) 0 (rowsClaimed (now (book .entry)) + letters)) (blockOf owner) ((lastNumber owner (now (book .entry)) + letters) ∷ numbersOf (plus (runningTotals owner (now (book .entry))) added)) ⌝ }
+    requires { ⌜ (17 ≤ length (now book)) × (rowsClaimed (now book) + letters < 0x1_0000_0000_0000_0000) × (lastNumber owner (now book) + letters < 0x1_0000_0000_0000_0000) × (fits (plus (runningTotals owner (now book)) added) ≡ true) × (within (positionOf (plus (runningTotals owner (now book)) added)) ≡ true) ⌝ }
+    ensures { λ _. ⌜ now (book .exit) ≡ sets (set (now (book .entry)) 0 (rowsClaimed (now (book .entry)) + letters)) (blockOf owner) (blockWith (lastNumber owner (now (book .entry)) + letters) (plus (runningTotals owner (now (book .entry))) added)) ⌝ }
 {
     let block = block_of(owner);
     let last = number_at(book, block) + letters;
     let totals = figures_at(book, block + 1);
     book[0] += letters;
-    book[block] = last;
-    put_figures(book, block + 1, figures::raised(totals, added));
+    put_block(book, block, last, figures::raised(totals, added));
 }

@@ -73,10 +73,10 @@ pub unsafe extern "C" fn peer_find(
     give(&given, found)
 }
 
-/// The running totals of an owner.
+/// The running totals and the net position of an owner.
 ///
 /// # Safety
-/// `book` points to `book_len` numbers, `totals` to eight.
+/// `book` points to `book_len` numbers, `totals` to nine.
 #[no_mangle]
 pub unsafe extern "C" fn peer_totals(book: *const u64, book_len: usize, owner: u64, totals: *mut u64) -> u64 {
     let book = lent(book, book_len);

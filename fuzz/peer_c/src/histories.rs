@@ -7,11 +7,11 @@ use peer_book::call::{Call, History};
 use peer_book::files::{any_paper, sound_paper};
 use peer_book::generate::{history, ROUND};
 use peer_book::layout::{
-    is_owner, last, row_start, rows_there, total, CLAIMED, FIGURES, FILE_NUMBER, HEAD, NUMBER, OWNER, OWNERS, SIX,
-    WIDTH,
+    is_owner, last, net_of, row_start, rows_there, total, BOUND, CLAIMED, CREDIT_CENTS, DEBIT_CENTS, FIGURES,
+    FILE_NUMBER, HEAD, NUMBER, OWNER, OWNERS, SIX, WIDTH,
 };
 use peer_book::paper::Paper;
-use peer_book::sheet::{another, caller, junk};
+use peer_book::sheet::{another, caller, junk, other_cents};
 use peer_reader::random::Random;
 
 use crate::mutate::{by_record, bytes, tried, Bytewise, CONTROL};
@@ -358,8 +358,8 @@ fn change_files(input: &mut Input, random: &mut Random, bytewise: Bytewise) {
     }
 }
 
-/// The running totals of both owners, as far as they are there, are made the sums of their rows claimed, and no more rows are claimed than there are. A
-/// sum that 64 bits do not hold is stated as what they leave of it, or a row is lowered.
+/// The running totals and net positions of both owners, as far as they are there, are made the sums of their rows claimed, and no more rows are claimed
+/// than there are. A sum that 64 bits do not hold is stated as what they leave of it, or rows are lowered.
 fn make_sound(input: &mut Input, random: &mut Random) {
     let mut table = input.table();
     let rows = table.first().map_or(0, |claimed| (*claimed).min(rows_there(table.len()) as u64));
@@ -367,10 +367,12 @@ fn make_sound(input: &mut Input, random: &mut Random) {
         *claimed = rows;
     }
     for owner in OWNERS {
-        let there = (0..SIX).filter(|figure| total(owner, *figure) < table.len());
-        for figure in there.collect::<Vec<_>>() {
-            table[total(owner, figure)] = sound_total(&mut table, owner, figure, random);
+        if random.percent(80) {
+            lower(&mut table, owner);
         }
+        let sums = sums_of(&table, owner);
+        let part = sums.map(|sum| sum as u64).into_iter().chain([net_of(sums) as u64]);
+        table.iter_mut().skip(total(owner, 0)).zip(part).for_each(|(number, sum)| *number = sum);
     }
     put_table(input, table);
 }
@@ -381,22 +383,29 @@ fn rows_of(table: &[u64], owner: u64) -> Vec<usize> {
     (0..claimed).map(row_start).filter(|start| table[start + OWNER] == owner).collect()
 }
 
-fn sum_of(table: &[u64], owner: u64, figure: usize) -> u128 {
-    rows_of(table, owner).into_iter().map(|start| u128::from(table[start + FIGURES + figure])).sum()
+fn sums_of(table: &[u64], owner: u64) -> [u128; SIX] {
+    let rows = rows_of(table, owner);
+    std::array::from_fn(|figure| rows.iter().map(|start| u128::from(table[start + FIGURES + figure])).sum())
 }
 
-fn sound_total(table: &mut [u64], owner: u64, figure: usize, random: &mut Random) -> u64 {
-    let lower = random.percent(80);
+/// Rows of an owner are lowered until 64 bits hold the running totals and the net position.
+fn lower(table: &mut [u64], owner: u64) {
     for start in rows_of(table, owner) {
-        if lower && sum_of(table, owner, figure) > u128::from(u64::MAX) {
+        let sums = sums_of(table, owner);
+        let off = i64::try_from(net_of(sums)).is_err();
+        for figure in (0..SIX).filter(|figure| sums[*figure] > u128::from(u64::MAX) || off && *figure >= DEBIT_CENTS) {
             table[start + FIGURES + figure] >>= 32;
         }
     }
-    sum_of(table, owner, figure) as u64
 }
 
-/// A book that one of the files makes full for an owner, or just does not: by its rows, its last number, or a running total. The file is entered at the
-/// end.
+/// A number one below another, that one, or one above it.
+fn near(number: i128, random: &mut Random) -> i128 {
+    number + random.pick(&[-1, 0, 1])
+}
+
+/// A book that one of the files makes full for an owner, or just does not: by its rows, its last number, or a running total; or whose net position the
+/// file brings to its bound. The file is entered at the end.
 fn to_the_brim(input: &mut Input, random: &mut Random) {
     make_sound(input, random);
     let mut table = input.table();
@@ -407,15 +416,20 @@ fn to_the_brim(input: &mut Input, random: &mut Random) {
     let owner = random.pick(&OWNERS);
     let letters = paper.letters.len();
     table.resize(table.len().max(row_start(letters + 1)), 0);
-    let near = |most: u64, random: &mut Random| most.wrapping_add(random.draw() % 3).wrapping_sub(1);
     let claimed = table[CLAIMED] as usize;
-    match random.below(2 + SIX) {
+    match random.below(2 + SIX + 4) {
         0 => table.resize(row_start(claimed + letters).saturating_sub(random.below(2)), 0),
-        1 => table[last(owner)] = near(u64::MAX - letters as u64, random),
-        figure => {
-            let most = u64::MAX - paper.sums()[figure - 2] as u64;
-            let most = near(most, random);
-            total_to(&mut table, owner, figure - 2, most, random);
+        1 => table[last(owner)] = near(i128::from(u64::MAX) - letters as i128, random) as u64,
+        place if place < 2 + SIX => {
+            let most = near(i128::from(u64::MAX) - paper.sums()[place - 2] as i128, random);
+            total_to(&mut table, owner, place - 2, most as u64, random);
+        }
+        place => {
+            // Either side of the bound, or of what an i64 holds.
+            let sides = [BOUND, -BOUND, BOUND, -BOUND, i128::from(i64::MAX), i128::from(i64::MIN)];
+            let with_file = random.pick(&sides[..if place == 2 + SIX { 6 } else { 2 }]);
+            let most = near(with_file - net_of(paper.sums()), random);
+            net_to(&mut table, owner, most, random);
         }
     }
     input.steps.push(Step::enter(owner, at, random.draw()));
@@ -423,13 +437,36 @@ fn to_the_brim(input: &mut Input, random: &mut Random) {
     make_sound(input, random);
 }
 
-/// One claimed row is made the owner's, and its figure what brings the running total there, if the other rows leave as much.
-fn total_to(table: &mut [u64], owner: u64, figure: usize, most: u64, random: &mut Random) {
+/// Some claimed row is made the owner's. Gives where it begins.
+fn own_row(table: &mut [u64], owner: u64, random: &mut Random) -> usize {
     table[CLAIMED] = table[CLAIMED].max(1);
     let start = row_start(random.below(table[CLAIMED] as usize));
-    (table[start + OWNER], table[start + FIGURES + figure]) = (owner, 0);
-    let others = sum_of(table, owner, figure);
-    table[start + FIGURES + figure] = most.saturating_sub(others as u64);
+    table[start + OWNER] = owner;
+    start
+}
+
+/// One row's figure becomes what brings the running total there, if the other rows leave as much; of cents the other ones too, so that the net position
+/// stays in its range.
+fn total_to(table: &mut [u64], owner: u64, figure: usize, most: u64, random: &mut Random) {
+    const APART: u64 = (BOUND / 10) as u64;
+    let start = own_row(table, owner, random);
+    let others = other_cents(figure).map(|other| (other, most.saturating_sub(APART)));
+    for (figure, most) in [(figure, most)].into_iter().chain(others) {
+        table[start + FIGURES + figure] = 0;
+        let sum = sums_of(table, owner)[figure];
+        table[start + FIGURES + figure] = most.saturating_sub(sum as u64);
+    }
+}
+
+/// One row's cents become what brings the net position there.
+fn net_to(table: &mut [u64], owner: u64, net: i128, random: &mut Random) {
+    let start = own_row(table, owner, random);
+    let cents = [DEBIT_CENTS, CREDIT_CENTS].map(|figure| start + FIGURES + figure);
+    cents.into_iter().for_each(|place| table[place] = 0);
+    let missing = net - net_of(sums_of(table, owner));
+    let (less, more) = if missing < 0 { (cents[1], cents[0]) } else { (cents[0], cents[1]) };
+    table[less] = random.pick(&[0, 0, 1, 1_000]);
+    table[more] = (missing.unsigned_abs() as u64).wrapping_add(table[less]);
 }
 
 /// One history with the other's book, with its calls and files behind its own, or with one of its files in the place of one.

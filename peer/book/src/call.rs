@@ -1,5 +1,5 @@
 //! The calls of the book, histories of them, and a side that answers them: the book over a table, the second opinion, or the proved library.
-//! Requests 9 and 10 come in here: withdrawal and tidy-up are two more calls, the second list is one more thing lent.
+//! Request 10 comes in here: withdrawal and tidy-up are two more calls, the second list is one more thing lent.
 
 use crate::paper::Paper;
 use crate::{opinion, table};

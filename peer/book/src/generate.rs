@@ -8,12 +8,13 @@ use crate::{grow, tamper};
 
 /// Shapes by turn.
 #[rustfmt::skip]
-const TURNS: [&str; 50] = [
+const TURNS: [&str; 55] = [
     "grown", "grown", "grown", "grown", "grown", "grown", "grown", "grown", "head", "head",
     "row", "row", "row", "behind", "claim", "claim", "sum", "sum", "sum", "sum",
     "sum", "short", "short", "short", "short", "short", "full", "full", "full", "full",
     "duplicate", "duplicate", "no duplicate", "find", "find", "not found", "totals", "order", "order", "again",
     "owner", "owner", "strange", "apart", "apart", "sum", "order", "order", "totals", "head",
+    "net", "net", "range", "range", "held",
 ];
 
 /// The histories of a round.
@@ -40,7 +41,7 @@ fn turn_of(index: u64) -> (&'static str, usize) {
 }
 
 fn random_of(seed: u64, index: u64) -> Random {
-    Random::for_file(seed ^ 0x0008_0008_0008_0008, index)
+    Random::for_file(seed ^ 0x0009_0009_0009_0009, index)
 }
 
 /// The history of this index in the run of this seed; of a pair the first.
@@ -74,6 +75,9 @@ pub fn shaped(random: &mut Random, shape: &str, turn: usize) -> History {
         "totals" => tamper::totals(random, turn),
         "order" => tamper::order(random, turn),
         "again" => tamper::again(random, turn),
+        "net" => tamper::net_off(random, turn),
+        "range" => tamper::range(random, turn),
+        "held" => tamper::held(random, turn),
         "apart" => apart::pair(random).histories[0].clone(),
         _ => grow::grown(random),
     }

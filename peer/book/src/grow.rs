@@ -6,7 +6,7 @@ use peer_reader::stream;
 
 use crate::call::{Call, History};
 use crate::files::{ample, any_paper, read_number, short_tables, sound_paper};
-use crate::layout::{is_owner, other, rows_there, table_of, unused, ACCEPTED, HEAD, OWNERS, WIDTH};
+use crate::layout::{is_owner, other, rows_there, table_of, ACCEPTED, HEAD, OWNERS, WIDTH};
 use crate::list::List;
 use crate::paper::Paper;
 use crate::sheet::{junk, stranger};
@@ -14,20 +14,15 @@ use crate::sheet::{junk, stranger};
 /// The least and the most calls of a history.
 const CALLS: (usize, usize) = (5, 60);
 
-/// Whether an empty book may have anything at a place: where nothing is looked at, and behind the head.
-fn is_open(place: usize) -> bool {
-    place >= HEAD || OWNERS.into_iter().any(|owner| unused(owner) == place)
-}
-
 /// Whether a table is an empty book.
 pub fn is_empty(book: &[u64]) -> bool {
-    book.iter().enumerate().all(|(place, number)| is_open(place) || *number == 0)
+    book.iter().take(HEAD).all(|number| *number == 0)
 }
 
-/// An empty book: zeros in the head as far as it is looked at, and zeros or anything behind.
+/// An empty book: zeros in the head, and zeros or anything behind.
 pub fn empty_book(random: &mut Random, length: usize) -> Vec<u64> {
     let zeros = random.percent(60);
-    let number = |place| if zeros || !is_open(place) { 0 } else { junk(random) };
+    let number = |place| if zeros || place < HEAD { 0 } else { junk(random) };
     (0..length).map(number).collect()
 }
 

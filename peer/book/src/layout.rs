@@ -1,17 +1,20 @@
-//! The table that holds a book, number by number, as the C header has it, and the numbers of the answers (points 34 to 37 and 39).
+//! The table that holds a book, number by number, as the C header has it, and the numbers of the answers (points 34 to 37, 39 and 40).
 
 pub const ACCEPTED: u64 = 0;
 pub const ROOM: u64 = 2;
 pub const DUPLICATE: u64 = 12;
 pub const FULL: u64 = 13;
 pub const NOENTRY: u64 = 15;
+pub const RANGE: u64 = 16;
 pub const BOOK: u64 = 20;
 
 /// Who has entries, a last entry number and running totals (request 8).
 pub const OWNERS: [u64; 2] = [1, 2];
 
-/// The head: [0] rows claimed, once for both; then for each owner the last entry number given, six running totals and a number that is not
-/// looked at.
+/// A net position may lie as far as this on either side of 0, in cents (request 9).
+pub const BOUND: i128 = 1_000_000_000_000_000_000;
+
+/// The head: [0] rows claimed, once for both; then for each owner the last entry number given, six running totals and the net position.
 pub const HEAD: usize = 17;
 pub const CLAIMED: usize = 0;
 
@@ -40,7 +43,7 @@ pub const CREDIT_CENTS: usize = 5;
 /// The lengths of the three answers.
 pub const ENTER_ANSWER: usize = 13;
 pub const FIND_ANSWER: usize = 9;
-pub const TOTALS_ANSWER: usize = 8;
+pub const TOTALS_ANSWER: usize = 9;
 
 /// Whether a number is an owner's; any other counts for none (point 39).
 pub fn is_owner(number: u64) -> bool {
@@ -62,14 +65,24 @@ pub fn total(owner: u64, figure: usize) -> usize {
     last(owner) + 1 + figure
 }
 
-/// Where the number stands in an owner's part of the head that is not looked at.
-pub fn unused(owner: u64) -> usize {
-    last(owner) + 1 + SIX
+/// Where an owner's net position stands in the head, in two's complement (point 40).
+pub fn net(owner: u64) -> usize {
+    total(owner, SIX)
 }
 
-/// Whether BOOK is about a number of the head.
+/// Whether BOOK is about a number of the head: all but the last entry numbers.
 pub fn is_judged(place: usize) -> bool {
-    place == CLAIMED || OWNERS.into_iter().any(|owner| (total(owner, 0)..unused(owner)).contains(&place))
+    OWNERS.into_iter().all(|owner| last(owner) != place)
+}
+
+/// The net position of figures that come to these sums, in whole cents: below 0 when debits exceed.
+pub fn net_of(sums: [u128; SIX]) -> i128 {
+    sums[CREDIT_CENTS] as i128 - sums[DEBIT_CENTS] as i128
+}
+
+/// Whether a net position is within the bound, which it may reach.
+pub fn in_range(net: i128) -> bool {
+    (-BOUND..=BOUND).contains(&net)
 }
 
 /// The whole rows behind the head of a table of so many numbers.

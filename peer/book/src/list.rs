@@ -1,6 +1,6 @@
-//! The plain list of entries: what a book answers after any sequence of calls (requests 6 and 8, points 38 and 39).
+//! The plain list of entries: what a book answers after any sequence of calls (requests 6, 8 and 9, points 38 to 40).
 
-use crate::layout::{is_owner, Figures, DUPLICATE, FULL, NOENTRY, OWNERS, SIX};
+use crate::layout::{in_range, is_owner, net_of, Figures, DUPLICATE, FULL, NOENTRY, OWNERS, RANGE, SIX};
 use crate::paper::sums;
 
 /// One cash letter as it was entered.
@@ -51,11 +51,19 @@ impl List {
         sums(&figures)
     }
 
-    /// Enters the letters of an accepted file for an owner: the first entry number given, or NOENTRY, DUPLICATE or FULL.
+    /// The net position of an owner: the cents of all its entries, each time anew, debits from credits.
+    pub fn net(&self, owner: u64) -> i128 {
+        net_of(self.sums(owner))
+    }
+
+    /// Enters the letters of an accepted file for an owner: the first entry number given, or NOENTRY, DUPLICATE, RANGE or FULL.
     pub fn enter(&mut self, file_number: u64, owner: u64, letters: &[Figures]) -> Result<u64, u64> {
         judge_owner(owner)?;
         if self.of(owner).iter().any(|entry| entry.file_number == file_number) {
             return Err(DUPLICATE);
+        }
+        if !in_range(self.net(owner) + net_of(sums(letters))) {
+            return Err(RANGE);
         }
         let longer = self.with(file_number, owner, letters).ok_or(FULL)?;
         let first = longer.entries[self.entries.len()].number;

@@ -6,8 +6,8 @@ use peer_reader::copy::copy;
 use peer_reader::descent::{split_record, Number, LISTED};
 
 use crate::layout::{
-    is_owner, refused, Figures, BOOK, CLAIMED, ENTER_ANSWER, FIND_ANSWER, HEAD, OWNER, OWNERS, SIX, TOTALS_ANSWER,
-    WIDTH,
+    is_owner, net_of, refused, Figures, BOOK, CLAIMED, ENTER_ANSWER, FIND_ANSWER, HEAD, OWNER, OWNERS, SIX,
+    TOTALS_ANSWER, WIDTH,
 };
 use crate::list::{judge_owner, Entry, List};
 use crate::paper::Paper;
@@ -27,11 +27,19 @@ pub fn decode(book: &[u64]) -> Result<List, u64> {
     let capacity = rows.len() - (claimed.len() - entries.len());
     let (one, two) = parts.split_at(parts.len() / OWNERS.len());
     let list = List { entries, last: [one[0], two[0]], capacity };
-    let states = |part: &[u64], owner| part[1..=SIX].iter().map(|total| u128::from(*total)).eq(list.sums(owner));
+    let totals = |part: &[u64], owner| part[1..=SIX].iter().map(|total| u128::from(*total)).eq(list.sums(owner));
+    let net = |part: &[u64], owner| part.last().copied() == as_held(list.net(owner));
+    let states = |part: &[u64], owner| totals(part, owner) && net(part, owner);
     match states(one, OWNERS[0]) && states(two, OWNERS[1]) {
         true => Ok(list),
         false => Err(BOOK),
     }
+}
+
+/// A net position as a table holds it; none where no i64 holds it.
+fn as_held(net: i128) -> Option<u64> {
+    let net = i64::try_from(net).ok()?;
+    Some(u64::from_le_bytes(net.to_le_bytes()))
 }
 
 /// The row of an entry.
@@ -56,7 +64,7 @@ pub fn encode(list: &List, before: &[u64]) -> Vec<u64> {
     for owner in OWNERS {
         table.push(list.last(owner));
         table.extend(list.sums(owner).map(|sum| u64::try_from(sum).expect("a running total")));
-        table.push(head[table.len()]);
+        table.push(as_held(list.net(owner)).expect("a net position"));
     }
     table.extend(rows);
     table.extend(&before[table.len()..]);
@@ -124,7 +132,8 @@ pub fn totals(book: &[u64], owner: u64) -> [u64; TOTALS_ANSWER] {
     match decode(book).and_then(|list| list.totals(owner)) {
         Ok((entries, sums)) => {
             let [a, b, c, d, e, f] = sums.map(|sum| sum as u64);
-            [0, entries as u64, a, b, c, d, e, f]
+            let net = as_held(net_of(sums)).expect("a net position");
+            [0, entries as u64, a, b, c, d, e, f, net]
         }
         Err(number) => refused(number),
     }

@@ -10,12 +10,13 @@ use crate::call::{Call, History, Kind, Outcome, KINDS};
 use crate::files::{read_number, short_tables, REFUSALS};
 use crate::later::{self, GROWN, LATER};
 use crate::layout::{
-    head, is_judged, is_owner, last, other, row_start, rows_there, total, unused, Figures, ACCEPTED, BOOK, CLAIMED,
-    DUPLICATE, FIGURES, FILE_NUMBER, FULL, HEAD, NOENTRY, NUMBER, OWNER, OWNERS, ROOM, SIX, WIDTH,
+    head, in_range, is_judged, is_owner, last, net, net_of, other, row_start, rows_there, total, Figures, ACCEPTED,
+    BOOK, BOUND, CLAIMED, CREDIT_CENTS, DEBIT_CENTS, DUPLICATE, FIGURES, FILE_NUMBER, FULL, HEAD, NOENTRY, NUMBER,
+    OWNER, OWNERS, RANGE, ROOM, SIX, WIDTH,
 };
 use crate::paper::{sums, Paper};
 use crate::put::Seen;
-use crate::tamper::{ordered_pairs, CAUSES, CAUSE_LAST, CAUSE_ROWS, OWNER_CHANGES, SHORT};
+use crate::tamper::{ordered_pairs, CAUSES, CAUSE_LAST, CAUSE_ROWS, HELD, OWNER_CHANGES, SHORT};
 
 /// Where a number stands in a table.
 #[derive(Clone, Copy, Debug, PartialEq, Eq, PartialOrd, Ord)]
@@ -40,7 +41,9 @@ pub enum Point {
     Claim(Kind, &'static str),
     /// BOOK for one running total of an owner alone.
     Sum(Kind, u64, usize, &'static str),
-    /// BOOK for a running total of an owner alone, in a call of this one.
+    /// BOOK for the net position of an owner alone.
+    Net(Kind, u64, &'static str),
+    /// BOOK for a running total or the net position of an owner alone, in a call of this one.
     Whose(Kind, u64, Caller),
     /// A row became another's: from, to, whether it had figures, and whether the answer was BOOK.
     OwnerChanged(Kind, Caller, Caller, bool, bool),
@@ -54,6 +57,8 @@ pub enum Point {
     Full(u64, usize, &'static str),
     /// Entered, though the other owner could not have: for a running total, or the last number.
     FullForTheOther(u64, usize),
+    /// RANGE for an owner, or just not, above or below.
+    Range(u64, bool, &'static str),
     Duplicate(&'static str),
     /// Entered, though something has the number.
     NoDuplicate(&'static str),
@@ -64,6 +69,8 @@ pub enum Point {
     Totals(&'static str),
     /// A running total of an owner of 2^64 - 1.
     Brim(u64, usize),
+    /// A net position that totals tells.
+    Held(u64, i128),
     Entered(&'static str),
     /// A file entered with letters unlike in this figure.
     Unlike(usize),
@@ -213,10 +220,18 @@ impl Looked<'_> {
         sum_of(&self.rows_of(owner), figure)
     }
 
-    /// The running totals that are not the sums of their owner's rows.
+    /// The net position that is stated for an owner.
+    fn net(&self, owner: u64) -> i128 {
+        i128::from(self.head(net(owner)) as i64)
+    }
+
+    /// The running totals, and behind the last of them the net position, that are not the sums of their owner's rows.
     fn off(&self) -> Vec<(u64, usize)> {
-        let all = OWNERS.into_iter().flat_map(|owner| (0..SIX).map(move |figure| (owner, figure)));
-        let is_off = |owner, figure| self.sum(owner, figure) != u128::from(self.head(total(owner, figure)));
+        let all = OWNERS.into_iter().flat_map(|owner| (0..=SIX).map(move |figure| (owner, figure)));
+        let is_off = |owner, figure| match figure {
+            SIX => net_in(&self.rows_of(owner)) != self.net(owner),
+            _ => self.sum(owner, figure) != u128::from(self.head(total(owner, figure))),
+        };
         all.filter(|(owner, figure)| is_off(*owner, *figure)).collect()
     }
 
@@ -233,6 +248,11 @@ impl Looked<'_> {
         let has = |row: &usize| self.rows[*row][column] == number && self.rows[*row][OWNER] == owner;
         (0..self.rows.len()).filter(has).collect()
     }
+}
+
+/// The net position of some rows.
+fn net_in(rows: &[&[u64]]) -> i128 {
+    sum_of(rows, CREDIT_CENTS) as i128 - sum_of(rows, DEBIT_CENTS) as i128
 }
 
 /// A figure of some rows added up.
@@ -307,7 +327,10 @@ fn book_points(kind: Kind, caller: u64, look: &Looked, is_book_fault: bool) -> V
         points.extend(named(CLAIMS, holds, |name| Point::Claim(kind, name)));
     } else if let [(owner, figure)] = look.off()[..] {
         points.push(Point::Whose(kind, owner, Caller::or_nobody(caller)));
-        points.extend(sum_points(kind, look, owner, figure));
+        points.extend(match figure {
+            SIX => net_points(kind, look, owner),
+            _ => sum_points(kind, look, owner, figure),
+        });
     }
     let others_zero = (0..length - 1).filter(|place| is_judged(*place)).all(|place| look.book[place] == 0);
     if length <= HEAD && is_judged(length - 1) && others_zero {
@@ -335,6 +358,55 @@ fn sum_points(kind: Kind, look: &Looked, owner: u64, figure: usize) -> Vec<Point
         strays > 0 && stated == sum + strays,
     ];
     named(SUMS, holds, |name| Point::Sum(kind, owner, figure, name))
+}
+
+const NETS: [&str; 17] = [
+    "one more",
+    "one less",
+    "the other sign",
+    "unlike in the high half",
+    "without the first row",
+    "without the last row",
+    "with the row behind",
+    "with the other owner's rows",
+    "with the rows of neither",
+    "credits alone",
+    "debits alone",
+    "what 64 bits leave, above",
+    "the most for more",
+    "what 64 bits leave, below",
+    "the least for less",
+    "2^63",
+    "-2^63 - 1",
+];
+
+fn net_points(kind: Kind, look: &Looked, owner: u64) -> Vec<Point> {
+    let own = look.rows_of(owner);
+    let (stated, right) = (look.net(owner), net_in(&own));
+    let (above, below) = (right > i128::from(i64::MAX), right < i128::from(i64::MIN));
+    let (others, strays) = (net_in(&look.rows_of(other(owner))), net_in(&look.strays()));
+    let of = |row: Option<&&[u64]>| row.map_or(0, |row| net_in(&[*row]));
+    let left = right as i64 as i128;
+    let holds = [
+        stated == right + 1,
+        stated == right - 1,
+        stated == -right,
+        !above && !below && stated as u32 == right as u32,
+        own.len() > 1 && stated == right - of(own.first()),
+        own.len() > 1 && stated == right - of(own.last()),
+        look.spare.first().is_some_and(|row| row[OWNER] == owner) && stated == right + of(look.spare.first()),
+        stated == right + others,
+        stated == right + strays,
+        stated == sum_of(&own, CREDIT_CENTS) as i128,
+        stated == -(sum_of(&own, DEBIT_CENTS) as i128),
+        above && stated == left,
+        above && stated == i128::from(i64::MAX),
+        below && stated == left,
+        below && stated == i128::from(i64::MIN),
+        right == 1 << 63 && stated == left,
+        right == -(1 << 63) - 1 && stated == left,
+    ];
+    named(NETS, holds, |name| Point::Net(kind, owner, name))
 }
 
 const OF_THREE: [&str; 3] = ["first", "middle", "last"];
@@ -387,6 +459,9 @@ fn entering(look: &Looked, paper: &Paper, file_number: u64, owner: u64, rows: us
     due.extend((!look.is_book()).then_some(BOOK));
     due.extend((!is_owner(owner)).then_some(NOENTRY));
     due.extend((!look.with(owner, FILE_NUMBER, file_number).is_empty()).then_some(DUPLICATE));
+    let whose = if is_owner(owner) { vec![owner] } else { OWNERS.to_vec() };
+    let beyond = |owner: u64| !in_range(look.net(owner) + net_of(paper.sums()));
+    due.extend(whose.into_iter().all(beyond).then_some(RANGE));
     due.extend((!causes.is_empty() || look.free() == 0).then_some(FULL));
     let others = due.into_iter().filter(|other| *other != number && *other != ACCEPTED);
     let mut points: Vec<Point> = others.map(|other| Point::Order(number, other)).collect();
@@ -394,10 +469,49 @@ fn entering(look: &Looked, paper: &Paper, file_number: u64, owner: u64, rows: us
         ROOM => points.extend(room(paper, rows)),
         DUPLICATE => points.extend(duplicate(look, owner, file_number)),
         FULL => points.extend(full(look, owner, paper, &causes)),
+        RANGE => points.extend(out_of_range(look, owner, &paper.letters)),
         ACCEPTED => points.extend(entered(look, paper, file_number, owner, rows)),
         _ => {}
     }
     points
+}
+
+const OUT_OF_RANGE: [&str; 5] =
+    ["by a cent", "with the last letter", "a cent short of back", "from beyond by nothing", "from the end of an i64"];
+
+/// What RANGE shows.
+fn out_of_range(look: &Looked, owner: u64, letters: &[Figures]) -> Vec<Point> {
+    let (before, change) = (look.net(owner), net_of(sums(letters)));
+    let but_last = before + net_of(sums(&letters[..letters.len() - 1]));
+    let above = before + change > 0;
+    let by_a_cent = (before + change).abs() == BOUND + 1;
+    let holds = [
+        by_a_cent && in_range(before),
+        letters.len() > 1 && in_range(before) && in_range(but_last),
+        by_a_cent && !in_range(before) && change != 0,
+        !in_range(before) && change == 0,
+        before == i128::from(i64::MAX) && change > 0 || before == i128::from(i64::MIN) && change < 0,
+    ];
+    named(OUT_OF_RANGE, holds, |name| Point::Range(owner, above, name))
+}
+
+const IN_RANGE: [&str; 4] =
+    ["at the bound", "back to the bound", "out on the way and back", "though the other owner is beyond"];
+
+/// What an entering shows that is in range.
+fn within_range(look: &Looked, owner: u64, letters: &[Figures]) -> Vec<Point> {
+    let (before, change) = (look.net(owner), net_of(sums(letters)));
+    let at_the_bound = (before + change).abs() == BOUND;
+    let out = |count: &usize| !in_range(before + net_of(sums(&letters[..*count])));
+    let beyond = look.net(other(owner));
+    let above = if in_range(beyond) { before + change > 0 } else { beyond > 0 };
+    let holds = [
+        at_the_bound && in_range(before) && change != 0,
+        at_the_bound && !in_range(before),
+        in_range(before) && (1..letters.len()).any(|count| out(&count)),
+        !in_range(beyond),
+    ];
+    named(IN_RANGE, holds, |name| Point::Range(owner, above, name))
 }
 
 const ROOMS: [&str; 3] = ["a number short", "a row short", "none"];
@@ -486,7 +600,7 @@ const NO_DUPLICATES: [&str; 9] = [
     "one of neither's",
 ];
 
-const ENTERED: [&str; 22] = [
+const ENTERED: [&str; 25] = [
     "one letter",
     "two letters",
     "nine letters or more",
@@ -507,7 +621,10 @@ const ENTERED: [&str; 22] = [
     "behind a row of neither",
     "behind the other owner's alone",
     "with a number that the other has",
-    "beside unused numbers",
+    "a net position below 0",
+    "a net position above 0",
+    "a net position from above 0 to below",
+    "a net position from below 0 to above",
     "before a part of a row",
 ];
 
@@ -515,6 +632,7 @@ fn entered(look: &Looked, paper: &Paper, file_number: u64, owner: u64, rows: usi
     let letters = &paper.letters;
     let first = look.head(last(owner)) + 1;
     let others = look.rows_of(other(owner));
+    let net_after = look.net(owner) + net_of(paper.sums());
     let taken = &look.spare[..letters.len()];
     let enough = 7 * paper.reading.rows.len();
     let ebcdic = Set::of(&paper.bytes) == Set::Ebcdic;
@@ -539,11 +657,15 @@ fn entered(look: &Looked, paper: &Paper, file_number: u64, owner: u64, rows: usi
         !look.strays().is_empty(),
         !others.is_empty() && others.len() == look.rows.len(),
         others.iter().any(|row| row[NUMBER] == first),
-        OWNERS.into_iter().all(|owner| look.head(unused(owner)) != 0),
+        net_after < 0,
+        net_after > 0,
+        look.net(owner) > 0 && net_after < 0,
+        look.net(owner) < 0 && net_after > 0,
         look.book.len() > row_start(look.there),
     ];
     let mut points = named(ENTERED, holds, Point::Entered);
     points.extend(no_duplicate(look, owner, file_number));
+    points.extend(within_range(look, owner, letters));
     for figure in 0..SIX {
         let mut figures: Vec<u64> = letters.iter().map(|letter| letter[figure]).filter(|number| *number > 0).collect();
         figures.dedup();
@@ -678,13 +800,14 @@ fn totals(look: &Looked, owner: u64) -> Vec<Point> {
     let mut points = named(TOTALS_OF, holds, Point::Totals);
     let brim = (0..SIX).filter(|figure| rows > 1 && look.head(total(owner, *figure)) == u64::MAX);
     points.extend(brim.map(|figure| Point::Brim(owner, figure)));
+    points.extend((rows > 0).then_some(Point::Held(owner, look.net(owner))));
     points
 }
 
 /// The numbers that each call can give to an owner.
 fn answers(kind: Kind) -> Vec<u64> {
     match kind {
-        Kind::Enter => REFUSALS.into_iter().chain([ACCEPTED, ROOM, DUPLICATE, FULL, BOOK]).collect(),
+        Kind::Enter => REFUSALS.into_iter().chain([ACCEPTED, ROOM, DUPLICATE, RANGE, FULL, BOOK]).collect(),
         Kind::Find => vec![ACCEPTED, NOENTRY, BOOK],
         Kind::Totals => vec![ACCEPTED, BOOK],
     }
@@ -720,6 +843,7 @@ fn demanded_of_tables(kind: Kind) -> Vec<Point> {
     points.extend(CLAIMS.map(|how| Point::Claim(kind, how)));
     for owner in OWNERS {
         (0..SIX).for_each(|figure| points.extend(SUMS.map(|how| Point::Sum(kind, owner, figure, how))));
+        points.extend(NETS.map(|how| Point::Net(kind, owner, how)));
         let callers = [Caller::Owner(OWNERS[0]), Caller::Owner(OWNERS[1]), NOBODY];
         points.extend(callers.map(|caller| Point::Whose(kind, owner, caller)));
     }
@@ -743,6 +867,10 @@ pub fn demanded() -> Vec<Point> {
         points.extend(FULLS.into_iter().chain([JUST_NOT]).map(|edge| Point::Full(owner, cause, edge)));
         points.extend((cause != CAUSE_ROWS).then_some(Point::FullForTheOther(owner, cause)));
     }
+    for (owner, above) in OWNERS.into_iter().flat_map(|owner| [(owner, true), (owner, false)]) {
+        points.extend(OUT_OF_RANGE.into_iter().chain(IN_RANGE).map(|name| Point::Range(owner, above, name)));
+    }
+    points.extend(OWNERS.into_iter().flat_map(|owner| HELD.map(|net| Point::Held(owner, net))));
     points.extend(DUPLICATES.map(Point::Duplicate));
     points.extend(NO_DUPLICATES.map(Point::NoDuplicate));
     points.extend(ordered_pairs().into_iter().map(|(first, second)| Point::Order(first, second)));

@@ -4,7 +4,8 @@
 use peer_reader::random::Random;
 
 use crate::layout::{
-    is_owner, last, row_start, total, unused, CLAIMED, FIGURES, FILE_NUMBER, HEAD, NUMBER, OWNER, OWNERS, SIX, WIDTH,
+    is_owner, last, net, row_start, total, BOUND, CLAIMED, CREDIT_CENTS, DEBIT_CENTS, FIGURES, FILE_NUMBER, HEAD,
+    NUMBER, OWNER, OWNERS, SIX, WIDTH,
 };
 
 pub type Row = [u64; WIDTH];
@@ -14,8 +15,6 @@ pub type Row = [u64; WIDTH];
 pub struct Sheet {
     /// The last entry number given to each owner.
     pub last: [u64; OWNERS.len()],
-    /// The number of each owner's part of the head that is not looked at.
-    pub unused: [u64; OWNERS.len()],
     /// The rows claimed.
     pub rows: Vec<Row>,
     /// The rows behind those claimed.
@@ -90,6 +89,28 @@ fn column(random: &mut Random, count: usize) -> Vec<u64> {
     }
 }
 
+/// Credit cents beside debit cents: so near that whatever rows are one owner's, no file carries their net position out of its range.
+fn credit_beside(random: &mut Random, debit: u64) -> u64 {
+    let most = random.pick(&[1, 1_000_000, (BOUND / 100) as u64]);
+    let apart = random.draw() % most;
+    match random.percent(50) {
+        true => debit.saturating_sub(apart),
+        false => debit + apart,
+    }
+}
+
+/// Between the running totals of debit and credit cents near the brim: enough for a file to enter on the other side, and well in range.
+const MARGIN: u64 = (BOUND / 10) as u64;
+
+/// The other cents, where a figure is cents.
+pub fn other_cents(figure: usize) -> Option<usize> {
+    match figure {
+        DEBIT_CENTS => Some(CREDIT_CENTS),
+        CREDIT_CENTS => Some(DEBIT_CENTS),
+        _ => None,
+    }
+}
+
 /// A number that is no owner.
 pub fn stranger(random: &mut Random) -> u64 {
     match random.below(8) {
@@ -154,11 +175,9 @@ impl Sheet {
 
     /// A sound book with rows of these owners and so many behind them.
     pub fn of(random: &mut Random, owners: &[u64], spare: usize) -> Sheet {
-        let unused_junk = random.percent(50);
         let tail = random.below(WIDTH);
         let mut sheet = Sheet {
             last: [0; OWNERS.len()],
-            unused: std::array::from_fn(|_| if unused_junk { junk(random) } else { 0 }),
             rows: owners.iter().map(|owner| [*owner, random.below(9) as u64, 0, 0, 0, 0, 0, 0, 0]).collect(),
             spare: vec![[0; WIDTH]; spare],
             tail: (0..tail).map(|_| junk(random)).collect(),
@@ -168,6 +187,9 @@ impl Sheet {
             let figures = column(random, owners.len());
             sheet.put_column(figure, &figures);
         });
+        let credits = |row: &Row| credit_beside(random, row[FIGURES + DEBIT_CENTS]);
+        let credits: Vec<u64> = sheet.rows.iter().map(credits).collect();
+        sheet.put_column(CREDIT_CENTS, &credits);
         if random.percent(60) {
             sheet.spare.iter_mut().for_each(|row| *row = junk_row(random));
         }
@@ -202,8 +224,30 @@ impl Sheet {
         }
     }
 
-    /// An owner's rows get figures that come to this running total; there are such rows.
+    /// An owner's rows get figures that come to this running total; there are such rows. The other cents keep the net position in range.
     pub fn put_total(&mut self, random: &mut Random, owner: u64, figure: usize, total: u64) {
+        self.put_alone(random, owner, figure, total);
+        if let Some(figure) = other_cents(figure) {
+            self.put_alone(random, owner, figure, total.saturating_sub(MARGIN));
+        }
+    }
+
+    /// An owner's rows get cents that come to this net position, which is at most a little more than an i64 holds; there are such rows.
+    pub fn put_net(&mut self, random: &mut Random, owner: u64, net: i128) {
+        let less = random.pick(&[0, 1, 1_000_000, 1 << 62]);
+        let less = random.draw() % (less + 1);
+        let more = less + net.unsigned_abs() as u64;
+        let (debit, credit) = if net < 0 { (more, less) } else { (less, more) };
+        self.put_alone(random, owner, DEBIT_CENTS, debit);
+        self.put_alone(random, owner, CREDIT_CENTS, credit);
+    }
+
+    /// What an owner's net position comes to.
+    pub fn net(&self, owner: u64) -> i128 {
+        self.sum(owner, CREDIT_CENTS) as i128 - self.sum(owner, DEBIT_CENTS) as i128
+    }
+
+    fn put_alone(&mut self, random: &mut Random, owner: u64, figure: usize, total: u64) {
         let rows = self.rows_of(owner);
         let figures = split(random, total, rows.len());
         rows.into_iter().zip(figures).for_each(|(row, number)| self.rows[row][FIGURES + figure] = number);
@@ -242,14 +286,14 @@ impl Sheet {
         }
     }
 
-    /// The table. A running total past 64 bits is stated as what they leave of it.
+    /// The table. A running total or net position past 64 bits is stated as what they leave of it.
     pub fn lay(&self) -> Vec<u64> {
         let mut table = vec![0; HEAD];
         table[CLAIMED] = self.rows.len() as u64;
         for (at, owner) in OWNERS.into_iter().enumerate() {
             table[last(owner)] = self.last[at];
             (0..SIX).for_each(|figure| table[total(owner, figure)] = self.sum(owner, figure) as u64);
-            table[unused(owner)] = self.unused[at];
+            table[net(owner)] = self.net(owner) as u64;
         }
         self.rows.iter().chain(&self.spare).for_each(|row| table.extend(row));
         debug_assert_eq!(table.len(), row_start(self.rows.len() + self.spare.len()));

@@ -1,24 +1,40 @@
-//! The book over a table, for any table whatever: each call as points 34 to 37 and 39 say it, where the numbers stand.
+//! The book over a table, for any table whatever: each call as points 34 to 37, 39 and 40 say it, where the numbers stand.
 
 use peer_reader::descent::{Number, LISTED};
 
 use crate::layout::{
-    head, is_owner, last, refused, row_start, rows_there, total, BOOK, CLAIMED, DUPLICATE, ENTER_ANSWER, FIGURES,
-    FILE_NUMBER, FIND_ANSWER, FULL, HEAD, NOENTRY, NUMBER, OWNER, OWNERS, SIX, TOTALS_ANSWER, WIDTH,
+    head, in_range, is_owner, last, net, net_of, refused, row_start, rows_there, total, BOOK, CLAIMED, CREDIT_CENTS,
+    DEBIT_CENTS, DUPLICATE, ENTER_ANSWER, FIGURES, FILE_NUMBER, FIND_ANSWER, FULL, HEAD, NOENTRY, NUMBER, OWNER,
+    OWNERS, RANGE, SIX, TOTALS_ANSWER, WIDTH,
 };
 use crate::paper::Paper;
 
-/// Not BOOK: no more rows are claimed than whole rows stand behind the head, and each running total of either owner is the sum of its own rows
-/// (points 35 and 39).
+/// Not BOOK: no more rows are claimed than whole rows stand behind the head, and each running total of either owner is the sum of its own rows,
+/// and so is its net position (points 35, 39 and 40).
 pub fn is_book(book: &[u64]) -> bool {
-    head(book, CLAIMED) <= rows_there(book.len()) as u64
-        && OWNERS.into_iter().all(|owner| (0..SIX).all(|figure| is_sum(book, owner, figure)))
+    let is_right = |owner| (0..SIX).all(|figure| is_sum(book, owner, figure)) && is_net(book, owner);
+    head(book, CLAIMED) <= rows_there(book.len()) as u64 && OWNERS.into_iter().all(is_right)
+}
+
+/// What a figure of an owner's rows comes to.
+fn sum_of(book: &[u64], owner: u64, figure: usize) -> u128 {
+    rows_of(book, owner).map(|row| u128::from(row[FIGURES + figure])).sum()
 }
 
 /// A sum past 64 bits is no running total (point 35).
 fn is_sum(book: &[u64], owner: u64, figure: usize) -> bool {
-    let sum: u128 = rows_of(book, owner).map(|row| u128::from(row[FIGURES + figure])).sum();
-    sum == u128::from(head(book, total(owner, figure)))
+    sum_of(book, owner, figure) == u128::from(head(book, total(owner, figure)))
+}
+
+/// A sum that no i64 holds is no net position (point 40).
+fn is_net(book: &[u64], owner: u64) -> bool {
+    let sum = sum_of(book, owner, CREDIT_CENTS) as i128 - sum_of(book, owner, DEBIT_CENTS) as i128;
+    sum == net_at(book, owner)
+}
+
+/// The net position that the head states.
+fn net_at(book: &[u64], owner: u64) -> i128 {
+    i128::from(head(book, net(owner)) as i64)
 }
 
 /// The rows that the head claims, which are there.
@@ -54,6 +70,10 @@ pub fn enter(paper: &Paper, file_number: u64, owner: u64, rows: &mut [u64], book
     if rows_of(book, owner).any(|row| row[FILE_NUMBER] == file_number) {
         return refused(DUPLICATE);
     }
+    // All the letters together, whatever the net was before (point 40).
+    if !in_range(net_at(book, owner) + net_of(paper.sums())) {
+        return refused(RANGE);
+    }
     if is_full(paper, owner, book) {
         return refused(FULL);
     }
@@ -85,6 +105,8 @@ fn set_down(paper: &Paper, file_number: u64, owner: u64, book: &mut [u64]) {
         for (figure, amount) in letter.iter().enumerate() {
             book[total(owner, figure)] += amount;
         }
+        // Two's complement: on the way a net may pass 64 bits, at the end it does not.
+        book[net(owner)] = book[net(owner)].wrapping_add(letter[CREDIT_CENTS]).wrapping_sub(letter[DEBIT_CENTS]);
         book[CLAIMED] += 1;
     }
 }
@@ -105,7 +127,7 @@ pub fn find(book: &[u64], owner: u64, entry_number: u64) -> [u64; FIND_ANSWER] {
     }
 }
 
-/// How many entries the owner has, and its running totals.
+/// How many entries the owner has, its running totals and its net position.
 pub fn totals(book: &[u64], owner: u64) -> [u64; TOTALS_ANSWER] {
     if let Some(number) = first_refusal(book, owner) {
         return refused(number);
@@ -113,5 +135,6 @@ pub fn totals(book: &[u64], owner: u64) -> [u64; TOTALS_ANSWER] {
     let mut totals = refused(0);
     totals[1] = rows_of(book, owner).count() as u64;
     (0..SIX).for_each(|figure| totals[2 + figure] = head(book, total(owner, figure)));
+    totals[2 + SIX] = head(book, net(owner));
     totals
 }

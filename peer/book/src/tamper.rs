@@ -6,11 +6,11 @@ use peer_reader::random::Random;
 use crate::call::{Call, History, Kind, KINDS};
 use crate::files::{ample, refused_paper, rich_paper, short_tables, sound_paper, REFUSALS};
 use crate::layout::{
-    is_judged, last, other, row_start, rows_there, total, BOOK, CLAIMED, DUPLICATE, FIGURES, FILE_NUMBER, FULL, HEAD,
-    NOENTRY, NUMBER, OWNER, OWNERS, ROOM, SIX, WIDTH,
+    is_judged, last, net, net_of, other, row_start, rows_there, total, BOOK, BOUND, CLAIMED, CREDIT_CENTS, DEBIT_CENTS,
+    DUPLICATE, FIGURES, FILE_NUMBER, FULL, HEAD, NOENTRY, NUMBER, OWNER, OWNERS, RANGE, ROOM, SIX, WIDTH,
 };
-use crate::paper::Paper;
-use crate::sheet::{another, caller, junk, mixed, stranger, Sheet};
+use crate::paper::{sums, Paper};
+use crate::sheet::{another, caller, junk, mixed, other_cents, stranger, Sheet};
 
 /// Free rows behind the claimed ones, so that a file of one or two letters enters.
 const SOME_FREE: (usize, usize) = (2, 5);
@@ -202,6 +202,10 @@ pub fn sum(random: &mut Random, turn: usize) -> History {
     // Every row has something, and the row behind too, which is the owner's.
     let figures: Vec<u64> = sheet.rows.iter().map(|_| 1 + random.draw() % 1_000_000).collect();
     sheet.put_column(figure, &figures);
+    // The net position is right all the while.
+    if let Some(figure) = other_cents(figure) {
+        sheet.put_column(figure, &figures);
+    }
     sheet.spare[0][OWNER] = owner;
     sheet.spare[0][FIGURES + figure] = 1 + random.draw() % 1_000;
     let own = sheet.rows_of(owner);
@@ -230,6 +234,55 @@ pub fn sum(random: &mut Random, turn: usize) -> History {
     book[total(owner, figure)] = stated;
     let caller = caller(random);
     of_kind(random, "sum", KINDS[turn / SUMS / SIX / 2 % KINDS.len()], caller, &sheet, book)
+}
+
+/// How a net position is not the credit cents less the debit cents of its owner's rows.
+pub const NETS: usize = 17;
+
+/// Sums of cents that no i64 holds, from the eleventh way on.
+const NO_I64: [(usize, i128); 6] =
+    [(11, 1 << 63), (12, 1 << 63), (13, -(1 << 63) - 1), (14, -(1 << 63) - 1), (15, 1 << 63), (16, -(1 << 63) - 1)];
+
+pub fn net_off(random: &mut Random, turn: usize) -> History {
+    let (how, owner) = (turn % NETS, OWNERS[turn / NETS % 2]);
+    let own = random.between(2, 4);
+    let mut sheet = mixed_sheet(random, owner, [own, 1, 1]);
+    for row in sheet.rows.iter_mut().chain(&mut sheet.spare) {
+        row[FIGURES + DEBIT_CENTS] = 1 + random.draw() % 1_000_000;
+        row[FIGURES + CREDIT_CENTS] = 1_000_001 + random.draw() % 1_000_000;
+        if random.percent(50) {
+            row.swap(FIGURES + DEBIT_CENTS, FIGURES + CREDIT_CENTS);
+        }
+    }
+    sheet.spare[0][OWNER] = owner;
+    if let Some((_, least)) = NO_I64.into_iter().find(|(way, _)| *way == how) {
+        let past = if how < 15 { random.below(1_000) as i128 } else { 0 };
+        sheet.put_net(random, owner, least + past * least.signum());
+    }
+    let own = sheet.rows_of(owner);
+    let of = |row: &[u64; WIDTH]| i128::from(row[FIGURES + CREDIT_CENTS]) - i128::from(row[FIGURES + DEBIT_CENTS]);
+    let nobody = sheet.rows.iter().find(|row| !OWNERS.contains(&row[OWNER])).expect("a row of neither");
+    let right = sheet.net(owner);
+    let stated = match how {
+        0 => right + 1,
+        1 => right - 1,
+        2 => -right,
+        3 => right ^ (1 << random.between(32, 63)),
+        4 => right - of(&sheet.rows[own[0]]),
+        5 => right - of(&sheet.rows[own[own.len() - 1]]),
+        6 => right + of(&sheet.spare[0]),
+        7 => right + sheet.net(other(owner)),
+        8 => right + of(nobody),
+        9 => sheet.sum(owner, CREDIT_CENTS) as i128,
+        10 => -(sheet.sum(owner, DEBIT_CENTS) as i128),
+        12 => i128::from(i64::MAX),
+        14 => i128::from(i64::MIN),
+        _ => right, // what 64 bits leave of it
+    };
+    let mut book = sheet.lay();
+    book[net(owner)] = stated as u64;
+    let caller = caller(random);
+    of_kind(random, "net", KINDS[turn / NETS / 2 % KINDS.len()], caller, &sheet, book)
 }
 
 /// The lengths of short tables: none has more than one row.
@@ -296,6 +349,56 @@ pub fn full(random: &mut Random, turn: usize) -> History {
         }
     }
     entering(random, "full", &sheet, paper, owner, None)
+}
+
+/// How a file meets the bound of the net position: to it; a cent beyond; back to it from beyond; back to a cent beyond; out on the way and back;
+/// out with the last letter; nothing, from beyond; from the end of an i64; the other owner's is beyond.
+pub const MEETINGS: usize = 9;
+
+/// A file that would carry a net position beyond its bound, or just does not, on either side.
+pub fn range(random: &mut Random, turn: usize) -> History {
+    let (meeting, owner) = (turn % MEETINGS, OWNERS[turn / MEETINGS % 2]);
+    let side: i128 = [1, -1][turn / MEETINGS / 2 % 2];
+    // How far to this side the letters carry it, all and the first alone.
+    let outward = |letters: &[[u64; SIX]]| side * net_of(sums(letters));
+    let paper = rich_paper(random, if matches!(meeting, 4 | 5) { (2, 4) } else { (1, 3) }, |letters| {
+        let (all, first) = (outward(letters), outward(&letters[..1]));
+        match meeting {
+            2 | 3 => all < 0,
+            4 => 0 < all && all < first,
+            5 => first < all && first > 0,
+            _ => all > 0,
+        }
+    });
+    let paper = if meeting == 6 { empty_letter(random) } else { paper };
+    let bound = side * BOUND;
+    let change = net_of(paper.sums());
+    let before = match meeting {
+        0 | 2 | 4 => bound - change,
+        1 | 3 | 5 => bound - change + side,
+        6 => bound + side * (1 + random.draw() as i128 % BOUND),
+        7 => i128::from(if side > 0 { i64::MAX } else { i64::MIN }),
+        _ => side * (random.draw() as i128 % (BOUND / 2)),
+    };
+    let rows = [random.between(1, 3), random.between(1, 2), random.below(2)];
+    let mut sheet = mixed_sheet(random, owner, rows);
+    sheet.number_plainly();
+    sheet.put_net(random, owner, before);
+    if meeting == MEETINGS - 1 {
+        sheet.put_net(random, other(owner), bound + side);
+    }
+    sheet.spare.resize(paper.letters.len() + random.below(2), [junk(random); WIDTH]);
+    entering(random, "range", &sheet, paper, owner, None)
+}
+
+/// A file that changes no net position.
+fn empty_letter(random: &mut Random) -> Paper {
+    loop {
+        let paper = sound_paper(random, (1, 1));
+        if net_of(paper.sums()) == 0 {
+            return paper;
+        }
+    }
 }
 
 /// A file entered with room for its rows, under this number or a new one.
@@ -453,13 +556,26 @@ pub fn totals(random: &mut Random, turn: usize) -> History {
     history(random, "totals", sheet.lay(), Vec::new(), Call::Totals { owner })
 }
 
-/// All pairs of refusals of which the first is given: BOOK, NOENTRY for the owner, the reader's, DUPLICATE, FULL.
+/// Net positions that a book may hold.
+pub const HELD: [i128; 9] = [0, 1, -1, BOUND, -BOUND, BOUND + 1, -BOUND - 1, i64::MAX as i128, i64::MIN as i128];
+
+/// Totals of an owner with such a net position.
+pub fn held(random: &mut Random, turn: usize) -> History {
+    let (net, owner) = (HELD[turn % HELD.len()], OWNERS[turn / HELD.len() % 2]);
+    let own = random.between(1, 4);
+    let mut sheet = mixed_sheet(random, owner, [own, 1, 1]);
+    sheet.put_net(random, owner, net);
+    history(random, "held", sheet.lay(), Vec::new(), Call::Totals { owner })
+}
+
+/// All pairs of refusals of which the first is given: BOOK, NOENTRY for the owner, the reader's, DUPLICATE, RANGE, FULL.
 pub fn ordered_pairs() -> Vec<(u64, u64)> {
-    let readers: Vec<u64> = REFUSALS.into_iter().chain([ROOM]).collect();
-    let mut pairs = vec![(BOOK, NOENTRY), (BOOK, DUPLICATE), (BOOK, FULL)];
-    pairs.extend([(NOENTRY, DUPLICATE), (NOENTRY, FULL), (DUPLICATE, FULL)]);
-    for number in readers {
-        pairs.extend([(BOOK, number), (NOENTRY, number), (number, DUPLICATE), (number, FULL)]);
+    let ranks: [&[u64]; 6] =
+        [&[BOOK], &[NOENTRY], &[ROOM, 1, 3, 4, 5, 6, 7, 8, 9, 10, 11], &[DUPLICATE], &[RANGE], &[FULL]];
+    let mut pairs = Vec::new();
+    for (rank, firsts) in ranks.iter().enumerate() {
+        let seconds = ranks[rank + 1..].concat();
+        pairs.extend(firsts.iter().flat_map(|first| seconds.iter().map(|second| (*first, *second))));
     }
     pairs
 }
@@ -470,11 +586,19 @@ pub fn order(random: &mut Random, turn: usize) -> History {
     let (first, second) = pairs[turn % pairs.len()];
     let wrong = |number| first == number || second == number;
     let owner = if wrong(NOENTRY) { stranger(random) } else { random.pick(&OWNERS) };
-    let rows = random.between(1, 5);
+    let (rows, more) = (2 + OWNERS.len(), random.below(3));
     let free = if wrong(FULL) { 0 } else { 4 };
-    let mut sheet = Sheet::any(random, rows, free);
-    let row = random.below(rows);
+    let mut sheet = Sheet::any(random, rows + more, free);
+    let row = OWNERS.len() + random.below(2);
     sheet.rows[row][OWNER] = owner;
+    if wrong(RANGE) {
+        // Whatever is entered, and whoever enters it.
+        for (row, owner) in OWNERS.into_iter().enumerate() {
+            sheet.rows[row][OWNER] = owner;
+            let beyond = random.pick(&[1, -1]) * (BOUND + 1 + random.draw() as i128 % BOUND);
+            sheet.put_net(random, owner, beyond);
+        }
+    }
     sheet.number_plainly();
     let paper = match REFUSALS.into_iter().find(|number| wrong(*number)) {
         Some(number) => refused_paper(random, number),
@@ -487,7 +611,7 @@ pub fn order(random: &mut Random, turn: usize) -> History {
     if wrong(BOOK) {
         let figure = total(random.pick(&OWNERS), random.below(SIX));
         match random.below(2) {
-            0 => book[CLAIMED] = (rows + free) as u64 + 1,
+            0 => book[CLAIMED] = (rows + more + free) as u64 + 1,
             _ => book[figure] = another(random, book[figure]),
         }
     }

@@ -85,8 +85,8 @@ fn both_opinions_agree_on_a_sweep() {
         calls.extend([0, 6, 7].map(|file_number| Call::Enter { paper: 0, file_number, owner, rows }));
     }
     // Two entries of owner 1, a row of neither, one entry of owner 2; two rows more.
-    let full = [4, 2, 1, 2, 3, 4, 5, u64::MAX, 0, 1, 6, 5, 4, 3, 2, 1, 0];
-    let entries = [1, 1, 6, 1, 1, 1, 1, 1, 1, 1, 2, 6, 0, 1, 2, 3, 4, u64::MAX - 1];
+    let full = [4, 2, 1, 2, 3, 4, u64::MAX - 4, u64::MAX, 4, 1, 6, 5, 4, 3, 2, 1, u64::MAX];
+    let entries = [1, 1, 6, 1, 1, 1, 1, 1, 1, 1, 2, 6, 0, 1, 2, 3, u64::MAX - 5, u64::MAX - 1];
     let others = [3, 3, 7, 9, 9, 9, 9, 9, 9, 2, 1, 6, 6, 5, 4, 3, 2, 1];
     let one = [&full[..], &entries[..], &others[..], &[0; 20]].concat();
     let mut tables: Vec<Vec<u64>> = (0..=one.len()).map(|length| one[..length].to_vec()).collect();
@@ -136,7 +136,10 @@ fn listed(list: &mut List, papers: &[Paper], call: &Call) -> Vec<u64> {
             Err(number) => refusal(number, FIND_ANSWER),
         },
         Call::Totals { owner } => match list.totals(owner) {
-            Ok((entries, sums)) => [vec![0, entries as u64], sums.map(|sum| sum as u64).to_vec()].concat(),
+            Ok((entries, sums)) => {
+                let net = list.net(owner) as i64 as u64;
+                [vec![0, entries as u64], sums.map(|sum| sum as u64).to_vec(), vec![net]].concat()
+            }
             Err(number) => refusal(number, TOTALS_ANSWER),
         },
     }
@@ -165,6 +168,29 @@ fn a_book_grown_from_an_empty_one_answers_as_the_plain_list() {
         entries += list.entries.len();
     }
     assert!(calls > 20_000 && entries > 5_000, "{calls} calls, {entries} entries");
+}
+
+/// Request 9: after every call on a book, the net position of each owner is the sum over its present entries, and within the bound unless the book
+/// was made by hand.
+#[test]
+fn every_call_keeps_the_net_position() {
+    let mut below = 0;
+    each_call(4_000, |name, _, outcome, [before, after], _| {
+        if outcome.returned == BOOK {
+            return;
+        }
+        for owner in OWNERS {
+            let claimed = after.get(HEAD..).unwrap_or_default().chunks_exact(WIDTH).take(head(after, CLAIMED) as usize);
+            let own = claimed.filter(|row| row[OWNER] == owner);
+            let sum: i128 =
+                own.map(|row| i128::from(row[FIGURES + CREDIT_CENTS]) - i128::from(row[FIGURES + DEBIT_CENTS])).sum();
+            let kept = i128::from(head(after, net(owner)) as i64);
+            assert_eq!(kept, sum, "{name}");
+            assert!(in_range(kept) || head(before, net(owner)) == head(after, net(owner)), "{name}");
+            below += u64::from(kept < 0);
+        }
+    });
+    assert!(below > 3_000, "{below}");
 }
 
 /// Every call of the stream with the tables before and after it, and the row table that was lent.
@@ -205,8 +231,8 @@ fn refusals_change_nothing() {
     assert!(refused > 5_000, "{refused}");
 }
 
-/// Entering writes the rows behind those claimed, as many as there are letters, the rows claimed and seven numbers of the owner's part of the head;
-/// an entry is never altered, nor anything of the other owner.
+/// Entering writes the rows behind those claimed, as many as there are letters, the rows claimed and the owner's part of the head; an entry is never
+/// altered, nor anything of the other owner.
 #[test]
 fn entering_alters_nothing_else() {
     let mut entered = 0;
@@ -218,7 +244,7 @@ fn entering_alters_nothing_else() {
         let (letters, records) = (outcome.answer[5] as usize, outcome.answer[1] as usize);
         let first = row_start(before[CLAIMED] as usize);
         let end = first + WIDTH * letters;
-        let kept = |place: &usize| *place != CLAIMED && !(last(owner)..unused(owner)).contains(place);
+        let kept = |place: &usize| *place != CLAIMED && !(last(owner)..=net(owner)).contains(place);
         assert!((0..first).filter(kept).all(|place| before[place] == after[place]), "{name}");
         assert_eq!(before[end..], after[end..], "{name}");
         assert_eq!(lent[7 * records..], rows[7 * records..], "{name}");
@@ -234,7 +260,7 @@ fn entering_alters_nothing_else() {
     assert!(entered > 3_000, "{entered}");
 }
 
-/// What is not looked at: [8] and [16], all but the owner in a row of neither, rows behind those claimed, numbers behind the last row.
+/// What is not looked at: all but the owner in a row of neither, rows behind those claimed, numbers behind the last row.
 #[test]
 fn numbers_that_are_not_looked_at_change_no_answer() {
     for index in 0..4_000 {
@@ -244,7 +270,7 @@ fn numbers_that_are_not_looked_at_change_no_answer() {
         let mut other = history.book.clone();
         for (place, number) in other.iter_mut().enumerate() {
             let looked_at = match place.checked_sub(HEAD).map(|behind| (behind / WIDTH, behind % WIDTH)) {
-                None => OWNERS.into_iter().all(|owner| unused(owner) != place),
+                None => true,
                 Some((row, column)) if (row as u64) < claimed => {
                     let owner = history.book.get(row_start(row) + OWNER).copied().unwrap_or(0);
                     is_owner(owner) || column == OWNER

@@ -1,4 +1,4 @@
-//! Cases worked out by hand from documents 01 and 02, points 34 to 39 and the layout of the book. Each is put to the book over a table and to the
+//! Cases worked out by hand from documents 01 and 02, points 34 to 40 and the layout of the book. Each is put to the book over a table and to the
 //! second opinion, and what they leave of book and row table is looked at number by number. A case of owner 1 is put for owner 2 as well, on the
 //! table with the two owners exchanged.
 //! With its length a record takes 84 bytes; a 61 takes 88, a 90 takes 89, a 52 without an image 143.
@@ -17,9 +17,18 @@ const AFTER: u64 = 11;
 const DUPLICATE: u64 = 12;
 const FULL: u64 = 13;
 const NOENTRY: u64 = 15;
+const RANGE: u64 = 16;
 const BOOK: u64 = 20;
 
 const MOST: u64 = u64::MAX;
+
+/// The bound of a net position, in cents.
+const BOUND: i64 = 1_000_000_000_000_000_000;
+
+/// A net position as a table and an answer have it.
+fn held(net: i64) -> u64 {
+    net as u64
+}
 
 /// What a row table holds before a call.
 const BEFORE: u64 = 0x5A;
@@ -89,7 +98,7 @@ const READ_ONE: [u64; 12] = [0, 4, 0, 341, 4, 1, 0, 0, 0, 0, 0, 0];
 /// A book of three rows in which the two letters were entered under the number 7. Its last two numbers are behind the last row.
 #[rustfmt::skip]
 const TWO_ENTERED: [u64; 46] = [
-    2, 2, 1, 2, 3, 2, 180, 7_540, 0, 0, 0, 0, 0, 0, 0, 0, 0,
+    2, 2, 1, 2, 3, 2, 180, 7_540, 7_360, 0, 0, 0, 0, 0, 0, 0, 0,
     1, 1, 7, 1, 2, 1, 1, 180, 7_000,
     1, 2, 7, 0, 0, 2, 1, 0, 540,
     0, 0, 0, 0, 0, 0, 0, 0, 0,
@@ -97,13 +106,14 @@ const TWO_ENTERED: [u64; 46] = [
 ];
 
 /// A sound book that no calls have made: four rows, three claimed, all owner 1's; entry numbers 5, 9 and 5; file numbers 30, 31, 31; the last number
-/// is 9. The figures add up to 6, 60, 600, 3, 2^64 - 1, 0. [8] and [16], owner 2's last number, the fourth row and the number behind it are anything.
+/// is 9. The figures add up to 6, 60, 600, 3, 2^64 - 1, 2^64 - 11, so that the net position is -10, or 2^64 - 10 in two's complement. Owner 2's last
+/// number, the fourth row and the number behind it are anything.
 #[rustfmt::skip]
 const STRANGE: [u64; 54] = [
-    3, 9, 6, 60, 600, 3, MOST, 0, 91, 92, 0, 0, 0, 0, 0, 0, 99,
-    1, 5, 30, 1, 10, 100, 1, MOST - 30, 0,
-    1, 9, 31, 2, 20, 200, 1, 10, 0,
-    1, 5, 31, 3, 30, 300, 1, 20, 0,
+    3, 9, 6, 60, 600, 3, MOST, MOST - 10, MOST - 9, 92, 0, 0, 0, 0, 0, 0, 0,
+    1, 5, 30, 1, 10, 100, 1, MOST - 30, MOST - 40,
+    1, 9, 31, 2, 20, 200, 1, 10, 10,
+    1, 5, 31, 3, 30, 300, 1, 20, 20,
     8, 7, 32, 4, 40, 400, 1, 1, 1,
     77,
 ];
@@ -112,7 +122,7 @@ const STRANGE: [u64; 54] = [
 /// 7 too; then a row of neither, with figures; the fifth row is free.
 #[rustfmt::skip]
 const BOTH: [u64; 62] = [
-    4, 2, 1, 2, 3, 2, 180, 7_540, 0, 1, 0, 0, 0, 0, 0, 0, 0,
+    4, 2, 1, 2, 3, 2, 180, 7_540, 7_360, 1, 0, 0, 0, 0, 0, 0, 0,
     1, 1, 7, 1, 2, 1, 1, 180, 7_000,
     2, 1, 7, 0, 0, 0, 0, 0, 0,
     1, 2, 7, 0, 0, 2, 1, 0, 540,
@@ -212,13 +222,13 @@ fn finds_none(book: &[u64], number: u64) {
 }
 
 #[track_caller]
-fn totals_for(owner: u64, book: &[u64], totals: [u64; 8]) {
+fn totals_for(owner: u64, book: &[u64], totals: [u64; 9]) {
     assert_eq!(table::totals(book, owner), totals);
     assert_eq!(opinion::totals(book, owner), totals, "the second opinion");
 }
 
 #[track_caller]
-fn totals(book: &[u64], totals: [u64; 8]) {
+fn totals(book: &[u64], totals: [u64; 9]) {
     totals_for(1, book, totals);
     totals_for(2, &exchanged(book), totals);
 }
@@ -255,7 +265,7 @@ fn a_book(book: &[u64]) {
 #[test]
 fn a_table_of_zeros_is_an_empty_book() {
     let empty = [0; 46];
-    totals(&empty, [0, 0, 0, 0, 0, 0, 0, 0]);
+    totals(&empty, [0, 0, 0, 0, 0, 0, 0, 0, 0]);
     [0, 1, 2, MOST].into_iter().for_each(|number| finds_none(&empty, number));
 }
 
@@ -265,7 +275,7 @@ fn two_letters_are_entered() {
     finds(&TWO_ENTERED, 1, [0, 1, 7, 1, 2, 1, 1, 180, 7_000]);
     finds(&TWO_ENTERED, 2, [0, 2, 7, 0, 0, 2, 1, 0, 540]);
     [0, 3, 7, MOST, 1 << 32 | 1].into_iter().for_each(|number| finds_none(&TWO_ENTERED, number));
-    totals(&TWO_ENTERED, [0, 2, 1, 2, 3, 2, 180, 7_540]);
+    totals(&TWO_ENTERED, [0, 2, 1, 2, 3, 2, 180, 7_540, 7_360]);
 }
 
 #[test]
@@ -292,7 +302,7 @@ fn a_day() {
     assert_eq!(left, book);
     finds(&book, 1, [0, 1, 7, 1, 2, 1, 1, 180, 7_000]);
     finds(&book, 3, [0, 3, 8, 0, 0, 0, 0, 0, 0]);
-    totals(&book, [0, 3, 1, 2, 3, 2, 180, 7_540]);
+    totals(&book, [0, 3, 1, 2, 3, 2, 180, 7_540, 7_360]);
     refuses(&one_letter(), 9, 28, &book, FULL);
     refuses(&one_letter(), 8, 28, &book, DUPLICATE);
     finds_none(&book, 4);
@@ -425,33 +435,34 @@ fn a_sum_past_64_bits_is_no_running_total() {
         wrapped[6] = 0;
         no_book(&wrapped);
     }
-    // Two rows of 2^63 are 2^64; and 2^63 and 2^63 - 1 are a running total.
-    for place in 3..9 {
+    // Two rows of 2^63 are 2^64; and 2^63 and 2^63 - 1 are a running total. Cents stand in both columns, so that the net position is 0.
+    for places in [vec![3], vec![4], vec![5], vec![6], vec![7, 8]] {
         let half = 1 << 63;
-        let two = with([0; 35], &[(0, 2), (17, 1), (26, 1), (17 + place, half), (26 + place, half)]);
+        let mut two = with([0; 35], &[(0, 2), (17, 1), (26, 1)]);
+        places.iter().for_each(|place| (two[17 + place], two[26 + place]) = (half, half));
         no_book(&two);
-        let mut less = two;
-        (less[place - 1], less[26 + place]) = (MOST, half - 1);
-        a_book(&less);
-        totals(&less, with([0, 2, 0, 0, 0, 0, 0, 0], &[(place - 1, MOST)]).try_into().expect("eight"));
+        let mut sums = [0, 2, 0, 0, 0, 0, 0, 0, 0];
+        places.iter().for_each(|place| (two[place - 1], two[26 + place], sums[place - 1]) = (MOST, half - 1, MOST));
+        a_book(&two);
+        totals(&two, sums);
     }
 }
 
 // ---- what is not looked at ----
 
 #[test]
-fn the_last_numbers_and_the_unused_ones_are_not_judged() {
-    for place in [1, 8, 9, 16] {
+fn the_last_numbers_are_not_judged() {
+    for place in [1, 9] {
         [1, 4_711, MOST].into_iter().for_each(|number| a_book(&with(TWO_ENTERED, &[(place, number)])));
     }
-    let odd = with(TWO_ENTERED, &[(8, MOST), (9, 5), (16, 3)]);
+    let odd = with(TWO_ENTERED, &[(9, 5)]);
     finds(&odd, 1, [0, 1, 7, 1, 2, 1, 1, 180, 7_000]);
-    totals(&odd, [0, 2, 1, 2, 3, 2, 180, 7_540]);
+    totals(&odd, [0, 2, 1, 2, 3, 2, 180, 7_540, 7_360]);
     refuses(&one_letter(), 7, 28, &odd, DUPLICATE);
-    // Entering leaves them as they are.
+    // Entering leaves the other owner's as it is.
     let (answer, _, left) = entering(&one_letter(), 9, 28, &odd);
     assert_eq!(answer[12], 3);
-    let places = [(8, MOST), (9, 5), (16, 3), (0, 3), (1, 3), (35, 1), (36, 3), (37, 9)];
+    let places = [(9, 5), (0, 3), (1, 3), (35, 1), (36, 3), (37, 9)];
     assert_eq!(left, with(TWO_ENTERED, &places));
 }
 
@@ -461,7 +472,7 @@ fn rows_behind_those_claimed_are_not_there() {
     let row = [(35, 1), (36, 3), (37, 9), (38, 1), (39, 1), (40, 1), (41, 1), (42, 1), (43, 1), (44, 50), (45, 51)];
     let book = with(TWO_ENTERED, &row);
     finds_none(&book, 3);
-    totals(&book, [0, 2, 1, 2, 3, 2, 180, 7_540]);
+    totals(&book, [0, 2, 1, 2, 3, 2, 180, 7_540, 7_360]);
     let (answer, _, left) = entering(&one_letter(), 9, 28, &book);
     assert_eq!(answer[12], 3);
     let entered = [(0, 3), (1, 3), (35, 1), (36, 3), (37, 9), (44, 50), (45, 51)];
@@ -477,7 +488,7 @@ fn rows_behind_those_claimed_are_not_there() {
 fn a_table_without_a_whole_row_is_a_full_book() {
     for length in 0..26 {
         let zeros = vec![0; length];
-        totals(&zeros, [0; 8]);
+        totals(&zeros, [0; 9]);
         [0, 1, MOST].into_iter().for_each(|number| finds_none(&zeros, number));
         refuses(&one_letter(), 0, 28, &zeros, FULL);
         refuses(&two_letters(), 1, 119, &zeros, FULL);
@@ -493,7 +504,7 @@ fn a_table_without_a_whole_row_is_a_full_book() {
 /// A number that is there is judged, one that is lacking counts as 0: a table that ends with it, and one number shorter.
 #[test]
 fn numbers_that_a_short_table_lacks_count_as_0() {
-    for place in [0].into_iter().chain(2..8).chain(10..16) {
+    for place in [0].into_iter().chain(2..9).chain(10..17) {
         for length in place + 1..26 {
             let mut book = vec![0; length];
             book[place] = 1;
@@ -501,7 +512,7 @@ fn numbers_that_a_short_table_lacks_count_as_0() {
         }
         a_book(&vec![0; place]);
     }
-    for place in [1, 8, 9].into_iter().chain(16..26) {
+    for place in [1, 9].into_iter().chain(17..26) {
         for length in place + 1..30 {
             let mut book = vec![0; length];
             book[place] = MOST;
@@ -518,18 +529,18 @@ fn numbers_that_a_short_table_lacks_count_as_0() {
 
 #[test]
 fn the_first_row_with_the_number_is_found() {
-    finds(&STRANGE, 5, [0, 5, 30, 1, 10, 100, 1, MOST - 30, 0]);
-    finds(&STRANGE, 9, [0, 9, 31, 2, 20, 200, 1, 10, 0]);
+    finds(&STRANGE, 5, [0, 5, 30, 1, 10, 100, 1, MOST - 30, MOST - 40]);
+    finds(&STRANGE, 9, [0, 9, 31, 2, 20, 200, 1, 10, 10]);
     // 7 stands in the row that is not claimed.
     [0, 1, 6, 7, 10, 30, 1 << 32 | 5].into_iter().for_each(|number| finds_none(&STRANGE, number));
-    totals(&STRANGE, [0, 3, 6, 60, 600, 3, MOST, 0]);
+    totals(&STRANGE, [0, 3, 6, 60, 600, 3, MOST, MOST - 10, MOST - 9]);
     // With other numbers in the rows: 0 and 2^64 - 1 are numbers like any other.
     let others = with(STRANGE, &[(18, 8), (27, 0), (36, MOST)]);
-    finds(&others, 0, [0, 0, 31, 2, 20, 200, 1, 10, 0]);
-    finds(&others, MOST, [0, MOST, 31, 3, 30, 300, 1, 20, 0]);
+    finds(&others, 0, [0, 0, 31, 2, 20, 200, 1, 10, 10]);
+    finds(&others, MOST, [0, MOST, 31, 3, 30, 300, 1, 20, 20]);
     finds_none(&others, 5);
     let doubled = with(STRANGE, &[(18, 0), (27, 5), (36, 5)]);
-    finds(&doubled, 5, [0, 5, 31, 2, 20, 200, 1, 10, 0]);
+    finds(&doubled, 5, [0, 5, 31, 2, 20, 200, 1, 10, 10]);
     finds_none(&doubled, 9);
 }
 
@@ -564,11 +575,19 @@ fn more_letters_than_free_rows() {
     assert_eq!(entering(&one_letter(), 8, 28, &TWO_ENTERED[..44]).0[12], 3);
 }
 
-/// A book of one row with a figure, and room for two more.
+/// How far apart debit and credit cents stand in a book at the brim.
+const APART: u64 = 100_000;
+
+/// A book of one row with a figure, and room for two more. Of cents, the others stand a little below, so that the net position is small.
 fn brimming(figure: usize, total: u64) -> [u64; 44] {
     let mut book = [0; 44];
     (book[0], book[1], book[2 + figure]) = (1, 1, total);
     (book[17], book[18], book[19], book[20 + figure]) = (1, 1, 6, total);
+    match figure {
+        4 => (book[7], book[25], book[8]) = (total - APART, total - APART, held(-100_000)),
+        5 => (book[6], book[24], book[8]) = (total - APART, total - APART, APART),
+        _ => {}
+    }
     book
 }
 
@@ -581,8 +600,13 @@ fn a_running_total_beyond_64_bits() {
         let book = brimming(figure, MOST - sum);
         let (answer, _, left) = entering(&two_letters(), 7, 119, &book);
         assert_eq!((answer[0], answer[12]), (0, 2));
-        let mut head = [3, 3, 1, 2, 3, 2, 180, 7_540, 0, 0, 0, 0, 0, 0, 0, 0, 0];
+        let mut head = [3, 3, 1, 2, 3, 2, 180, 7_540, 7_360, 0, 0, 0, 0, 0, 0, 0, 0];
         head[2 + figure] = MOST;
+        match figure {
+            4 => (head[7], head[8]) = (MOST - 180 - APART + 7_540, held(-100_000 + 7_360)),
+            5 => (head[6], head[8]) = (MOST - 7_540 - APART + 180, APART + 7_360),
+            _ => {}
+        }
         assert_eq!(left[..17], head);
         assert_eq!(left[17..26], book[17..26]);
         assert_eq!(left[26..], [1, 2, 7, 1, 2, 1, 1, 180, 7_000, 1, 3, 7, 0, 0, 2, 1, 0, 540]);
@@ -618,8 +642,8 @@ fn an_entry_number_beyond_64_bits() {
 #[test]
 fn two_bureaus_in_one_book() {
     a_book(&BOTH);
-    totals_for(1, &BOTH, [0, 2, 1, 2, 3, 2, 180, 7_540]);
-    totals_for(2, &BOTH, [0, 1, 0, 0, 0, 0, 0, 0]);
+    totals_for(1, &BOTH, [0, 2, 1, 2, 3, 2, 180, 7_540, 7_360]);
+    totals_for(2, &BOTH, [0, 1, 0, 0, 0, 0, 0, 0, 0]);
     // Both have an entry 1, each its own; the other's 2 is none of owner 2's.
     finds_for(1, &BOTH, 1, [0, 1, 7, 1, 2, 1, 1, 180, 7_000]);
     finds_for(2, &BOTH, 1, [0, 1, 7, 0, 0, 0, 0, 0, 0]);
@@ -644,11 +668,11 @@ fn the_same_file_for_both() {
     let (answer, rows, left) = entering_for(2, &two_letters(), 7, 119, &longer);
     assert_eq!((&answer[..12], answer[12]), (&READ_TWO[..], 1));
     assert_eq!(rows, ROWS_OF_TWO);
-    let head = [4, 2, 1, 2, 3, 2, 180, 7_540, 0, 2, 1, 2, 3, 2, 180, 7_540, 0];
+    let head = [4, 2, 1, 2, 3, 2, 180, 7_540, 7_360, 2, 1, 2, 3, 2, 180, 7_540, 7_360];
     let second = [2, 1, 7, 1, 2, 1, 1, 180, 7_000, 2, 2, 7, 0, 0, 2, 1, 0, 540];
     assert_eq!(left, [&head[..], &TWO_ENTERED[17..35], &second].concat());
     for owner in [1, 2] {
-        totals_for(owner, &left, [0, 2, 1, 2, 3, 2, 180, 7_540]);
+        totals_for(owner, &left, [0, 2, 1, 2, 3, 2, 180, 7_540, 7_360]);
         finds_for(owner, &left, 2, [0, 2, 7, 0, 0, 2, 1, 0, 540]);
         finds_for(owner, &left, 3, alone(NOENTRY));
         assert_eq!(entering_for(owner, &one_letter(), 7, 28, &left).0, alone(DUPLICATE));
@@ -690,7 +714,7 @@ fn an_owner_other_than_1_or_2_is_noentry_straight_after_book() {
 
 #[test]
 fn either_owners_running_totals_are_judged_in_every_call() {
-    for place in (2..8).chain(10..16) {
+    for place in (2..9).chain(10..17) {
         no_book(&with(BOTH, &[(place, BOTH[place] + 1)]));
         no_book(&with(BOTH, &[(place, BOTH[place] ^ 1 << 63)]));
     }
@@ -713,12 +737,12 @@ fn a_row_that_is_anothers() {
     // Owner 2's letter has nothing in it, so that it may change hands.
     for owner in [0, 3, MOST] {
         let book = with(BOTH, &[(26, owner)]);
-        totals_for(2, &book, [0, 0, 0, 0, 0, 0, 0, 0]);
+        totals_for(2, &book, [0, 0, 0, 0, 0, 0, 0, 0, 0]);
         finds_for(2, &book, 1, alone(NOENTRY));
         assert_eq!(entering_for(2, &one_letter(), 7, 28, &book).0[12], 2);
     }
     let book = with(BOTH, &[(26, 1), (18, 5)]);
-    totals_for(1, &book, [0, 3, 1, 2, 3, 2, 180, 7_540]);
+    totals_for(1, &book, [0, 3, 1, 2, 3, 2, 180, 7_540, 7_360]);
     finds_for(1, &book, 1, [0, 1, 7, 0, 0, 0, 0, 0, 0]);
 }
 
@@ -742,10 +766,175 @@ fn the_brim_is_each_owners_own() {
 #[test]
 fn rows_of_neither_take_room() {
     let zeros = with([0; 35], &[(0, 2)]);
-    totals(&zeros, [0; 8]);
+    totals(&zeros, [0; 9]);
     [0, 1].into_iter().for_each(|number| finds_none(&zeros, number));
     refuses(&one_letter(), 7, 28, &zeros, FULL);
     assert_eq!(entering(&one_letter(), 0, 28, &with([0; 35], &[(0, 1)])).0[12], 1);
+}
+
+// ---- the net position ----
+
+/// Three rows, one claimed: owner 1's, of entry 1 and file number 6, with these debit and credit cents.
+fn with_cents(debit: u64, credit: u64) -> [u64; 44] {
+    let mut book = [0; 44];
+    (book[0], book[1], book[6], book[7], book[8]) = (1, 1, debit, credit, credit.wrapping_sub(debit));
+    (book[17], book[18], book[19], book[24], book[25]) = (1, 1, 6, debit, credit);
+    book
+}
+
+/// The same with this net position.
+fn with_net(net: i64) -> [u64; 44] {
+    if net < 0 {
+        with_cents(net.unsigned_abs(), 0)
+    } else {
+        with_cents(0, net.unsigned_abs())
+    }
+}
+
+/// A file of letters with nothing but one 61 each directly in them: usage and cents. Usage 9 is a debit, 1 a credit.
+fn file_of(letters: &[(char, u64)]) -> Vec<u8> {
+    let mut records = vec![file_header()];
+    let (mut debits, mut credits) = (0, 0);
+    for (usage, cents) in letters {
+        records.extend([letter_header('N'), credit(*usage, *cents)]);
+        match usage {
+            '9' => {
+                debits += cents;
+                records.push(letter_sums(0, (1, *cents), 0, (0, 0)));
+            }
+            _ => {
+                credits += cents;
+                records.push(letter_sums(0, (0, 0), 0, (1, *cents)));
+            }
+        }
+    }
+    let count = letters.len() as u64;
+    records.push(file_sums(count, 3 * count + 2, count, debits, credits));
+    file(&records)
+}
+
+/// Entering such a file ends with this net position.
+#[track_caller]
+fn carries(letters: &[(char, u64)], from: i64, to: i64) {
+    let (answer, _, left) = entering(&file_of(letters), 7, 700, &with_net(from));
+    assert_eq!((answer[0], answer[12]), (0, 2));
+    assert_eq!(left[8], held(to));
+    assert_eq!(table::totals(&left, 1)[8], held(to));
+}
+
+/// Entering such a file is RANGE.
+#[track_caller]
+fn carries_too_far(letters: &[(char, u64)], from: i64) {
+    refuses(&file_of(letters), 7, 700, &with_net(from), RANGE);
+}
+
+#[test]
+fn the_net_position_is_credits_less_debits() {
+    totals(&with_net(5), [0, 1, 0, 0, 0, 0, 0, 5, 5]);
+    totals(&with_net(-5), [0, 1, 0, 0, 0, 0, 5, 0, MOST - 4]);
+    totals(&with_cents(MOST, MOST), [0, 1, 0, 0, 0, 0, MOST, MOST, 0]);
+    totals(&with_cents(MOST, MOST - 1), [0, 1, 0, 0, 0, 0, MOST, MOST - 1, MOST]);
+    // From above 0 to below, and back.
+    carries(&[('9', 180)], 100, -80);
+    carries(&[('1', 180)], -100, 80);
+    carries(&[('9', 100)], 100, 0);
+    // It is each owner's own.
+    let book = with(TWO_ENTERED, &[]);
+    let (answer, _, left) = entering_for(2, &file_of(&[('9', 30)]), 7, 700, &book);
+    assert_eq!(answer[12], 1);
+    assert_eq!((left[8], left[16]), (7_360, held(-30)));
+    totals_for(2, &left, [0, 1, 0, 1, 0, 0, 30, 0, held(-30)]);
+    totals_for(1, &left, [0, 2, 1, 2, 3, 2, 180, 7_540, 7_360]);
+}
+
+#[test]
+fn exactly_the_bound_is_allowed_and_a_cent_more_is_not() {
+    carries(&[('1', 180)], BOUND - 180, BOUND);
+    carries_too_far(&[('1', 180)], BOUND - 179);
+    carries_too_far(&[('1', 1)], BOUND);
+    carries(&[('9', 180)], 180 - BOUND, -BOUND);
+    carries_too_far(&[('9', 180)], 179 - BOUND);
+    carries_too_far(&[('9', 1)], -BOUND);
+    // The letters together: 180 less 80.
+    carries(&[('1', 180), ('9', 80)], BOUND - 100, BOUND);
+    // Two letters of which the second is one too many.
+    carries(&[('1', 100), ('1', 80)], BOUND - 180, BOUND);
+    carries_too_far(&[('1', 100), ('1', 80)], BOUND - 179);
+    // A letter without anything is entered at the bound.
+    assert_eq!(entering(&one_letter(), 7, 28, &with_net(BOUND)).0[12], 2);
+    assert_eq!(entering(&one_letter(), 7, 28, &with_net(-BOUND)).0[12], 2);
+}
+
+#[test]
+fn out_on_the_way_and_back_within_one_file() {
+    carries(&[('1', 500), ('9', 500)], BOUND, BOUND);
+    carries(&[('1', 500), ('9', 501)], BOUND, BOUND - 1);
+    carries(&[('9', 500), ('1', 500)], -BOUND, -BOUND);
+    carries_too_far(&[('1', 501), ('9', 500)], BOUND);
+    carries_too_far(&[('9', 501), ('1', 500)], -BOUND);
+}
+
+/// Whatever it was before: from beyond the bound a file is judged by where it ends.
+#[test]
+fn a_net_position_beyond_the_bound() {
+    a_book(&with_net(BOUND + 1));
+    totals(&with_net(BOUND + 1), [0, 1, 0, 0, 0, 0, 0, held(BOUND + 1), held(BOUND + 1)]);
+    refuses(&one_letter(), 7, 28, &with_net(BOUND + 1), RANGE);
+    refuses(&one_letter(), 7, 28, &with_net(-BOUND - 1), RANGE);
+    carries(&[('9', 1)], BOUND + 1, BOUND);
+    carries_too_far(&[('9', 1)], BOUND + 2);
+    carries(&[('1', 1)], -BOUND - 1, -BOUND);
+    carries_too_far(&[('1', 1)], -BOUND - 2);
+    for net in [i64::MAX, i64::MIN] {
+        a_book(&with_net(net));
+        assert_eq!(table::totals(&with_net(net), 1)[8], held(net));
+        carries_too_far(&[('1', 99)], net);
+        carries_too_far(&[('9', 99)], net);
+    }
+    // The other owner is not kept from entering.
+    assert_eq!(entering_for(2, &one_letter(), 7, 28, &with_net(i64::MIN)).0[12], 1);
+}
+
+#[test]
+fn a_net_position_that_is_not_the_sum_is_no_book() {
+    for place in [8, 16] {
+        for number in [1, 7_359, 7_361, held(-7_360), 7_540, 180, held(-180), MOST, 1 << 63] {
+            no_book(&with(TWO_ENTERED, &[(place, number)]));
+        }
+    }
+    no_book(&with(TWO_ENTERED, &[(8, 0)]));
+    // A sum that no i64 holds is none, whatever stands there: 2^63, 2^64 - 1, -2^63 - 1.
+    for (debit, credit) in [(0, 1 << 63), (0, MOST), (1, 1 << 63 | 2), (1 << 63 | 1, 0), (MOST, 0), (MOST, 3)] {
+        let book = with_cents(debit, credit);
+        no_book(&book);
+        for number in [0, held(i64::MAX), held(i64::MIN), credit, debit] {
+            no_book(&with(book, &[(8, number)]));
+        }
+    }
+    // And these an i64 holds: 2^63 - 1 and -2^63.
+    a_book(&with_cents(1, 1 << 63));
+    a_book(&with_cents(1 << 63, 0));
+    a_book(&with_cents(MOST, 1 << 63));
+    no_book(&with_cents(MOST, (1 << 63) - 2));
+}
+
+#[test]
+fn range_comes_after_duplicate_and_before_full() {
+    let beyond = with_net(BOUND);
+    let more = file_of(&[('1', 1)]);
+    refuses(&more, 6, 700, &beyond, DUPLICATE);
+    refuses(&more, 7, 700, &beyond, RANGE);
+    assert_eq!(entering(&more, 7, 1, &beyond).0[..2], [ROOM, 5]);
+    // No row is free, the last number is the last of all, a running total passes 64 bits.
+    refuses(&more, 7, 700, &beyond[..26], RANGE);
+    refuses(&file_of(&[('9', 0)]), 7, 700, &beyond[..26], FULL);
+    refuses(&more, 7, 700, &with(beyond, &[(1, MOST)]), RANGE);
+    let both = with_cents(MOST - BOUND as u64 - 1, MOST);
+    refuses(&more, 7, 700, &both, RANGE);
+    refuses(&file_of(&[('9', 1), ('1', 1)]), 7, 700, &both, RANGE);
+    refuses(&file_of(&[('9', 2), ('1', 1)]), 7, 700, &both, FULL);
+    refuses(&more, 7, 700, &with(beyond, &[(0, 4)]), BOOK);
+    assert_eq!(entering_for(3, &more, 7, 700, &beyond).0, alone(NOENTRY));
 }
 
 // ---- numbering ----
@@ -762,7 +951,7 @@ fn numbers_go_on_from_the_last_one_given() {
     let (answer, _, left) = entering(&one_letter(), 8, 28, &again);
     assert_eq!((answer[0], answer[12]), (0, 1));
     finds(&left, 1, [0, 1, 7, 1, 2, 1, 1, 180, 7_000]);
-    totals(&left, [0, 3, 1, 2, 3, 2, 180, 7_540]);
+    totals(&left, [0, 3, 1, 2, 3, 2, 180, 7_540, 7_360]);
     // A book without an entry whose last number is 9: nothing is found, and 10 is next.
     let none = with([0; 46], &[(1, 9)]);
     finds_none(&none, 9);

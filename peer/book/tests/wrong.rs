@@ -27,8 +27,38 @@ enum Slip {
     HeadOfEight,
     ShortIsNoBook,
     ShortIsNotJudged,
-    UnusedMustBeZero,
-    UnusedMadeZero,
+    NetNotJudged,
+    NetNotJudgedOf(u64),
+    NetTurned,
+    NetAbsolute,
+    NetWraps,
+    NetStopsAtTheMost,
+    NetOfBoth,
+    NetOfTheLastRow,
+    NetBeyondTheBoundIsNoBook,
+    NetNotKept,
+    NetKeptTurned,
+    NetKeptByCreditsAlone,
+    NetOfTheFirstLetterKept,
+    NetNotTold,
+    NetToldAbsolute,
+    RangeNotJudged,
+    RangeAtTheBound,
+    RangeACentMore,
+    RangeAboveAlone,
+    RangeBelowAlone,
+    RangeLetterByLetter,
+    RangeOfEachLetterAlone,
+    RangeOfTheChange,
+    RangeOnlyOutward,
+    RangeOnlyFromWithin,
+    RangeOfTheOther,
+    RangeOfBoth,
+    RangeOfTheFirstOwnerAlone,
+    RangeBeforeReader,
+    RangeBeforeRoom,
+    RangeBeforeDuplicate,
+    RangeAfterFull,
     LastMustBeRows,
     ReaderBeforeBook,
     RoomBeforeBook,
@@ -212,6 +242,64 @@ impl Wrong {
         self.is(Slip::TotalLeftOut(owner, figure)) || sum(self.0, figures) == Some(stated)
     }
 
+    fn net_at(&self, owner: u64) -> usize {
+        net(self.part(owner))
+    }
+
+    /// The net position that is stated, by the slip.
+    fn net(&self, book: &[u64], owner: u64) -> i128 {
+        i128::from(head(book, self.net_at(owner)) as i64)
+    }
+
+    /// Whether a net position is taken to be right.
+    fn net_is_right(&self, book: &[u64], owner: u64) -> bool {
+        let rows = (0..self.claimed(book)).filter(|row| {
+            self.is_own(book, *row, owner) || (self.is(Slip::NetOfBoth) && self.is_own(book, *row, other(owner)))
+        });
+        let cents = |row: u64, figure: usize| i128::from(self.cell(book, row, FIGURES + figure));
+        let own = |row: u64| cents(row, CREDIT_CENTS) - cents(row, DEBIT_CENTS);
+        let (stated, last) = (self.net(book, owner), rows.clone().next_back().map_or(0, own));
+        let sum: i128 = rows.map(own).sum();
+        match self.0 {
+            Slip::NetNotJudged => true,
+            Slip::NetNotJudgedOf(whose) if whose == owner => true,
+            Slip::NetTurned => stated == -sum,
+            Slip::NetAbsolute => stated == sum.abs(),
+            Slip::NetWraps | Slip::BookOfBothTogether => stated == i128::from(sum as i64),
+            Slip::NetStopsAtTheMost => stated == sum.clamp(i64::MIN.into(), i64::MAX.into()),
+            Slip::NetOfTheLastRow => stated == last,
+            Slip::NetBeyondTheBoundIsNoBook => stated == sum && in_range(sum),
+            _ => stated == sum,
+        }
+    }
+
+    /// Whether the letters would carry the net position too far, by the slip.
+    fn is_out_of_range(&self, paper: &Paper, owner: u64, book: &[u64]) -> bool {
+        let of = |letters: &[Figures]| net_of(peer_book::paper::sums(letters));
+        let change = of(&paper.letters);
+        let before = match self.0 {
+            Slip::RangeOfTheOther => self.net(book, other(owner)),
+            Slip::RangeOfBoth => self.net(book, 1) + self.net(book, 2),
+            Slip::RangeOfTheChange => 0,
+            _ => self.net(book, owner),
+        };
+        let after = before + change;
+        let on_the_way = |count: usize| before + of(&paper.letters[..count]);
+        match self.0 {
+            Slip::RangeNotJudged => false,
+            Slip::RangeAtTheBound => after.abs() >= BOUND,
+            Slip::RangeACentMore => after.abs() > BOUND + 1,
+            Slip::RangeAboveAlone => after > BOUND,
+            Slip::RangeBelowAlone => after < -BOUND,
+            Slip::RangeLetterByLetter => (1..=paper.letters.len()).any(|count| !in_range(on_the_way(count))),
+            Slip::RangeOfEachLetterAlone => paper.letters.iter().any(|letter| !in_range(before + of(&[*letter]))),
+            Slip::RangeOnlyOutward => !in_range(after) && after.abs() > before.abs(),
+            Slip::RangeOnlyFromWithin => !in_range(after) && in_range(before),
+            Slip::RangeOfTheFirstOwnerAlone => !in_range(after) && owner == 1,
+            _ => !in_range(after),
+        }
+    }
+
     fn is_book(&self, book: &[u64], caller: u64) -> bool {
         if book.len() < HEAD && (self.is(Slip::ShortIsNoBook) || self.is(Slip::ShortIsNotJudged)) {
             return self.is(Slip::ShortIsNotJudged);
@@ -222,15 +310,15 @@ impl Wrong {
             Slip::BookOfTheSecondOwnerAlone => *owner == 2,
             _ => true,
         };
-        let totals_are_right = |owner: u64| (0..SIX).all(|figure| self.total_is_right(book, owner, figure));
+        let totals_are_right = |owner: u64| {
+            (0..SIX).all(|figure| self.total_is_right(book, owner, figure)) && self.net_is_right(book, owner)
+        };
         let known = |row| !self.is(Slip::NeitherIsNoBook) || is_owner(self.cell(book, row, OWNER));
-        let unused_is_right = [8, 16].iter().all(|place| head(book, *place) == 0) || !self.is(Slip::UnusedMustBeZero);
         let lasts = head(book, last(1)).wrapping_add(head(book, last(2)));
         let last_is_right = lasts == self.claimed(book) || !self.is(Slip::LastMustBeRows);
         self.claim_fits(book)
             && OWNERS.into_iter().filter(judged).all(totals_are_right)
             && (0..self.claimed(book)).all(known)
-            && unused_is_right
             && last_is_right
     }
 
@@ -298,17 +386,22 @@ impl Wrong {
         let for_room = (read, read == ROOM);
         let duplicate = (DUPLICATE, self.is_duplicate(book, self.taken_for(owner).unwrap_or(owner), file_number));
         let full = (FULL, (read == ROOM || read == ACCEPTED) && self.is_full(paper, like, book));
+        let range = (RANGE, self.is_out_of_range(paper, like, book));
         let order = match self.0 {
-            Slip::ReaderBeforeBook => [by_reader, no_book, nobody, for_room, duplicate, full],
-            Slip::RoomBeforeBook => [for_room, no_book, nobody, by_reader, duplicate, full],
-            Slip::OwnerBeforeBook => [nobody, no_book, by_reader, for_room, duplicate, full],
-            Slip::OwnerAfterReader => [no_book, by_reader, for_room, nobody, duplicate, full],
-            Slip::OwnerAfterDuplicate => [no_book, duplicate, nobody, by_reader, for_room, full],
-            Slip::DuplicateBeforeReader => [no_book, nobody, duplicate, by_reader, for_room, full],
-            Slip::DuplicateBeforeRoom => [no_book, nobody, by_reader, duplicate, for_room, full],
-            Slip::FullBeforeDuplicate => [no_book, nobody, by_reader, for_room, full, duplicate],
-            Slip::FullBeforeRoom => [no_book, nobody, by_reader, full, for_room, duplicate],
-            _ => [no_book, nobody, by_reader, for_room, duplicate, full],
+            Slip::ReaderBeforeBook => [by_reader, no_book, nobody, for_room, duplicate, range, full],
+            Slip::RoomBeforeBook => [for_room, no_book, nobody, by_reader, duplicate, range, full],
+            Slip::OwnerBeforeBook => [nobody, no_book, by_reader, for_room, duplicate, range, full],
+            Slip::OwnerAfterReader => [no_book, by_reader, for_room, nobody, duplicate, range, full],
+            Slip::OwnerAfterDuplicate => [no_book, duplicate, nobody, by_reader, for_room, range, full],
+            Slip::DuplicateBeforeReader => [no_book, nobody, duplicate, by_reader, for_room, range, full],
+            Slip::DuplicateBeforeRoom => [no_book, nobody, by_reader, duplicate, for_room, range, full],
+            Slip::FullBeforeDuplicate => [no_book, nobody, by_reader, for_room, full, duplicate, range],
+            Slip::FullBeforeRoom => [no_book, nobody, by_reader, full, for_room, duplicate, range],
+            Slip::RangeBeforeReader => [no_book, nobody, range, by_reader, for_room, duplicate, full],
+            Slip::RangeBeforeRoom => [no_book, nobody, by_reader, range, for_room, duplicate, full],
+            Slip::RangeBeforeDuplicate => [no_book, nobody, by_reader, for_room, range, duplicate, full],
+            Slip::RangeAfterFull => [no_book, nobody, by_reader, for_room, duplicate, full, range],
+            _ => [no_book, nobody, by_reader, for_room, duplicate, range, full],
         };
         order.into_iter().find(|(_, due)| *due).map(|(number, _)| number)
     }
@@ -335,10 +428,8 @@ impl Wrong {
     }
 
     fn spoil(&self, book: &mut [u64]) {
-        match self.0 {
-            Slip::UnusedMadeZero => [8, 16].iter().for_each(|place| book[*place] = 0),
-            Slip::OwnersOverwritten => (0..book[CLAIMED] as usize).for_each(|row| book[row_start(row) + OWNER] |= 1),
-            _ => {}
+        if self.is(Slip::OwnersOverwritten) {
+            (0..book[CLAIMED] as usize).for_each(|row| book[row_start(row) + OWNER] |= 1);
         }
     }
 
@@ -350,6 +441,20 @@ impl Wrong {
             Slip::NumbersAboveBoth => head(book, last(1)).max(head(book, last(2))).wrapping_add(1),
             _ => last_given.wrapping_add(1),
         }
+    }
+
+    /// Moves the net position on by a letter, the first of its file or not.
+    fn add_net(&self, owner: u64, figures: &Figures, first: bool, book: &mut [u64]) {
+        let (debit, credit) = (figures[DEBIT_CENTS], figures[CREDIT_CENTS]);
+        let change = match self.0 {
+            Slip::NetNotKept => 0,
+            Slip::NetKeptTurned => debit.wrapping_sub(credit),
+            Slip::NetKeptByCreditsAlone => credit,
+            Slip::NetOfTheFirstLetterKept if !first => 0,
+            _ => credit.wrapping_sub(debit),
+        };
+        let place = self.net_at(owner);
+        book[place] = book[place].wrapping_add(change);
     }
 
     fn add(&self, owner: u64, figures: &Figures, book: &mut [u64]) {
@@ -377,6 +482,7 @@ impl Wrong {
             row[FIGURES..].copy_from_slice(&self.figures(paper, at));
             (next, claimed) = (next.wrapping_add(1), claimed + 1);
             self.add(owner, &self.figures(paper, at), book);
+            self.add_net(owner, &self.figures(paper, at), at == 0, book);
         }
         let moved = [self.last_at(owner), self.last_at(other(owner))];
         let count = if self.is(Slip::OthersLastMoved) { 2 } else { 1 };
@@ -482,6 +588,11 @@ impl Side for Wrong {
         };
         let mut answer = vec![0, rows];
         answer.extend((0..SIX).map(|figure| head(book, self.total_at(whose, figure))));
+        answer.push(match self.0 {
+            Slip::NetNotTold => 0,
+            Slip::NetToldAbsolute => self.net(book, whose).unsigned_abs() as u64,
+            _ => head(book, self.net_at(whose)),
+        });
         Ok(Outcome::of(&answer))
     }
 }
@@ -501,13 +612,14 @@ fn the_frame_is_right() {
 }
 
 /// Wrong books by which an owner learns what the other did.
-const NOT_APART: [Slip; 9] = [
+const NOT_APART: [Slip; 10] = [
     Slip::NumbersForBoth,
     Slip::NumbersAboveBoth,
     Slip::OthersLastMoved,
     Slip::TotalsForBoth,
     Slip::TotalsOfTheOther,
     Slip::EntriesOfBoth,
+    Slip::NetOfBoth,
     Slip::DuplicateOverBoth,
     Slip::FindsTheOthers,
     Slip::FindStopsAtTheOthers,
@@ -542,8 +654,38 @@ fn every_wrong_book_shows() {
         HeadOfEight,
         ShortIsNoBook,
         ShortIsNotJudged,
-        UnusedMustBeZero,
-        UnusedMadeZero,
+        NetNotJudged,
+        NetNotJudgedOf(1),
+        NetNotJudgedOf(2),
+        NetTurned,
+        NetAbsolute,
+        NetWraps,
+        NetStopsAtTheMost,
+        NetOfTheLastRow,
+        NetBeyondTheBoundIsNoBook,
+        NetNotKept,
+        NetKeptTurned,
+        NetKeptByCreditsAlone,
+        NetOfTheFirstLetterKept,
+        NetNotTold,
+        NetToldAbsolute,
+        RangeNotJudged,
+        RangeAtTheBound,
+        RangeACentMore,
+        RangeAboveAlone,
+        RangeBelowAlone,
+        RangeLetterByLetter,
+        RangeOfEachLetterAlone,
+        RangeOfTheChange,
+        RangeOnlyOutward,
+        RangeOnlyFromWithin,
+        RangeOfTheOther,
+        RangeOfBoth,
+        RangeOfTheFirstOwnerAlone,
+        RangeBeforeReader,
+        RangeBeforeRoom,
+        RangeBeforeDuplicate,
+        RangeAfterFull,
         LastMustBeRows,
         ReaderBeforeBook,
         RoomBeforeBook,

@@ -17,7 +17,7 @@ use crate::input::{self, Input};
 use crate::output::{self, trouble};
 use crate::screen::{print, with_clock};
 use crate::stop::{Stop, DONE, REFUSED};
-use crate::words::{self, counted, figures, grouped};
+use crate::words::{self, counted, figures, grouped, signed_amount};
 
 /// The rows of a new book unless told otherwise. Free rows take no room in the file.
 const ROWS: u64 = 10_000;
@@ -111,7 +111,8 @@ fn totals(args: Args) -> Result<u8, Stop> {
     let book = read(book_path)?;
     let totals = book.totals(owner).map_err(|refused| told(book_path, &refused))?;
     let (entries, figures) = (words::entries(totals.entries), figures(&totals.figures));
-    print(&format!("{entries} of {owner}: {figures}\n{}\n", free_rows(book_path, &book)?))?;
+    let (net, free) = (signed_amount(totals.net), free_rows(book_path, &book)?);
+    print(&format!("{entries} of {owner}: {figures}\nnet position: {net}\n{free}\n"))?;
     Ok(DONE)
 }
 

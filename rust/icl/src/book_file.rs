@@ -7,7 +7,7 @@ use x9180::Book;
 const EVERY_VERSION: &[u8] = b"icl day book, version ";
 
 /// The version of the files that are written here; the first is 1. It ends the first line.
-pub const VERSION: u64 = 2;
+pub const VERSION: u64 = 3;
 
 /// The bytes of the first line, while the version is of one digit.
 const FIRST_LINE: usize = EVERY_VERSION.len() + 2;
@@ -196,9 +196,9 @@ mod tests {
     fn the_bytes_of_an_empty_book() {
         let book = Book::with_rows(1).unwrap();
         let expected = [
-            b"icl day book, version 2\n".as_slice(),
+            b"icl day book, version 3\n".as_slice(),
             &[26, 0, 0, 0, 0, 0, 0, 0, 0, 0, 0, 0, 0, 0, 0, 0],
-            &0xe49a_c4af_50d3_5bc9_u64.to_le_bytes(),
+            &0xf10c_5684_c8ad_adf6_u64.to_le_bytes(),
         ];
         assert_eq!(bytes_of(&book), expected.concat());
     }
@@ -215,18 +215,21 @@ mod tests {
         }
     }
 
-    /// Whole, but of the first version, as its check sum says too.
+    /// Whole, but of an older version, as their check sums say too.
     #[test]
     fn older_books() {
         let now = bytes_of_numbers(&small());
         assert_eq!(older_in(&now), Err(Fault::OfToday));
-        let mut older = [b"icl day book, version 1\n", &now[24..now.len() - 8]].concat();
-        older.extend(check_sum(&older).to_le_bytes());
-        assert_eq!(book_in(&older).unwrap_err(), Fault::Older(1));
-        assert_eq!(older_in(&older), Ok((1, small())));
-        older[100] ^= 1;
-        assert!(damage(&older).starts_with("its check sum is wrong"));
-        assert!(matches!(older_in(&older), Err(Fault::Damaged(_))));
+        for version in 1..VERSION {
+            let line = format!("icl day book, version {version}\n");
+            let mut older = [line.as_bytes(), &now[24..now.len() - 8]].concat();
+            older.extend(check_sum(&older).to_le_bytes());
+            assert_eq!(book_in(&older).unwrap_err(), Fault::Older(version));
+            assert_eq!(older_in(&older), Ok((version, small())));
+            older[100] ^= 1;
+            assert!(damage(&older).starts_with("its check sum is wrong"));
+            assert!(matches!(older_in(&older), Err(Fault::Damaged(_))));
+        }
     }
 
     /// Each byte changed to each other value, each cut, and bytes added at either end or taken out.
@@ -253,14 +256,14 @@ mod tests {
     fn words_of_damage() {
         let sound = bytes_of_numbers(&small());
         assert_eq!(damage(b""), "the file is empty");
-        let first_line = "it does not begin with the line \"icl day book, version 2\"";
-        for begin in ["icl", "icl day book, version 2", "icl day book, version \n", "ICL day book, version 2\n", "\n"] {
+        let first_line = "it does not begin with the line \"icl day book, version 3\"";
+        for begin in ["icl", "icl day book, version 3", "icl day book, version \n", "ICL day book, version 3\n", "\n"] {
             assert_eq!(damage(begin.as_bytes()), first_line, "{begin}");
         }
         for (line, version) in
-            [("3\n", "3"), ("10\n", "10"), ("0", "0"), ("02", "02"), ("4294967296 of\n", "4294967296")]
+            [("4\n", "4"), ("10\n", "10"), ("0", "0"), ("03", "03"), ("4294967296 of\n", "4294967296")]
         {
-            let words = format!("it says that it is of version {version}, and this icl reads version 2");
+            let words = format!("it says that it is of version {version}, and this icl reads version 3");
             assert_eq!(damage(format!("icl day book, version {line}").as_bytes()), words);
         }
         assert_eq!(damage(&sound[..24]), "it ends after 24 bytes, before its numbers do");
@@ -280,11 +283,11 @@ mod tests {
             ([u64::MAX, 1], "it tells of 18446744073709551615 numbers, and no day book has more than 9000017"),
         ] {
             let numbers = [counts[0], counts[1], 5].map(u64::to_le_bytes).concat();
-            let mut bytes = [b"icl day book, version 2\n".as_slice(), &numbers].concat();
+            let mut bytes = [b"icl day book, version 3\n".as_slice(), &numbers].concat();
             bytes.extend(check_sum(&bytes).to_le_bytes());
             assert_eq!(damage(&bytes), words);
         }
-        let long = [b"icl day book, version 2\n".as_slice(), &vec![0; MOST_BYTES]].concat();
+        let long = [b"icl day book, version 3\n".as_slice(), &vec![0; MOST_BYTES]].concat();
         assert_eq!(damage(&long), "it is longer than 72000184 bytes, and no day book is");
     }
 }

@@ -57,12 +57,28 @@ pub fn faulty(book_path: &Path, fault: Fault) -> Stop {
     };
     match fault {
         Fault::Damaged(words) => refused(format!("{}; {words}", number.meaning())),
-        Fault::Older(version) => refused(format!(
-            "it is of version {version}, whose entries have no owner, and this icl keeps version {VERSION}; \
-             icl book convert {name} NEW --owner N writes it anew as NEW, with all its entries given to owner N, which is 1 or 2"
-        )),
+        Fault::Older(version) => refused(format!("{}; {}", outdated(version), anew(&name, version))),
         Fault::OfToday => Stop::Usage(format!("{name} is of version {VERSION} already, and needs no conversion")),
         Fault::NoMemory => no_memory(book_path),
+    }
+}
+
+/// What a book of an older version lacks.
+fn outdated(version: u64) -> String {
+    let lacks = match version {
+        1 => "whose entries have no owner",
+        _ => "which has no net positions",
+    };
+    format!("it is of version {version}, {lacks}, and this icl keeps version {VERSION}")
+}
+
+/// How a book of an older version is written anew.
+fn anew(name: &str, version: u64) -> String {
+    match version {
+        1 => format!(
+            "icl book convert {name} NEW --owner N writes it anew as NEW, with all its entries given to owner N, which is 1 or 2"
+        ),
+        _ => format!("icl book convert {name} NEW writes it anew as NEW"),
     }
 }
 

@@ -22,7 +22,7 @@ use:
   icl book list [--csv | --json] BOOK --owner 1|2
   icl book totals BOOK --owner 1|2
   icl book grow BOOK --rows N
-  icl book convert OLD NEW --owner 1|2
+  icl book convert OLD NEW [--owner 1|2]
   icl COMMAND --help
   icl --version
 
@@ -162,9 +162,9 @@ icl book new BOOK [--rows N]                       makes an empty day book
 icl book enter BOOK FILE --number N --owner 1|2    enters the cash letters of an accepted file
 icl book show BOOK ENTRY --owner 1|2               shows one entry
 icl book list [--csv | --json] BOOK --owner 1|2    lists all entries of an owner
-icl book totals BOOK --owner 1|2                   shows what all entries of an owner come to
+icl book totals BOOK --owner 1|2                   shows what they come to, and the net position
 icl book grow BOOK --rows N                        gives the book more rows
-icl book convert OLD NEW --owner 1|2               writes a book of version 1 anew
+icl book convert OLD NEW [--owner 1|2]             writes a book of an older version anew
 
 BOOK is a file of its own (docs/BOOK-FILE.md), which icl book new makes and nothing overwrites; enter makes none.
 Each cash letter of FILE becomes an entry, with the next entry number, and keeps its own bundles, views, debits and
@@ -179,14 +179,16 @@ each owner's own; the free rows are for both.
   --json      an array of objects, one on a line, amounts in cents
 Two may enter at once: the second waits for the first. The book is written beside its place, made safe on the
 disk and then renamed, so that after a crash at any instant it is as it was before or with all of FILE entered.
-A book of version 1, from before entries had owners, is refused: convert writes it anew as NEW, with all its entries
-given to one owner, and leaves OLD as it is; NEW must not be there yet.
+The net position of an owner is its credits minus its debits, below zero when debits exceed.
+A book of an older version is refused: convert writes it anew as NEW and leaves OLD as it is; NEW must not be there
+yet. The entries of a book of version 1 have no owner, and are all given to the one that --owner names.
 
 Refusals are told on standard error: those of icl check FILE, and with record, field and offset 0
   12 DUPLICATE   the owner has entered the file number already
   13 FULL        there are more cash letters than free rows (icl book grow helps), or a running total or an
                  entry number would pass 64 bits
   15 NOENTRY     the owner has no such entry, or is neither 1 nor 2
+  16 RANGE       the owner's net position would lie beyond 10,000,000,000,000,000.00 either side
   20 BOOK        BOOK is damaged, no day book, or of another version; it is then never written to
 Exit status: 0 done, 1 refused, 2 something could not be read or written, or there is no file BOOK.
 ";

@@ -41,6 +41,16 @@ pub fn amount(cents: u64) -> String {
     format!("{}.{:02}", grouped(cents / 100), cents % 100)
 }
 
+/// Cents with a sign as an amount: `+1,234.56`, `-0.07`, `0.00`.
+pub fn signed_amount(cents: i64) -> String {
+    let sign = match cents.signum() {
+        1 => "+",
+        -1 => "-",
+        _ => "",
+    };
+    format!("{sign}{}", amount(cents.unsigned_abs()))
+}
+
 /// A number with a comma before each group of three digits.
 pub fn grouped(number: u64) -> String {
     let digits = number.to_string();
@@ -105,6 +115,10 @@ mod tests {
         assert_eq!(amount(99_999), "999.99");
         assert_eq!(amount(100_000), "1,000.00");
         assert_eq!(amount(u64::MAX), "184,467,440,737,095,516.15");
+        let signed = [0, 7, -7, 100_000, -100_000, i64::MIN, i64::MAX].map(signed_amount);
+        let expected = ["0.00", "+0.07", "-0.07", "+1,000.00", "-1,000.00"];
+        assert_eq!(signed[..5], expected);
+        assert_eq!(signed[5..], ["-92,233,720,368,547,758.08", "+92,233,720,368,547,758.07"]);
     }
 
     #[test]

@@ -7,7 +7,7 @@ use std::os::unix::fs::PermissionsExt;
 use std::os::unix::process::CommandExt;
 use std::process::Command;
 
-use common::{icl, many_checks, outcome, piped, read, run, Folder};
+use common::{below_zero, book_file, icl, many_checks, outcome, piped, read, run, Folder};
 use peer_reader::plain::*;
 
 const PICTURED: &str = "samples/two-letters-with-pictures.x9";
@@ -77,7 +77,7 @@ fn two_days() {
     assert_eq!(run(&format!("book show {book} 3 --owner 1")), done(shown));
     // 47557 debit cents twice and 47807, 164364 credit cents.
     let totals =
-        "6 entries of owner 1: 9 bundles, 30 views, 13 debits of 1,429.21, 6 credits of 1,643.64\nfree rows: 9,994 of 10,000\n";
+        "6 entries of owner 1: 9 bundles, 30 views, 13 debits of 1,429.21, 6 credits of 1,643.64\nnet position: +214.43\nfree rows: 9,994 of 10,000\n";
     assert_eq!(run(&format!("book totals {book} --owner 1")), done(totals));
     assert_eq!(folder.names(""), ["day.book"]);
 }
@@ -91,7 +91,7 @@ fn lists() {
     assert_eq!(run(&format!("book list {book} --owner 1")), done(table));
     assert_eq!(run(&format!("book list --csv {book} --owner 1")), done(columns));
     assert_eq!(run(&format!("book list {book} --json --owner 1")), done("[]\n"));
-    let totals = "0 entries of owner 1: 0 bundles, 0 views, 0 debits of 0.00, 0 credits of 0.00\nfree rows: 50 of 50\n";
+    let totals = "0 entries of owner 1: 0 bundles, 0 views, 0 debits of 0.00, 0 credits of 0.00\nnet position: 0.00\nfree rows: 50 of 50\n";
     assert_eq!(run(&format!("book totals {book} --owner 1")), done(totals));
 
     let many = folder.with("many.x9", &many_checks());
@@ -141,8 +141,9 @@ fn two_owners() {
         let shown = format!("entry 2 of owner {owner}, file number 7: {}\n", letters[1]);
         assert_eq!(run(&format!("book show {book} 2 --owner {owner}")), done(shown));
     }
-    let of_one = "2 entries of owner 1: 3 bundles, 14 views, 5 debits of 478.07, 6 credits of 1,643.64\n";
-    let of_two = "2 entries of owner 2: 3 bundles, 8 views, 4 debits of 475.57, 0 credits of 0.00\n";
+    let of_one = "2 entries of owner 1: 3 bundles, 14 views, 5 debits of 478.07, 6 credits of 1,643.64\nnet position: +1,165.57\n";
+    let of_two =
+        "2 entries of owner 2: 3 bundles, 8 views, 4 debits of 475.57, 0 credits of 0.00\nnet position: -475.57\n";
     for (owner, totals) in [(1, of_one), (2, of_two)] {
         let totals = format!("{totals}free rows: 1 of 5\n");
         assert_eq!(run(&format!("book totals {book} --owner {owner}")), done(totals));
@@ -211,6 +212,35 @@ fn refusals_by_the_book() {
     // What fits still goes in.
     assert_eq!(run(&format!("book enter {book} peer/samples/sound-2-checks.x9 --number 8 --owner 1")).0, 0);
     assert_eq!(folder.names(""), ["day.book"]);
+}
+
+/// A file that would carry the net position of an owner beyond its bound, and one that takes it there. The entry that is in the book already is made up.
+#[test]
+fn net_positions_out_of_bounds() {
+    const BOUND: u64 = 1_000_000_000_000_000_000;
+    let folder = Folder::new("range");
+    // Of owner 2, with one debit in one row, and a row free: the letter of two checks has 350 cents more.
+    let with = |name: &str, debit: u64| {
+        let head = [1, 0, 0, 0, 0, 0, 0, 0, 0, 1, 1, 1, 0, 0, debit, 0, below_zero(debit)];
+        let row = [2, 1, 7, 1, 1, 0, 0, debit, 0];
+        folder.with(name, &book_file(3, 35, &[head.as_slice(), &row].concat()))
+    };
+    let checks = "peer/samples/sound-2-checks.x9";
+    let book = with("there.book", BOUND - 350);
+    assert_eq!(run(&format!("book enter {book} {checks} --number 8 --owner 2")).0, 0);
+    let totals = "2 entries of owner 2: 2 bundles, 0 views, 3 debits of 10,000,000,000,000,000.00, 0 credits of 0.00\n\
+                  net position: -10,000,000,000,000,000.00\nfree rows: 0 of 2\n";
+    assert_eq!(run(&format!("book totals {book} --owner 2")), done(totals));
+    let book = with("beyond.book", BOUND - 349);
+    let words = "RANGE: the net position would lie beyond 1000000000000000000 cents either side; \
+                 net position of owner 2 in cents: -999999999999999651; it would be: -1000000000000000001";
+    let expected = refused(format!("{book}: refused 16 record 0 field 0 offset 0: {words}"));
+    assert_eq!(unchanged(&book, &format!("book enter {book} {checks} --number 8 --owner 2")), expected);
+    // It comes behind DUPLICATE and before FULL, and is nothing to the other owner.
+    assert!(unchanged(&book, &format!("book enter {book} {checks} --number 7 --owner 2")).2.contains("DUPLICATE"));
+    assert_eq!(run(&format!("book enter {book} {checks} --number 8 --owner 1")).0, 0);
+    assert_eq!(unchanged(&book, &format!("book enter {book} {checks} --number 8 --owner 2")), expected);
+    assert!(unchanged(&book, &format!("book enter {book} {checks} --number 9 --owner 1")).2.contains("FULL"));
 }
 
 #[test]

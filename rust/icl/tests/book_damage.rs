@@ -4,7 +4,7 @@ mod common;
 
 use std::fs;
 
-use common::{read, run, Folder};
+use common::{book_file, check_sum, read, run, Folder};
 
 const FILE: &str = "peer/samples/sound-11-credits.x9";
 
@@ -58,12 +58,6 @@ fn each_byte_changed() {
     assert_eq!(folder.names(""), ["damaged.book", "sound.book"]);
 }
 
-/// A check sum as the XZ format has it, bit by bit.
-fn check_sum(bytes: &[u8]) -> u64 {
-    let bit = |sum: u64| (sum >> 1) ^ if sum & 1 == 1 { 0xC96C_5795_D787_0F42 } else { 0 };
-    !bytes.iter().fold(!0, |sum, byte| (0..8).fold(sum ^ u64::from(*byte), |sum, _| bit(sum)))
-}
-
 /// A file whose check sum is right, with other numbers in the table.
 fn with_numbers(sound: &[u8], changes: &[(usize, u64)]) -> Vec<u8> {
     let mut bytes = sound[..sound.len() - 8].to_vec();
@@ -78,8 +72,8 @@ fn each_kind_of_damage() {
     let folder = Folder::new("kinds");
     let sound = sound(&folder);
     assert_eq!(with_numbers(&sound, &[]), sound);
-    let first_line = "it does not begin with the line \"icl day book, version 2\"";
-    let later = [b"icl day book, version 3\n", &sound[24..]].concat();
+    let first_line = "it does not begin with the line \"icl day book, version 3\"";
+    let later = [b"icl day book, version 4\n", &sound[24..]].concat();
     let other_sum = [&sound[..248], &[0; 8]].concat();
     let sum = check_sum(&sound[..248]);
     let kinds = [
@@ -87,7 +81,7 @@ fn each_kind_of_damage() {
         (vec![0; 256], first_line.to_string()),
         (read("README.md"), first_line.to_string()),
         (read(FILE), first_line.to_string()),
-        (later, "it says that it is of version 3, and this icl reads version 2".to_string()),
+        (later, "it says that it is of version 4, and this icl reads version 3".to_string()),
         (sound[..24].to_vec(), "it ends after 24 bytes, before its numbers do".to_string()),
         (sound[..255].to_vec(), "it has 255 bytes, which is not what its counts ask for: 26 numbers".to_string()),
         (
@@ -95,7 +89,7 @@ fn each_kind_of_damage() {
             "it has 257 bytes, which is not what its counts ask for: 26 numbers".to_string(),
         ),
         (other_sum, format!("its check sum is wrong: 0000000000000000 stands there, and its bytes come to {sum:016x}")),
-        // Here the library judges. The letter has one bundle and 40005 debit cents.
+        // Here the library judges. The letter has one bundle, 40005 debit cents and 112352 credit cents.
         (with_numbers(&sound, &[(0, 3)]), "rows claimed: 3; rows there: 2".to_string()),
         (
             with_numbers(&sound, &[(6, 40_004)]),
@@ -103,6 +97,11 @@ fn each_kind_of_damage() {
         ),
         (with_numbers(&sound, &[(0, 0)]), "running total of bundles of owner 1: 1; its rows come to: 0".to_string()),
         (with_numbers(&sound, &[(17, 0)]), "running total of bundles of owner 1: 1; its rows come to: 0".to_string()),
+        (
+            with_numbers(&sound, &[(8, u64::MAX)]),
+            "net position of owner 1 in cents: -1; its rows come to: 72347".to_string(),
+        ),
+        (with_numbers(&sound, &[(16, 5)]), "net position of owner 2 in cents: 5; its rows come to: 0".to_string()),
         (
             with_numbers(&sound, &[(15, 5)]),
             "running total of credit cents of owner 2: 5; its rows come to: 0".to_string(),
@@ -125,22 +124,23 @@ fn each_kind_of_damage() {
     }
 }
 
-/// What the library does not look at may stand in a sound file: it is kept.
+/// What the library does not look at, here behind the rows claimed, may stand in a sound file: it is kept.
 #[test]
 fn numbers_that_are_not_looked_at() {
     let folder = Folder::new("other-numbers");
-    let bytes = with_numbers(&sound(&folder), &[(8, 5), (16, 6)]);
-    let book = folder.with("other.book", &bytes);
+    let behind: Vec<u64> = (1..=20).collect();
+    let numbers = [[0; 17].as_slice(), &behind].concat();
+    let book = folder.with("other.book", &book_file(3, 37, &numbers));
     assert_eq!(run(&format!("book grow {book} --rows 3")).0, 0);
-    assert_eq!(fs::read(&book).unwrap()[40..248], bytes[40..248]);
-    assert_eq!(run(&format!("book show {book} 1 --owner 1")).0, 0);
+    assert_eq!(fs::read(&book).unwrap(), book_file(3, 44, &numbers));
+    assert_eq!(run(&format!("book list {book} --json --owner 1")).1, "[]\n");
 }
 
 /// A file that is longer than any book, of which no more is read.
 #[test]
 fn a_file_too_long() {
     let folder = Folder::new("long");
-    let book = folder.with("long.book", b"icl day book, version 2\n");
+    let book = folder.with("long.book", b"icl day book, version 3\n");
     fs::File::options().write(true).open(&book).unwrap().set_len(300 << 20).unwrap();
     for command in ["list BOOK --owner 1", "enter BOOK peer/samples/sound-2-checks.x9 --number 1 --owner 1"] {
         let (status, _, complaint) = run(&format!("book {}", command.replace("BOOK", &book)));

@@ -92,7 +92,7 @@ fn four_at_once() {
         assert_eq!(numbers, expected);
         // Eight files of one letter and eight of two.
         let sums = "32 bundles, 64 views, 48 debits of 3,832.56, 0 credits of 0.00";
-        let totals = format!("24 entries of owner {owner}: {sums}\nfree rows: 12 of 60\n");
+        let totals = format!("24 entries of owner {owner}: {sums}\nnet position: -3,832.56\nfree rows: 12 of 60\n");
         assert_eq!(run(&format!("book totals {book} --owner {owner}")), (0, totals, String::new()));
     }
     assert_eq!(folder.names(""), ["day.book"]);

@@ -406,7 +406,7 @@ fn commands_not_understood() {
         ("book grow a", "--rows N is missing"),
         ("book grow a --rows 1 --owner 1", "--owner is not known here"),
         ("book convert a", "NEW is missing"),
-        ("book convert a b", "--owner N is missing, N being 1 or 2"),
+        ("book convert a b --owner both", "both is no owner: a decimal number is needed"),
         ("book convert a b --owner 1 --force", "--force is not known here"),
     ] {
         assert_eq!(run(words), (2, String::new(), format!("icl: {complaint} (icl --help tells more)\n")), "{words}");

@@ -1,5 +1,6 @@
 //! The day book (request 6): every cash letter of an accepted file becomes an entry, which keeps the letter's own figures for good. Two bureaus may share
-//! a book (request 8): every entry has an [`Owner`], and each owner has entry numbers, file numbers and running totals of its own.
+//! a book (request 8): every entry has an [`Owner`], and each owner has entry numbers, file numbers and running totals of its own. The net position of
+//! each, credit cents minus debit cents, is kept beside its totals (request 9).
 //!
 //! ```
 //! use x9180::book::Owner;
@@ -13,7 +14,8 @@
 //!
 //! let entry = book.find(Owner::ONE, 2)?;
 //! assert_eq!((entry.file_number, entry.figures.debit_items, entry.figures.debit), (20_240_116, 1, 31_000));
-//! assert_eq!(book.totals(Owner::ONE)?.figures.debit, 47_557);
+//! let totals = book.totals(Owner::ONE)?;
+//! assert_eq!((totals.figures.debit, totals.net), (47_557, -47_557));
 //!
 //! // A file number is taken once by each owner.
 //! let refused = book.enter(&file, 20_240_116, Owner::ONE).unwrap_err();
@@ -28,7 +30,7 @@
 use std::collections::TryReserveError;
 use std::ops::RangeInclusive;
 
-use crate::book_table::{given_to, numbers_for, BookRow, Table};
+use crate::book_table::{given_to, numbers_for, with_nets, BookRow, Table};
 use crate::explain;
 use crate::explain_book;
 use crate::ffi;
@@ -88,6 +90,8 @@ pub struct Totals {
     pub entries: u64,
     /// What they come to.
     pub figures: Figures,
+    /// The net position: their credit cents minus their debit cents.
+    pub net: i64,
 }
 
 /// A file that has been entered: its reading, and the entry numbers given to its cash letters.
@@ -147,6 +151,11 @@ impl Book {
         Book { memory: given_to(owner, numbers) }
     }
 
+    /// A book in the form that it had before net positions were kept (request 8). They are worked out from its rows.
+    pub fn with_nets(numbers: Vec<u64>) -> Book {
+        Book { memory: with_nets(numbers) }
+    }
+
     /// How many numbers of memory a book of so many rows takes.
     pub const fn numbers_for(rows: usize) -> usize {
         numbers_for(rows)
@@ -194,11 +203,11 @@ impl<Memory: AsRef<[u64]>> Book<Memory> {
         }
     }
 
-    /// How many entries an owner has, and its running totals.
+    /// How many entries an owner has, its running totals, and its net position.
     pub fn totals(&self, owner: Owner) -> Result<Totals, Refused> {
-        let [answer, entries, figures @ ..] = ffi::book_totals(self.numbers(), owner.0);
+        let [answer, entries, figures @ .., net] = ffi::book_totals(self.numbers(), owner.0);
         match Number(answer) {
-            Number::ACCEPTED => Ok(Totals { entries, figures: Figures::of(figures) }),
+            Number::ACCEPTED => Ok(Totals { entries, figures: Figures::of(figures), net: net as i64 }),
             Number::NOENTRY => Err(Refused::NoOwner(owner)),
             // The library's contract has no other number here.
             _ => Err(explain_book::no_book(self.table())),
@@ -251,26 +260,32 @@ impl<Memory: AsRef<[u64]> + AsMut<[u64]>> Book<Memory> {
                 Number::BOOK => return Err(explain_book::no_book(self.table())),
                 Number::NOENTRY => return Err(Refused::NoOwner(owner)),
                 Number::DUPLICATE => return Err(explain_book::duplicate(self.table(), owner, file_number)),
-                Number::FULL => return Err(self.full(file, owner, &mut rows)),
+                Number::RANGE => {
+                    return Err(explain_book::range(self.table(), owner, sums(file, &mut rows).1.net()));
+                }
+                Number::FULL => {
+                    let (letters, figures) = sums(file, &mut rows);
+                    return Err(explain_book::full(self.table(), owner, letters, figures));
+                }
                 refused => return Err(explain::reading(file, refused, record, field, offset).into()),
             }
         }
     }
+}
 
-    /// The refusal of an accepted file, for which there are rows, for want of room.
-    fn full(&self, file: &[u8], owner: Owner, rows: &mut [Row]) -> Refused {
-        let [_, _, _, _, totals @ ..] = ffi::read(file, rows);
-        let totals = reading::Totals::of_answer(totals);
-        let figures = Figures {
-            bundles: totals.bundles,
-            debit_items: totals.debit_items(),
-            credit_items: totals.credit_items,
-            views: totals.views,
-            debit: totals.debit,
-            credit: totals.credit,
-        };
-        explain_book::full(self.table(), owner, totals.letters, figures)
-    }
+/// How many cash letters an accepted file has, for which there are rows, and what they come to.
+fn sums(file: &[u8], rows: &mut [Row]) -> (u64, Figures) {
+    let [_, _, _, _, totals @ ..] = ffi::read(file, rows);
+    let totals = reading::Totals::of_answer(totals);
+    let figures = Figures {
+        bundles: totals.bundles,
+        debit_items: totals.debit_items(),
+        credit_items: totals.credit_items,
+        views: totals.views,
+        debit: totals.debit,
+        credit: totals.credit,
+    };
+    (totals.letters, figures)
 }
 
 impl Entry {

@@ -46,6 +46,15 @@ pub enum Refused {
     },
     /// `FULL`: there is no room for the file.
     Full(Option<Want>),
+    /// `RANGE`: the net position of the owner would lie beyond 10^18 cents either side.
+    Range {
+        /// The owner.
+        owner: Owner,
+        /// Its net position in cents.
+        net: i64,
+        /// What it would be.
+        then: i128,
+    },
     /// `NOENTRY`: no entry of the owner has the number.
     NoEntry {
         /// The owner.
@@ -82,6 +91,15 @@ pub enum Wrong {
         total: u64,
         /// What its rows come to.
         rows: u128,
+    },
+    /// The net position of an owner is not what its rows come to.
+    Net {
+        /// Whose.
+        owner: Owner,
+        /// The net position in cents.
+        net: i64,
+        /// The credit cents of its rows minus their debit cents.
+        rows: i128,
     },
 }
 
@@ -125,6 +143,7 @@ impl Refused {
             Refused::Book(_) => Number::BOOK,
             Refused::Duplicate { .. } => Number::DUPLICATE,
             Refused::Full(_) => Number::FULL,
+            Refused::Range { .. } => Number::RANGE,
             Refused::NoEntry { .. } | Refused::NoOwner(_) => Number::NOENTRY,
             Refused::File(refusal) => refusal.number(),
         }
@@ -147,6 +166,9 @@ impl Refused {
                 [format!("file number {file_number} of {owner}")].into_iter().chain(entries).collect()
             }
             Refused::Full(want) => want.iter().flat_map(Want::lines).collect(),
+            Refused::Range { owner, net, then } => {
+                vec![position(*owner, *net), format!("it would be: {then}")]
+            }
             Refused::NoEntry { owner, entry_number, last } => {
                 vec![format!("entry number {entry_number} of {owner}"), format!("last entry number given: {last}")]
             }
@@ -164,6 +186,10 @@ impl Wrong {
             }
             Wrong::Total { owner, figure, total, rows } => {
                 vec![running(*owner, *figure, *total), format!("its rows come to: {rows}")]
+            }
+            Wrong::Net { owner, net, rows } => {
+                let past = if i64::try_from(*rows).is_ok() { "" } else { ", which no net position holds" };
+                vec![position(*owner, *net), format!("its rows come to: {rows}{past}")]
             }
         }
     }
@@ -184,6 +210,10 @@ impl Want {
 
 fn running(owner: Owner, figure: Figure, total: u64) -> String {
     format!("running total of {} of {owner}: {total}", figure.name())
+}
+
+fn position(owner: Owner, net: i64) -> String {
+    format!("net position of {owner} in cents: {net}")
 }
 
 impl From<Refusal> for Refused {
@@ -240,6 +270,20 @@ mod tests {
             (
                 Refused::Full(Some(cents)),
                 "FULL: the day book has no room for the file; running total of credit cents of owner 2: 18446744073709551615; with 7 more it would pass 64 bits",
+            ),
+            (
+                Refused::Book(Some(Wrong::Net { owner: Owner::ONE, net: -5, rows: 350 })),
+                "BOOK: the day book is not sound; net position of owner 1 in cents: -5; its rows come to: 350",
+            ),
+            (
+                Refused::Book(Some(Wrong::Net { owner: Owner::TWO, net: -1, rows: 1 << 63 })),
+                "BOOK: the day book is not sound; net position of owner 2 in cents: -1; its rows come to: 9223372036854775808, \
+                 which no net position holds",
+            ),
+            (
+                Refused::Range { owner: Owner::TWO, net: -999_999_999_999_999_999, then: -1_000_000_000_000_000_001 },
+                "RANGE: the net position would lie beyond 1000000000000000000 cents either side; \
+                 net position of owner 2 in cents: -999999999999999999; it would be: -1000000000000000001",
             ),
             (
                 Refused::NoEntry { owner: Owner::TWO, entry_number: 9, last: 4 },

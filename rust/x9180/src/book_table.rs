@@ -8,8 +8,11 @@ use crate::owner::Owner;
 /// The numbers of the head: [0] the rows claimed, [1] to [8] the first owner's block, [9] to [16] the second's.
 const HEAD: usize = 17;
 
-/// The numbers of an owner's block in the head: [0] the last entry number given, [1] to [6] the running totals, [7] not looked at.
+/// The numbers of an owner's block in the head: [0] the last entry number given, [1] to [6] the running totals, [7] the net position.
 const BLOCK: usize = 8;
+
+/// The place of the net position in an owner's block.
+const NET: usize = 7;
 
 /// The numbers of a row: [0] the owner, [1] the entry number, [2] the file number, [3] to [8] the figures.
 const ROW: usize = 9;
@@ -52,6 +55,11 @@ impl<'t> Table<'t> {
         Figures::of([1, 2, 3, 4, 5, 6].map(|place| self.head(block(owner) + place)))
     }
 
+    /// The net position of an owner: a number below zero is in two's complement.
+    pub fn net(self, owner: Owner) -> i64 {
+        self.head(block(owner) + NET) as i64
+    }
+
     /// The rows of an owner among those claimed, as far as they are there.
     pub fn rows_of(self, owner: Owner) -> impl Iterator<Item = BookRow> + 't {
         let rows = self.0.get(HEAD..).unwrap_or_default().chunks_exact(ROW).take(count(self.claimed()));
@@ -64,15 +72,27 @@ impl<'t> Table<'t> {
     }
 }
 
-/// A table from before there were owners (request 6), with all its entries given to one of them. In such a table the last entry number and the running
-/// totals stood where the first owner's stand; the rest of the head was not looked at, and neither was the number in a row's first place.
+/// A table from before there were owners (request 6), with all its entries given to one of them, in the form of today. In such a table the last entry
+/// number and the running totals stood where the first owner's stand; the rest of the head was not looked at, and neither was the number in a row's first
+/// place.
 pub(crate) fn given_to(owner: Owner, mut numbers: Vec<u64>) -> Vec<u64> {
     numbers.resize(numbers.len().max(HEAD), 0);
     let rows = count(Table(&numbers).claimed());
-    let own: Vec<u64> = numbers.iter().skip(1).take(BLOCK - 1).copied().collect();
+    let own: Vec<u64> = numbers.iter().skip(1).take(NET).copied().collect();
     numbers.iter_mut().take(HEAD).skip(1).for_each(|number| *number = 0);
     numbers.iter_mut().skip(block(owner)).zip(own).for_each(|(place, number)| *place = number);
     numbers.iter_mut().skip(HEAD).step_by(ROW).take(rows).for_each(|place| *place = owner.0);
+    with_nets(numbers)
+}
+
+/// A table from before net positions were kept (request 8), in the form of today: the places of the nets, which were not looked at, get what the rows
+/// come to. Where that is more than such a place holds, the table is no book after it either.
+pub(crate) fn with_nets(mut numbers: Vec<u64>) -> Vec<u64> {
+    numbers.resize(numbers.len().max(HEAD), 0);
+    for owner in Owner::BOTH {
+        let net = Table(&numbers).rows_of(owner).map(|row| row.figures.net()).sum::<i128>();
+        numbers.iter_mut().skip(block(owner) + NET).take(1).for_each(|place| *place = net as u64);
+    }
     numbers
 }
 
@@ -120,6 +140,7 @@ mod tests {
         assert_eq!((table.last(Owner::ONE), table.last(Owner::TWO)), (101, 109));
         assert_eq!(table.totals(Owner::ONE), Figures::of([102, 103, 104, 105, 106, 107]));
         assert_eq!(table.totals(Owner::TWO), Figures::of([110, 111, 112, 113, 114, 115]));
+        assert_eq!((table.net(Owner::ONE), table.net(Owner::TWO)), (108, 116));
         let rows = |owner| -> Vec<(u64, u64, Figures)> {
             table.rows_of(owner).map(|row| (row.entry_number, row.file_number, row.figures)).collect()
         };
@@ -129,14 +150,34 @@ mod tests {
         assert!(rows(Owner(3)).is_empty());
     }
 
+    #[test]
+    fn nets_below_zero() {
+        let mut numbers = [0; 17];
+        (numbers[8], numbers[16]) = (u64::MAX, 1 << 63);
+        assert_eq!(Owner::BOTH.map(|owner| Table(&numbers).net(owner)), [-1, i64::MIN]);
+    }
+
+    /// Three rows claimed of four, the third of which is no one's.
+    #[test]
+    fn tables_without_nets() {
+        let row = |owner, debit, credit| [owner, 1, 1, 1, 1, 1, 1, debit, credit];
+        let rows = [row(1, 7, 3), row(2, 5, 9), row(3, 1, 1), row(1, 1, 1)].concat();
+        let old = [[3].as_slice(), &[88; 16], &rows].concat();
+        let mut expected = old.clone();
+        (expected[8], expected[16]) = (u64::MAX - 3, 4);
+        assert_eq!(with_nets(old), expected);
+        assert_eq!(with_nets(vec![]), [0; 17]);
+    }
+
     /// Two rows claimed of three. What was not looked at goes.
     #[test]
     fn tables_without_owners() {
         let old: Vec<u64> = [2].into_iter().chain(101..144).collect();
         let rows = |owner: u64| [[owner].as_slice(), &old[18..26], &[owner], &old[27..44]].concat();
-        let first = [&old[..8], &[0; 9], &rows(1)].concat();
+        // Credit cents are one more than debit cents in each row, by their places.
+        let first = [&old[..8], &[2], &[0; 8], &rows(1)].concat();
         assert_eq!(given_to(Owner::ONE, old.clone()), first);
-        assert_eq!(given_to(Owner::TWO, old.clone()), [[2].as_slice(), &[0; 8], &old[1..8], &[0], &rows(2)].concat());
+        assert_eq!(given_to(Owner::TWO, old.clone()), [[2].as_slice(), &[0; 8], &old[1..8], &[2], &rows(2)].concat());
         assert_eq!(given_to(Owner::TWO, first), given_to(Owner::TWO, old));
         // A short one gets its head.
         assert_eq!(given_to(Owner::ONE, vec![]), [0; 17]);

@@ -12,7 +12,8 @@ pub(crate) fn no_book(table: Table<'_>) -> Refused {
     if claimed > capacity {
         return Refused::Book(Some(Wrong::Rows { claimed, capacity }));
     }
-    Refused::Book(Owner::BOTH.into_iter().find_map(|owner| wrong_total(table, owner)))
+    let total = Owner::BOTH.into_iter().find_map(|owner| wrong_total(table, owner));
+    Refused::Book(total.or_else(|| Owner::BOTH.into_iter().find_map(|owner| wrong_net(table, owner))))
 }
 
 /// The first running total of an owner that is not the sum of its rows.
@@ -23,6 +24,18 @@ fn wrong_total(table: Table<'_>, owner: Owner) -> Option<Wrong> {
         (rows != u128::from(total)).then_some(Wrong::Total { owner, figure, total, rows })
     };
     Figure::ALL.into_iter().find_map(wrong)
+}
+
+/// The net position of an owner where it is not what its rows come to.
+fn wrong_net(table: Table<'_>, owner: Owner) -> Option<Wrong> {
+    let (net, rows) = (table.net(owner), table.rows_of(owner).map(|row| row.figures.net()).sum());
+    (rows != i128::from(net)).then_some(Wrong::Net { owner, net, rows })
+}
+
+/// Of a call that would bring so many cents more, or fewer, to the net position.
+pub(crate) fn range(table: Table<'_>, owner: Owner, more: i128) -> Refused {
+    let net = table.net(owner);
+    Refused::Range { owner, net, then: i128::from(net) + more }
 }
 
 /// Of a call that found nothing: there are no such owners, or the owner has no such entry.

@@ -129,10 +129,10 @@ pub(crate) fn book_find(book: &[u64], owner: u64, entry_number: u64) -> [u64; 9]
     found
 }
 
-/// Gives the eight numbers of the answer on the running totals of an owner.
-pub(crate) fn book_totals(book: &[u64], owner: u64) -> [u64; 8] {
-    let mut totals = [0; 8];
-    // SAFETY: as in `book_find`, with eight numbers.
+/// Gives the nine numbers of the answer on the running totals of an owner.
+pub(crate) fn book_totals(book: &[u64], owner: u64) -> [u64; 9] {
+    let mut totals = [0; 9];
+    // SAFETY: as in `book_find`.
     unsafe { x9_book_totals(book.as_ptr(), book.len(), owner, totals.as_mut_ptr()) };
     totals
 }

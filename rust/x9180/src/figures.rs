@@ -59,6 +59,11 @@ impl Figures {
         Figures { bundles, debit_items, credit_items, views, debit, credit }
     }
 
+    /// Credit cents minus debit cents.
+    pub fn net(&self) -> i128 {
+        i128::from(self.credit) - i128::from(self.debit)
+    }
+
     /// One of them.
     pub fn get(&self, figure: Figure) -> u64 {
         match figure {
@@ -82,5 +87,6 @@ mod tests {
         assert_eq!(Figure::ALL.map(|figure| figures.get(figure)), [1, 2, 3, 4, 5, 6]);
         let named = Figures { bundles: 1, debit_items: 2, credit_items: 3, views: 4, debit: 5, credit: 6 };
         assert_eq!(figures, named);
+        assert_eq!((figures.net(), Figures::of([0, 0, 0, 0, u64::MAX, 0]).net()), (1, 1 - (1 << 64)));
     }
 }

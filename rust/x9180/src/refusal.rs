@@ -26,13 +26,14 @@ impl Number {
     pub const DUPLICATE: Number = Number(12);
     pub const FULL: Number = Number(13);
     pub const NOENTRY: Number = Number(15);
+    pub const RANGE: Number = Number(16);
     pub const TAGORDER: Number = Number(18);
     pub const TAGVALUE: Number = Number(19);
     pub const BOOK: Number = Number(20);
 }
 
 /// Each number with its name and its meaning.
-const NUMBERS: [(Number, &str, &str); 18] = [
+const NUMBERS: [(Number, &str, &str); 19] = [
     (Number::ACCEPTED, "ACCEPTED", "all rules hold"),
     (Number::SIZE, "SIZE", "the file has no byte, or more than 268435456"),
     (Number::ROOM, "ROOM", "all rules hold, but there is not memory enough"),
@@ -48,6 +49,7 @@ const NUMBERS: [(Number, &str, &str); 18] = [
     (Number::DUPLICATE, "DUPLICATE", "the file number has been entered already"),
     (Number::FULL, "FULL", "the day book has no room for the file"),
     (Number::NOENTRY, "NOENTRY", "the day book has no such entry"),
+    (Number::RANGE, "RANGE", "the net position would lie beyond 1000000000000000000 cents either side"),
     (Number::TAGORDER, "TAGORDER", "a tag of a picture is not above the tag before it"),
     (Number::TAGVALUE, "TAGVALUE", "the header of a picture is wrong, or a required tag is wrong or absent"),
     (Number::BOOK, "BOOK", "the day book is not sound"),

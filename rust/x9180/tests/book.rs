@@ -1,4 +1,4 @@
-//! The day book (requests 6 and 8): worked out by hand, and beside a plain list of entries for each owner, whose figures come from the independent
+//! The day book (requests 6, 8 and 9): worked out by hand, and beside a plain list of entries for each owner, whose figures come from the independent
 //! reader.
 
 use peer_reader::copy::to_ebcdic;
@@ -29,6 +29,11 @@ const CREDITED_LETTERS: [[u64; 6]; 2] = [[2, 4, 4, 10, 16_807, 33_364], [1, 1, 2
 
 fn numbers(figures: Figures) -> [u64; 6] {
     Figure::ALL.map(|figure| figures.get(figure))
+}
+
+/// A number below zero in two's complement.
+fn below_zero(number: u64) -> u64 {
+    u64::MAX - number + 1
 }
 
 fn line(number: u64, file_number: u64, [a, b, c, d, e, f]: [u64; 6]) -> Line {
@@ -64,6 +69,7 @@ fn two_files_of_one_owner() {
         // 47557 and 47807 debit cents, 0 and 164364 credit cents, by the lines of the samples.
         let totals = book.totals(owner).unwrap();
         assert_eq!((totals.entries, numbers(totals.figures)), (4, [6, 9, 6, 22, 95_364, 164_364]));
+        assert_eq!(totals.net, 69_000);
         assert_eq!((book.capacity(), book.free_rows()), (5, Ok(1)));
         // A letter of its own in the fifth row.
         assert_eq!(book.enter(&sample("peer/samples/sound-2-checks.x9"), 1, owner).unwrap().numbers(), 5..=5);
@@ -90,9 +96,9 @@ fn two_owners() {
     let of_one = [line(1, 7, PICTURED_LETTERS[0]), line(2, 7, PICTURED_LETTERS[1]), line(3, 8, checks)];
     assert_eq!(entries(&book, one), of_one);
     assert_eq!(entries(&book, two), [line(1, 7, CREDITED_LETTERS[0]), line(2, 7, CREDITED_LETTERS[1])]);
-    let totals = |owner| book.totals(owner).map(|totals| (totals.entries, numbers(totals.figures)));
-    assert_eq!(totals(one), Ok((3, [4, 6, 0, 8, 47_907, 0])));
-    assert_eq!(totals(two), Ok((2, [3, 5, 6, 14, 47_807, 164_364])));
+    let totals = |owner| book.totals(owner).map(|totals| (totals.entries, numbers(totals.figures), totals.net));
+    assert_eq!(totals(one), Ok((3, [4, 6, 0, 8, 47_907, 0], -47_907)));
+    assert_eq!(totals(two), Ok((2, [3, 5, 6, 14, 47_807, 164_364], 116_557)));
     assert_eq!(book.free_rows(), Ok(0));
     for (owner, entries) in [(one, 2), (two, 2)] {
         let duplicate = Refused::Duplicate { owner, file_number: 7, entries, first: Some(1) };
@@ -100,7 +106,7 @@ fn two_owners() {
         assert_eq!(book.enter(&pictured, 9, owner), Err(Refused::Full(Some(Want::Rows { letters: 2, free: 0 }))));
     }
     // The table, as include/x9180.h lays it out.
-    let head = [5, 3, 4, 6, 0, 8, 47_907, 0, 0, 2, 3, 5, 6, 14, 47_807, 164_364, 0];
+    let head = [5, 3, 4, 6, 0, 8, 47_907, 0, below_zero(47_907), 2, 3, 5, 6, 14, 47_807, 164_364, 116_557];
     let [first, second] = PICTURED_LETTERS.map(|letter| letter.to_vec());
     let [third, fourth] = CREDITED_LETTERS.map(|letter| letter.to_vec());
     let rows = [
@@ -155,6 +161,10 @@ fn books_without_owners() {
         grown.enter(&sample(PICTURED), 9, owner).unwrap();
         let mut given = Book::given_to(owner, old.clone());
         assert_eq!(given.numbers(), grown.numbers());
+        // A book of request 8 is that with anything in the places of the nets.
+        let mut table = grown.numbers().to_vec();
+        (table[8], table[16]) = (5, u64::MAX);
+        assert_eq!(Book::with_nets(table).numbers(), grown.numbers());
         assert_eq!(entries(&given, other), [[0; 8]; 0]);
         let checks = sample("peer/samples/sound-2-checks.x9");
         assert_eq!(given.enter(&checks, 9, owner).unwrap_err().number(), Number::DUPLICATE);
@@ -167,9 +177,9 @@ fn lent_and_owned_memory() {
     let file = sample(PICTURED);
     let mut owned = Book::with_rows(2).unwrap();
     owned.enter(&file, 9, Owner::ONE).unwrap();
-    // Of the head, 17 numbers: rows claimed, the first owner's last entry number and running totals. Of each row: owner, entry number, file number,
+    // Of the head, 17 numbers: rows claimed, the first owner's last entry number, running totals and net. Of each row: owner, entry number, file number,
     // figures.
-    let head = [2, 2, 3, 4, 0, 8, 47_557, 0, 0, 0, 0, 0, 0, 0, 0, 0, 0];
+    let head = [2, 2, 3, 4, 0, 8, 47_557, 0, below_zero(47_557), 0, 0, 0, 0, 0, 0, 0, 0];
     let rows = [[1, 1, 9, 2, 3, 0, 6, 16_557, 0], [1, 2, 9, 1, 1, 0, 2, 31_000, 0]];
     assert_eq!(owned.numbers(), [head.as_slice(), &rows.concat()].concat());
 
@@ -299,8 +309,15 @@ fn tables_that_are_no_books() {
         let first =
             if owner == Owner::ONE { total(owner, Figure::Bundles, 3, 2) } else { total(other, Figure::Bundles, 0, 1) };
         assert_eq!(changed(&[(26, other.0)]), first);
-        // Not looked at: the ends of the owners' blocks, and the rows behind those claimed.
-        for place in [8, 16].into_iter().chain(35..44) {
+        // The net: 164364 - 47807. The totals come before it.
+        let net = |owner, net, rows| Err(Refused::Book(Some(Wrong::Net { owner, net, rows })));
+        for (number, read_as) in [(116_556, 116_556), (0, 0), (below_zero(116_557), -116_557), (1 << 63, i64::MIN)] {
+            assert_eq!(changed(&[(own + 6, number)]), net(owner, read_as, 116_557));
+        }
+        assert_eq!(changed(&[(others + 6, u64::MAX)]), net(other, -1, 0));
+        assert_eq!(changed(&[(own + 6, 0), (own, 4)]), total(owner, Figure::Bundles, 4, 3));
+        // Not looked at: the rows behind those claimed.
+        for place in 35..44 {
             assert_eq!(changed(&[(place, u64::MAX)]), sound.totals(owner));
         }
     }
@@ -347,6 +364,7 @@ fn filled(owner: Owner, last: u64, figures: [u64; 6]) -> Book {
     let block = if owner == Owner::ONE { 1 } else { 9 };
     (table[0], table[block]) = (1, last);
     table[block + 1..block + 7].copy_from_slice(&figures);
+    table[block + 7] = figures[5].wrapping_sub(figures[4]);
     table[17..20].copy_from_slice(&[owner.0, 1, 1]);
     table[20..26].copy_from_slice(&figures);
     Book::over(table)
@@ -365,7 +383,8 @@ fn full_for_want_of_numbers() {
         assert_eq!(last.enter(&file, 2, other).unwrap().numbers(), 1..=1);
         assert_eq!(filled(owner, u64::MAX - 1, [0; 6]).enter(&file, 2, owner).unwrap().numbers(), u64::MAX..=u64::MAX);
         for (place, figure) in Figure::ALL.into_iter().enumerate() {
-            let mut figures = [0; 6];
+            // Debit and credit cents go up together, or the net would be out of bounds.
+            let mut figures = if place < 4 { [0; 6] } else { letter.map(|figure| u64::MAX - figure) };
             figures[place] = u64::MAX - letter[place];
             let mut book = filled(owner, 1, figures);
             assert_eq!(book.enter(&file, 2, owner).unwrap().numbers(), 2..=2);
@@ -378,6 +397,54 @@ fn full_for_want_of_numbers() {
             assert_eq!(book.numbers(), before);
             assert_eq!(book.enter(&file, 2, other).unwrap().numbers(), 1..=1);
         }
+    }
+}
+
+/// The bound of a net position, either side.
+const BOUND: u64 = 1_000_000_000_000_000_000;
+
+/// RANGE where a file would carry the net beyond the bound, and the bound itself, which is allowed. It comes after DUPLICATE and before FULL.
+#[test]
+fn net_positions_out_of_bounds() {
+    // Of the first, 112352 - 40005 = 72347 cents; of the second, -350.
+    let (credits, checks) = (sample("peer/samples/sound-11-credits.x9"), sample("peer/samples/sound-2-checks.x9"));
+    let cents = |debit: u64, credit: u64| [0, 0, 0, 0, debit, credit];
+    let bound = BOUND as i64;
+    for (owner, other) in [(Owner::ONE, Owner::TWO), (Owner::TWO, Owner::ONE)] {
+        for (file, figures, net) in
+            [(&credits, cents(0, BOUND - 72_347), bound), (&checks, cents(BOUND - 350, 0), -bound)]
+        {
+            let mut book = filled(owner, 1, figures);
+            assert_eq!(book.enter(file, 2, owner).unwrap().numbers(), 2..=2);
+            assert_eq!(book.totals(owner).unwrap().net, net);
+            // The way back is open, and so is the other owner's.
+            assert!(filled(owner, 1, figures).enter(file, 2, other).is_ok());
+        }
+        for (file, figures, more) in [
+            (&credits, cents(0, BOUND - 72_346), 72_347),
+            (&checks, cents(BOUND - 349, 0), -350),
+            // Nets that are out of bounds already, by whatever way: it counts where they would be.
+            (&credits, cents(0, i64::MAX as u64), 72_347),
+            (&checks, cents(1 << 63, 0), -350),
+            (&checks, cents(0, BOUND + 351), -350),
+        ] {
+            let mut book = filled(owner, 1, figures);
+            let before = book.numbers().to_vec();
+            let net = figures[5].wrapping_sub(figures[4]) as i64;
+            let range = Refused::Range { owner, net, then: i128::from(net) + more };
+            assert_eq!(book.enter(file, 2, owner), Err(range.clone()));
+            assert_eq!(book.numbers(), before);
+            assert_eq!(book.enter(file, 1, owner).unwrap_err().number(), Number::DUPLICATE);
+            // Without a free row.
+            assert_eq!(Book::over(before[..26].to_vec()).enter(file, 2, owner), Err(range));
+        }
+        let mut back = filled(owner, 1, cents(0, BOUND + 350));
+        assert!(back.enter(&checks, 2, owner).is_ok());
+        assert_eq!(back.totals(owner).unwrap().net, bound);
+        // What an i64 does not hold is no net.
+        let past = filled(owner, 1, cents(0, 1 << 63));
+        let wrong = Wrong::Net { owner, net: i64::MIN, rows: 1 << 63 };
+        assert_eq!(past.totals(other), Err(Refused::Book(Some(wrong))));
     }
 }
 
@@ -452,6 +519,10 @@ impl Lists {
         Number::ACCEPTED
     }
 
+    fn net(&self, owner: Owner) -> i64 {
+        self.of(owner).iter().map(|entry| entry[7] as i64 - entry[6] as i64).sum()
+    }
+
     fn sums(&self, owner: Owner) -> [u64; 6] {
         std::array::from_fn(|figure| self.of(owner).iter().map(|entry| entry[2 + figure]).sum())
     }
@@ -486,6 +557,7 @@ fn histories_beside_plain_lists() {
                 assert_eq!(entries(&book, owner), *own);
                 let totals = book.totals(owner).unwrap();
                 assert_eq!((totals.entries, numbers(totals.figures)), (own.len() as u64, lists.sums(owner)));
+                assert_eq!(totals.net, lists.net(owner));
                 let wanted = random.below(30) as u64;
                 let found = book.find(owner, wanted);
                 let found = found.map(|entry| line(entry.number, entry.file_number, numbers(entry.figures)));

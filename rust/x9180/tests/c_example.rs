@@ -88,13 +88,20 @@ fn keeps_a_day_book() {
     let none = run(["no such file", pictured]);
     std::fs::remove_dir_all(&folder).unwrap();
 
-    // The letters of the samples as in `tests/book.rs`; 16557 + 31000 debit cents, 16807 + 31000, and 33364 + 131000 credit cents.
+    // The letters of the samples as in `tests/book.rs`; 16557 + 31000 debit cents, 16807 + 31000, and 33364 + 131000 credit cents,
+    // which are 116557 more.
     let entered = "owner 1: 2 letters entered, from entry 1 on\n";
     let of_one = "owner 1: entries 2 bundles 3 debits 4 credits 0 views 8 debit 47557 credit 0\n\
+                  owner 1: net -47557\n\
                   owner 1: entry 2 bundles 1 debits 1 credits 0 views 2 debit 31000 credit 0\n";
     let of_two = "owner 2: entries 2 bundles 3 debits 5 credits 6 views 14 debit 47807 credit 164364\n\
+                  owner 2: net 116557\n\
                   owner 2: entry 2 bundles 1 debits 1 credits 2 views 4 debit 31000 credit 131000\n";
-    let nothing = |owner| format!("owner {owner}: entries 0 bundles 0 debits 0 credits 0 views 0 debit 0 credit 0\n");
+    let nothing = |owner| {
+        format!(
+            "owner {owner}: entries 0 bundles 0 debits 0 credits 0 views 0 debit 0 credit 0\nowner {owner}: net 0\n"
+        )
+    };
     assert_eq!(both, (Some(0), [entered, &entered.replace("owner 1", "owner 2"), of_one, of_two].concat()));
     let refused = "refused 9 record 10 field 3 offset 764\n";
     assert_eq!(one, (Some(1), [entered, refused, of_one, &nothing(2)].concat()));

@@ -1,11 +1,17 @@
-use mathlib.Core.Path.{sym, ap, ap₂, _∙_}
+use mathlib.Core.Path.{sym, ap, _∙_}
 use Prim.Native.Nat.{ℕ, _+_}
+use mir.Syntax.{w64}
+use mir.ValLaws.{toZ-ofZ}
 use denote.Ref.{now}
-use lib.ListN.{length}
+use lib.ListN.{length, getD}
 use borrow.Author.Tests.{not-true, not-false}
+use Rattle.figures.specs.declared.Figures.{Figures}
 use Rattle.figures.specs.Figures.{figuresAt}
+use Rattle.net.specs.Net.{signed}
+use Rattle.net.proofs.Laws.{net-said}
 use Rattle.book_table.specs.declared.Tally.the-variants.{Totals}
-use Rattle.book_table.specs.Table.{entriesFrom, entriesOf}
+use Rattle.book_table.specs.PlainList.{positionOf}
+use Rattle.book_table.specs.Table.{runningTotals, netNumber, entriesFrom, entriesOf}
 use Rattle.book_table.proofs.Laws.{sound}
 use Rattle.book.specs.Calls.{totalsAnswer}
 use borrow.Author.Needs.{needs}
@@ -41,14 +47,26 @@ add-figures-at c = search needs
 figures-at-requires : tie.Need-figures-at-requires
 figures-at-requires c κs = search needs
 
+add-number-at : tie.Need-add-number-at
+add-number-at c = search needs
+
+number-at-requires-2 : tie.Need-number-at-requires-2
+number-at-requires-2 c κs = search needs
+
+signed-of-requires : tie.Need-signed-of-requires
+signed-of-requires c κs = search needs
+
 returns-3 : tie.Need-returns-3
 unfolding totalsAnswer entriesOf
 returns-3 c =
-    let e = sym (c .before .before .before .before .before .before .before .is-book .ensures) ∙ not-false (c .before .before .before .before .before .before .before .is-book .result) (c .before .before .before .before .before .before .if1 .left) in
-    let w = sym (c .before .before .before .before .before .is-owner .ensures) ∙ not-false (c .before .before .before .before .before .is-owner .result) (c .before .before .before .before .if2 .left) in
-    let count = c .before .before .own-rows .ensures ∙ ap (λ (n : ℕ). length (entriesFrom (c .before .before .before .before .before .before .before .before .before .args .owner) (now (c .before .before .before .before .before .before .before .before .before .args .book)) n 17)) (c .before .before .before .number-at .ensures) in
-    let sums = c .figures-at .ensures ∙ ap (λ (n : ℕ). figuresAt (now (c .before .before .before .before .before .before .before .before .before .args .book)) (n + 1)) (c .before .block-of .ensures .0) ∙ sound (now (c .before .before .before .before .before .before .before .before .before .args .book)) e .sums (c .before .before .before .before .before .before .before .before .before .args .owner) w in
-    rw (e, w) (ap₂ Totals count sums)
+    let e = sym (c .before .before .before .before .before .before .before .before .before .is-book .ensures) ∙ not-false (c .before .before .before .before .before .before .before .before .before .is-book .result) (c .before .before .before .before .before .before .before .before .if1 .left) in
+    let w = sym (c .before .before .before .before .before .before .before .is-owner .ensures) ∙ not-false (c .before .before .before .before .before .before .before .is-owner .result) (c .before .before .before .before .before .before .if2 .left) in
+    let count = c .before .before .before .before .own-rows .ensures ∙ ap (λ (n : ℕ). length (entriesFrom (c .before .before .before .before .before .before .before .before .before .before .before .args .owner) (now (c .before .before .before .before .before .before .before .before .before .before .before .args .book)) n 17)) (c .before .before .before .before .before .number-at .ensures) in
+    let sums = c .before .before .figures-at .ensures ∙ ap (λ (n : ℕ). figuresAt (now (c .before .before .before .before .before .before .before .before .before .before .before .args .book)) (n + 1)) (c .before .before .before .block-of .ensures .0) ∙ sound (now (c .before .before .before .before .before .before .before .before .before .before .before .args .book)) e .sums (c .before .before .before .before .before .before .before .before .before .before .before .args .owner) w in
+    let number = c .before .number-at2 .ensures ∙ ap (λ (n : ℕ). getD (now (c .before .before .before .before .before .before .before .before .before .before .before .args .book)) (n + 7) 0) (c .before .before .before .block-of .ensures .0) in
+    let position = toZ-ofZ w64 (c .signed-of .result) (record { sfits = c .signed-of .ok }) ∙ c .signed-of .ensures ∙ ap signed number
+    ∙ net-said (netNumber (c .before .before .before .before .before .before .before .before .before .before .before .args .owner) (now (c .before .before .before .before .before .before .before .before .before .before .before .args .book))) (positionOf (runningTotals (c .before .before .before .before .before .before .before .before .before .before .before .args .owner) (now (c .before .before .before .before .before .before .before .before .before .before .before .args .book)))) (sound (now (c .before .before .before .before .before .before .before .before .before .before .before .args .book)) e .nets (c .before .before .before .before .before .before .before .before .before .before .before .args .owner) w) ∙ ap positionOf (sound (now (c .before .before .before .before .before .before .before .before .before .before .before .args .book)) e .sums (c .before .before .before .before .before .before .before .before .before .before .before .args .owner) w) in
+    rw (e, w) (λ i. Totals (count i) (sums i) (position i))
 
 pub totals-spec : {M : Type 1} → statement M
 totals-spec =
@@ -63,4 +81,7 @@ totals-spec =
     block-of-requires
     add-figures-at
     figures-at-requires
+    add-number-at
+    number-at-requires-2
+    signed-of-requires
     returns-3)

@@ -1,13 +1,14 @@
-use mathlib.Core.List.{_∷_}
 use mathlib.Core.Path.{ap, _∙_}
 use Prim.Native.Nat.{ℕ, _+_}
 use native.Mathlib.Omega.{arith}
-use native.Mathlib.Numerals.{add-one}
 use denote.Ref.{now}
 use lib.ListN.{getD, set, length-set}
 use lib.Seq.{sets}
 use Rattle.figures.specs.declared.Figures.{Figures}
-use Rattle.figures.specs.Figures.{plus, numbersOf, figuresAt}
+use Rattle.figures.specs.Figures.{plus, figuresAt}
+use Rattle.net.specs.Net.{within}
+use Rattle.book_table.specs.PlainList.{positionOf}
+use Rattle.book_table.specs.Table.{blockWith}
 use borrow.Author.Needs.{needs}
 use Rattle.book_table.proofs.raise_head.Statement.{statement}
 use Rattle.book_table.proofs.raise_head.Tie as tie
@@ -36,31 +37,21 @@ add-book c = search needs
 slice-write-book : tie.Need-slice-write-book
 slice-write-book c = search needs
 
-mul-book : tie.Need-mul-book
-mul-book c = search needs
-
-slice-write-book-2 : tie.Need-slice-write-book-2
-slice-write-book-2 c = simp length-set (omega (arith, c .before .before .before .before .before .block-of .ensures .1 .1, c .before .before .before .before .before .before .before .pre .0))
-
-add-put-figures : tie.Need-add-put-figures
-add-put-figures c = search needs
-
 raised-requires : tie.Need-raised-requires
 raised-requires c κs = rw (c .before .before .figures-at .ensures, c .before .before .before .before .before .before .block-of .ensures .0) (c .before .before .before .before .before .before .before .before .pre .3)
 
-put-figures-requires : tie.Need-put-figures-requires
-put-figures-requires c κs = simp length-set (omega (arith, c .before .before .before .before .before .before .before .block-of .ensures .1 .1, c .before .before .before .before .before .before .before .before .before .pre .0))
+put-block-requires : tie.Need-put-block-requires
+put-block-requires c κs = (simp length-set (omega (arith, c .before .before .before .before .before .before .before .block-of .ensures .1 .1, c .before .before .before .before .before .before .before .before .before .pre .0)), ap (λ (f : Figures). within (positionOf f)) (c .raised .ensures ∙ ap (λ (f : Figures). plus f (c .before .before .before .before .before .before .before .before .before .args .added)) (c .before .before .before .figures-at .ensures ∙ ap (λ (n : ℕ). figuresAt (now (c .before .before .before .before .before .before .before .before .before .args .book)) (n + 1)) (c .before .before .before .before .before .before .before .block-of .ensures .0))) ∙ c .before .before .before .before .before .before .before .before .before .pre .4)
 
 same-length : tie.Need-same-length
-same-length c = c .before .before .put-figures .kept .0 ∙ simp length-set
+same-length c = c .before .before .put-block .kept .0 ∙ simp length-set
 
 returns : tie.Need-returns
 returns c =
     let block = c .before .before .before .before .before .before .before .before .before .before .block-of .ensures .0 in
     let last = (c .before .before .before .before .before .before .before .before .number-at .ensures ∙ ap (λ (n : ℕ). getD (now (c .before .before .before .before .before .before .before .before .before .before .before .before .args .book)) n 0) (c .before .before .before .before .before .before .before .before .before .before .block-of .ensures .0)) in
-    let totals = c .before .before .before .raised .ensures ∙ ap (λ (f : Figures). plus f (c .before .before .before .before .before .before .before .before .before .before .before .before .args .added)) (c .before .before .before .before .before .before .figures-at .ensures ∙ ap (λ (n : ℕ). figuresAt (now (c .before .before .before .before .before .before .before .before .before .before .before .before .args .book)) (n + 1)) block) in
-    c .before .before .put-figures .ensures ∙ (simp add-one)
-    ∙ (λ i. sets (set (now (c .before .before .before .before .before .before .before .before .before .before .before .before .args .book)) 0 (getD (now (c .before .before .before .before .before .before .before .before .before .before .before .before .args .book)) 0 0 + c .before .before .before .before .before .before .before .before .before .before .before .before .args .letters)) (block i) ((last i + c .before .before .before .before .before .before .before .before .before .before .before .before .args .letters) ∷ numbersOf (totals i)))
+    let totals = (c .before .before .before .raised .ensures ∙ ap (λ (f : Figures). plus f (c .before .before .before .before .before .before .before .before .before .before .before .before .args .added)) (c .before .before .before .before .before .before .figures-at .ensures ∙ ap (λ (n : ℕ). figuresAt (now (c .before .before .before .before .before .before .before .before .before .before .before .before .args .book)) (n + 1)) (c .before .before .before .before .before .before .before .before .before .before .block-of .ensures .0))) in
+    c .before .before .put-block .ensures ∙ (λ i. sets (set (now (c .before .before .before .before .before .before .before .before .before .before .before .before .args .book)) 0 (getD (now (c .before .before .before .before .before .before .before .before .before .before .before .before .args .book)) 0 0 + c .before .before .before .before .before .before .before .before .before .before .before .before .args .letters)) (block i) (blockWith (last i + c .before .before .before .before .before .before .before .before .before .before .before .before .args .letters) (totals i)))
 
 pub raise-head-spec : {M : Type 1} → statement M
 raise-head-spec =
@@ -74,10 +65,7 @@ raise-head-spec =
     slice-read-book
     add-book
     slice-write-book
-    mul-book
-    slice-write-book-2
-    add-put-figures
     raised-requires
-    put-figures-requires
+    put-block-requires
     same-length
     returns)

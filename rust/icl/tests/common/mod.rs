@@ -90,6 +90,26 @@ impl Drop for Folder {
     }
 }
 
+/// A check sum as the XZ format has it, bit by bit.
+pub fn check_sum(bytes: &[u8]) -> u64 {
+    let bit = |sum: u64| (sum >> 1) ^ if sum & 1 == 1 { 0xC96C_5795_D787_0F42 } else { 0 };
+    !bytes.iter().fold(!0, |sum, byte| (0..8).fold(sum ^ u64::from(*byte), |sum, _| bit(sum)))
+}
+
+/// The file of a day book of a version, as `docs/BOOK-FILE.md` has it, with so many numbers in its table, of which these are the first.
+pub fn book_file(version: u64, length: u64, numbers: &[u64]) -> Vec<u8> {
+    let stored = numbers.iter().rposition(|number| *number != 0).map_or(0, |last| last + 1);
+    let mut bytes = format!("icl day book, version {version}\n").into_bytes();
+    [length, stored as u64].iter().chain(&numbers[..stored]).for_each(|number| bytes.extend(number.to_le_bytes()));
+    bytes.extend(check_sum(&bytes).to_le_bytes());
+    bytes
+}
+
+/// A number below zero in two's complement.
+pub fn below_zero(number: u64) -> u64 {
+    u64::MAX - number + 1
+}
+
 /// A sound file of 9,999 checks of one cent.
 pub fn many_checks() -> Vec<u8> {
     let mut records = vec![file_header(), letter_header('E'), bundle_header()];

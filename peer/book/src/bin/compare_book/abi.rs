@@ -1,4 +1,4 @@
-//! The proved library's calls of requests 6 and 8 (points 37 and 39), as a side that answers.
+//! The proved library's calls of requests 6, 8 and 9 (points 37, 39 and 40), as a side that answers.
 
 use peer_book::call::{Lent, Outcome, Side};
 use peer_book::layout::{ENTER_ANSWER, FIND_ANSWER, TOTALS_ANSWER};

@@ -1,0 +1,49 @@
+use mathlib.Core.Path.{ap, _∙_}
+use Prim.Native.Nat.{ℕ, _+_}
+use mir.Syntax.{w64}
+use mir.ValLaws.{toZ-ofZ}
+use denote.Ref.{now}
+use lib.IntN.{ℤ, _+ℤ_}
+use lib.ListN.{getD}
+use Rattle.net.specs.Net.{netOf, signed, within}
+use Rattle.net.proofs.Laws.{net-sum, net-said}
+use Rattle.book_table.specs.PlainList.{positionOf}
+use Rattle.book_table.specs.Table.{runningTotals, netNumber}
+use borrow.Author.Needs.{needs}
+use Rattle.book_table.proofs.keeps_range.Statement.{statement}
+use Rattle.book_table.proofs.keeps_range.Tie as tie
+
+block-of-requires : tie.Need-block-of-requires
+block-of-requires c κs = search needs
+
+add-number-at : tie.Need-add-number-at
+add-number-at c = search needs
+
+number-at-requires : tie.Need-number-at-requires
+number-at-requires c κs = search needs
+
+signed-of-requires : tie.Need-signed-of-requires
+signed-of-requires c κs = search needs
+
+stays-within-requires : tie.Need-stays-within-requires
+stays-within-requires c κs = search needs
+
+returns : tie.Need-returns
+returns c =
+    let sums = c .before .before .before .before .before .before .args .added .sums in
+    let number = c .before .before .before .number-at .ensures ∙ ap (λ (n : ℕ). getD (now (c .before .before .before .before .before .before .args .book)) (n + 7) 0) (c .before .before .before .before .block-of .ensures .0) in
+    let said = toZ-ofZ w64 (c .before .before .signed-of .result) (record { sfits = c .before .before .signed-of .ok }) ∙ c .before .before .signed-of .ensures ∙ ap signed number ∙ net-said (netNumber (c .before .before .before .before .before .before .args .owner) (now (c .before .before .before .before .before .before .args .book))) (positionOf (runningTotals (c .before .before .before .before .before .before .args .owner) (now (c .before .before .before .before .before .before .args .book)))) (c .before .before .before .before .before .before .pre) in
+    let totals = runningTotals (c .before .before .before .before .before .before .args .owner) (now (c .before .before .before .before .before .before .args .book)) .sums in
+    c .stays-within .ensures ∙ ap (λ (z : ℤ). within (z +ℤ netOf (sums .credit .0) (sums .debit .0))) said
+    ∙ ap within (net-sum (totals .credit .0) (totals .debit .0) (sums .credit .0) (sums .debit .0))
+
+pub keeps-range-spec : {M : Type 1} → statement M
+keeps-range-spec =
+    tie.close
+    (tie.spec
+    block-of-requires
+    add-number-at
+    number-at-requires
+    signed-of-requires
+    stays-within-requires
+    returns)
