@@ -457,6 +457,9 @@ fn a_file_of_many_letters() {
     assert_eq!(entries(&book, Owner::TWO), expected);
 }
 
+/// A call that changes a book: with a file, an owner, and an entry number or file number.
+type Call = fn(&mut Book, &[u8], Owner, u64) -> Result<(), Refused>;
+
 /// No table and no list makes a call panic, and no refused call changes one.
 #[test]
 fn any_numbers() {
@@ -477,7 +480,7 @@ fn any_numbers() {
         let book = Book::over(table, taken);
         let (found, totals) = (book.find(owner, entry), book.totals(owner));
         assert_eq!(book.entries(owner).is_ok(), totals.is_ok());
-        let calls: [fn(&mut Book, &[u8], Owner, u64) -> Result<(), Refused>; 3] = [
+        let calls: [Call; 3] = [
             |book, _, owner, entry| book.withdraw(owner, entry).map(drop),
             |book, _, _, _| book.tidy().map(drop),
             |book, file, owner, number| book.enter(file, number, owner).map(drop),

@@ -192,6 +192,9 @@ fn histories_beside_plain_rows() {
     assert!(reused > 20, "{reused}");
 }
 
+/// What a bureau does with the book on a day.
+type Day<'d> = &'d dyn Fn(&mut Book, u64);
+
 /// What one owner is answered depends on its own calls and on the rows and places that are free, and on nothing else that the other did (requests 8 and 10).
 #[test]
 fn an_owner_does_not_see_the_other() {
@@ -211,7 +214,7 @@ fn an_owner_does_not_see_the_other() {
         }
         book.tidy().unwrap();
     };
-    let busy: [&dyn Fn(&mut Book, u64); 2] = [&few, &many];
+    let busy: [Day<'_>; 2] = [&few, &many];
     let answers = busy.map(|of_two| {
         let mut book = Book::with_rows_and_places(9, 9).unwrap();
         let mut answers = Vec::new();
