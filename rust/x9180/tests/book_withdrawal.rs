@@ -97,12 +97,32 @@ fn what_does_not_come_back() {
         }
         // The last entry of all goes too, and numbers go on from it.
         book.withdraw(Owner::ONE, 3).unwrap();
+        if tidy {
+            assert_eq!(book.tidy(), Ok(1));
+        }
         let totals = book.totals(Owner::ONE).unwrap();
         assert_eq!((totals.entries, numbers(totals.figures), totals.net), (0, [0; 6], 0));
         assert_eq!(book.enter(&sample(CHECKS), 9, Owner::ONE).unwrap().numbers(), 4..=4);
         assert_eq!(entries(&book, Owner::ONE), [line(4, 9, CHECKS_LETTER)]);
         assert_eq!(entries(&book, Owner::TWO), entries(&five(), Owner::TWO));
     }
+}
+
+/// The lowest gaps come before the rows behind those claimed, and the letters of one file may go into both.
+#[test]
+fn gaps_before_other_rows() {
+    let mut book = Book::with_rows(6).unwrap();
+    for number in 1..=4 {
+        book.enter(&sample(CHECKS), number, Owner::ONE).unwrap();
+    }
+    let mut enter = |gaps: &[u64], number: u64| {
+        gaps.iter().for_each(|entry| drop(book.withdraw(Owner::ONE, *entry).unwrap()));
+        book.enter(&sample(PICTURED), number, Owner::TWO).unwrap();
+        let rows = book.numbers()[17..].chunks(9).map(|row| (row[0], row[1]));
+        (book.numbers()[0], rows.collect::<Vec<_>>())
+    };
+    assert_eq!(enter(&[2], 5), (5, vec![(1, 1), (2, 1), (1, 3), (1, 4), (2, 2), (0, 0)]));
+    assert_eq!(enter(&[4, 1, 3], 6), (5, vec![(2, 3), (2, 1), (2, 4), (0, 0), (2, 2), (0, 0)]));
 }
 
 /// Only an owner's own entry, and one that is there.
