@@ -3,7 +3,7 @@
 use crate::call::{Call, History, Outcome};
 use crate::files::REFUSALS;
 use crate::grow::is_empty;
-use crate::layout::{rows_there, ACCEPTED, DUPLICATE, FULL, HEAD, ROOM, WIDTH};
+use crate::layout::{is_owner, rows_there, ACCEPTED, DUPLICATE, FULL, HEAD, NOENTRY, ROOM, WIDTH};
 use crate::points::{named, Point};
 
 /// The points of a history; none where the book was not empty.
@@ -14,6 +14,7 @@ pub fn shown(history: &History, outcomes: &[Outcome]) -> Vec<Point> {
     let entering = entering(history, outcomes);
     let mut points = grown(history, &entering);
     points.extend(later(history, outcomes, &entering));
+    points.extend(withdrawn(history, outcomes, &entering));
     points
 }
 
@@ -141,6 +142,141 @@ fn later(history: &History, outcomes: &[Outcome], entering: &[Entering]) -> Vec<
         told_the_same(history, outcomes, entering, added_up, |one, at| !own(one, at)),
     ];
     named(LATER, holds, Point::Later)
+}
+
+pub const WITHDRAWN: [&str; 15] = [
+    "a withdrawn entry not found",
+    "a withdrawn entry withdrawn again",
+    "the number of a withdrawn entry asked for by the other owner, who has it",
+    "DUPLICATE for the file of a withdrawn letter, another of which is present",
+    "DUPLICATE for a file of which every letter was withdrawn",
+    "numbered on though the last number was withdrawn",
+    "FULL, and entered after a withdrawal",
+    "FULL, and entered after the other owner's withdrawal",
+    "FULL though every entry was withdrawn",
+    "an entry found the same after a withdrawal and a tidy-up",
+    "totals as before after a file was entered and withdrawn",
+    "more letters entered than there are rows",
+    "every entry withdrawn, and a file entered",
+    "a tidy-up after a tidy-up",
+    "a file entered after a tidy-up that closed gaps",
+];
+
+/// An entry that a history put in, and where it was withdrawn.
+struct Lived {
+    owner: u64,
+    number: u64,
+    file_number: u64,
+    from: usize,
+    to: Option<usize>,
+}
+
+/// Every entry of a history.
+fn lived(history: &History, outcomes: &[Outcome], entering: &[Entering]) -> Vec<Lived> {
+    let mut all: Vec<Lived> = Vec::new();
+    for one in entering.iter().filter(|one| one.accepted()) {
+        let (first, letters) = (outcomes[one.at].answer[12], outcomes[one.at].answer[5]);
+        all.extend((first..first + letters).map(|number| {
+            let (owner, file_number) = (one.owner, one.file_number);
+            Lived { owner, number, file_number, from: one.at, to: None }
+        }));
+    }
+    for (at, call) in history.calls.iter().enumerate().filter(|(at, _)| outcomes[*at].returned == ACCEPTED) {
+        if let Call::Withdraw { owner, entry_number } = *call {
+            let its = |entry: &&mut Lived| entry.owner == owner && entry.number == entry_number;
+            if let Some(entry) = all.iter_mut().find(its) {
+                entry.to = Some(at);
+            }
+        }
+    }
+    all
+}
+
+/// What calls show that come after a withdrawal or a tidy-up.
+fn withdrawn(history: &History, outcomes: &[Outcome], entering: &[Entering]) -> Vec<Point> {
+    let all = lived(history, outcomes, entering);
+    let gone = |entry: &Lived, at: usize| entry.to.is_some_and(|to| to < at);
+    let present = |entry: &Lived, at: usize| entry.from < at && !gone(entry, at);
+    let answered = |at: usize, number: u64| outcomes[at].returned == number;
+    let calls = 0..history.calls.len();
+    let asks = |at: usize, entry: &Lived, withdrawing: bool| match history.calls[at] {
+        Call::Find { owner, entry_number } => !withdrawing && (owner, entry_number) == (entry.owner, entry.number),
+        Call::Withdraw { owner, entry_number } => withdrawing && (owner, entry_number) == (entry.owner, entry.number),
+        _ => false,
+    };
+    let asked_again = |withdrawing: bool| {
+        let again = |entry: &Lived, at: usize| gone(entry, at) && asks(at, entry, withdrawing) && answered(at, NOENTRY);
+        all.iter().any(|entry| calls.clone().any(|at| again(entry, at)))
+    };
+    let the_others = all.iter().any(|entry| {
+        let had = |at: usize| {
+            all.iter().any(|two| two.owner != entry.owner && two.number == entry.number && asks(at, two, false))
+        };
+        calls.clone().any(|at| gone(entry, at) && had(at) && answered(at, ACCEPTED))
+    });
+    let duplicate = |left: bool| {
+        entering.iter().filter(|one| one.number == DUPLICATE).any(|one| {
+            let its = |entry: &&Lived| (entry.owner, entry.file_number) == (one.owner, one.file_number);
+            let some_left = all.iter().filter(its).any(|entry| present(entry, one.at));
+            some_left == left && all.iter().filter(its).any(|entry| gone(entry, one.at))
+        })
+    };
+    let numbered_on = entering.iter().filter(|one| one.accepted()).any(|one| {
+        let before = outcomes[one.at].answer[12] - 1;
+        all.iter().any(|entry| entry.owner == one.owner && entry.number == before && gone(entry, one.at))
+    });
+    let freed = |same_owner: bool| {
+        let between = |from: usize, to: usize, owner: u64| {
+            all.iter().any(|entry| {
+                entry.to.is_some_and(|at| (from..to).contains(&at)) && (entry.owner == owner) == same_owner
+            })
+        };
+        let full = |two: &Entering| {
+            entering
+                .iter()
+                .filter(|one| one.at < two.at && one.number == FULL && two.repeats(one))
+                .any(|one| between(one.at, two.at, one.owner))
+        };
+        entering.iter().any(|two| two.accepted() && full(two))
+    };
+    let none_present =
+        |at: usize| all.iter().all(|entry| !present(entry, at)) && all.iter().any(|entry| gone(entry, at));
+    let on_none = |number: u64| entering.iter().any(|one| one.number == number && none_present(one.at));
+    let tidies: Vec<usize> = calls.clone().filter(|at| history.calls[*at] == Call::Tidy).collect();
+    let closes = |at: &usize| all.iter().any(|entry| gone(entry, *at));
+    let found_after = tidies.iter().filter(|at| closes(at)).any(|tidy| {
+        let found = |at: &usize| matches!(history.calls[*at], Call::Find { .. }) && answered(*at, ACCEPTED);
+        let same = |from: usize, to: usize| history.calls[from] == history.calls[to] && outcomes[from] == outcomes[to];
+        (0..*tidy).filter(found).any(|from| (*tidy..history.calls.len()).filter(found).any(|to| same(from, to)))
+    });
+    let totals_back = calls.clone().any(|from| {
+        let asked = |at: usize| matches!(history.calls[at], Call::Totals { owner } if is_owner(owner));
+        let same =
+            |to: usize| asked(from) && history.calls[from] == history.calls[to] && outcomes[from] == outcomes[to];
+        let lived_between = |to: usize| {
+            let own = |entry: &&Lived| entry.owner == history.calls[to].owner();
+            all.iter().filter(own).any(|entry| entry.from > from && gone(entry, to))
+        };
+        (from + 1..history.calls.len()).any(|to| same(to) && lived_between(to))
+    });
+    let holds = [
+        asked_again(false),
+        asked_again(true),
+        the_others,
+        duplicate(true),
+        duplicate(false),
+        numbered_on,
+        freed(true),
+        freed(false),
+        on_none(FULL),
+        found_after,
+        totals_back,
+        all.len() > rows_there(history.book.len()),
+        on_none(ACCEPTED),
+        tidies.windows(2).any(|two| two[0] + 1 == two[1]) || tidies.len() > 2,
+        tidies.iter().filter(|at| closes(at)).any(|tidy| entering.iter().any(|one| one.at > *tidy && one.accepted())),
+    ];
+    named(WITHDRAWN, holds, Point::Later)
 }
 
 /// The same entry number looked up for both owners, and found.
