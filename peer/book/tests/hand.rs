@@ -874,12 +874,8 @@ fn rows_of_neither_are_gaps() {
     enters_two(7, &zeros, 1, &TWO_ENTERED[..35]);
     assert_eq!(entering(&one_letter(), 0, 28, &with([0; 35], &[(0, 1)])).2[0], 1);
     for owner in [0, 3, MOST, 1 << 32 | 1] {
-        enters_two(
-            7,
-            &with([5; 35].map(|_| 0), &[(0, 2), (17, owner), (20, 9), (26, owner), (34, MOST)]),
-            1,
-            &TWO_ENTERED[..35],
-        );
+        let gaps = with([0; 35], &[(0, 2), (17, owner), (20, 9), (26, owner), (34, MOST)]);
+        enters_two(7, &gaps, 1, &TWO_ENTERED[..35]);
     }
 }
 
@@ -1075,14 +1071,7 @@ fn a_tidy_up_closes_gaps() {
     // The gap of BOTH is behind its entries, with anything in it: zeros afterwards.
     tidies(&BOTH, &[&[3], &BOTH[1..44], &[0; 18]].concat());
     // A book of nothing but gaps.
-    tidies(
-        &with([9; 35], &[(0, 2), (17, 3), (26, 0)])
-            .iter()
-            .enumerate()
-            .map(|(at, number)| if (1..17).contains(&at) { 0 } else { *number })
-            .collect::<Vec<_>>(),
-        &[0; 35],
-    );
+    tidies(&[&[2][..], &[0; 16], &[3, 9, 9, 9, 9, 9, 9, 9, 9], &[0, 1, 1, 1, 1, 1, 1, 1, 1]].concat(), &[0; 35]);
     tidies(&with([0; 46], &[(0, 2), (1, 2)]), &with([0; 46], &[(1, 2)]));
 }
 
