@@ -445,6 +445,9 @@ pub fn range(random: &mut Random, turn: usize) -> History {
         sheet.put_net(random, other(owner), bound + side);
     }
     sheet.spare.resize(paper.letters.len() + random.below(2), [junk(random); WIDTH]);
+    if matches!(meeting, 1 | 3 | 5..=7) && random.percent(25) {
+        sheet.free_places.clear(); // RANGE comes first
+    }
     entering(random, "range", &sheet, paper, owner, None)
 }
 
