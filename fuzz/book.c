@@ -492,15 +492,17 @@ static void take_down(void) {
         if (is_owner(row_of(row)[OWNER])) memcpy(list[list_len++], row_of(row), sizeof list[0]);
 }
 
-/* What a call that was answered with 0 does to the list: a file's letters at its end, an entry taken out of it. A tidy-up does nothing. */
+/* What a call that was answered with 0 does to the list: a file's letters at its end, an entry taken out of it. A tidy-up does nothing. The book is as it
+ * was before the call: where a number stands twice, on a book that no calls have made, its first row tells which entry is meant. */
 static void note_down(const call *c, const outcome *due) {
+    const uint64_t *row = c->kind == WITHDRAW ? first_with(c->owner, ENTRY_NUMBER, c->number) : NULL;
     for (size_t letter = 0; c->kind == ENTER && letter < c->of->letters; letter++) {
         uint64_t *entry = list[list_len++];
         entry[OWNER] = c->owner, entry[ENTRY_NUMBER] = due->answer[ANSWER] + letter, entry[FILE_NUMBER] = c->number;
         memcpy(entry + FIGURES, c->of->figures[letter], SIX * 8);
     }
-    for (size_t i = 0; c->kind == WITHDRAW && i < list_len; i++)
-        if (list[i][OWNER] == c->owner && list[i][ENTRY_NUMBER] == c->number) {
+    for (size_t i = 0; row && i < list_len; i++)
+        if (!memcmp(list[i], row, sizeof list[0])) {
             memmove(list[i], list[i + 1], (--list_len - i) * sizeof list[0]);
             return;
         }
@@ -681,10 +683,10 @@ static trace go_on(const call *c, uint64_t pattern, trace before, int keep_list)
     work_out(c, &due);
     put_twice(c, pattern, &due);
     compare(c, pattern, &due);
+    if (keep_list && due.answer[0] == ACCEPTED) note_down(c, &due);
     memcpy(book, due.after, book_len * 8);
     memcpy(taken, due.taken_after, taken_len * 8);
     if (due.used) entered++;
-    if (keep_list && due.answer[0] == ACCEPTED) note_down(c, &due);
     if (c->kind == WITHDRAW && due.answer[0] == ACCEPTED) withdrawn++, note_withdrawn(c);
     by_number[due.answer[0]]++;
     size_t told_apart = c->kind * ALL_NUMBERS + (size_t)due.answer[0];

@@ -192,89 +192,157 @@ fn lived(history: &History, outcomes: &[Outcome], entering: &[Entering]) -> Vec<
     all
 }
 
+impl Lived {
+    fn gone(&self, at: usize) -> bool {
+        self.to.is_some_and(|to| to < at)
+    }
+
+    fn present(&self, at: usize) -> bool {
+        self.from < at && !self.gone(at)
+    }
+}
+
+/// A history with the lives of its entries.
+struct Lives<'a> {
+    history: &'a History,
+    outcomes: &'a [Outcome],
+    entering: &'a [Entering],
+    all: Vec<Lived>,
+}
+
+impl Lives<'_> {
+    fn calls(&self) -> std::ops::Range<usize> {
+        0..self.history.calls.len()
+    }
+
+    fn answered(&self, at: usize, number: u64) -> bool {
+        self.outcomes[at].returned == number
+    }
+
+    /// Whether a call looks this entry up, or withdraws it.
+    fn asks(&self, at: usize, entry: &Lived, withdrawing: bool) -> bool {
+        let its = (entry.owner, entry.number);
+        match self.history.calls[at] {
+            Call::Find { owner, entry_number } => !withdrawing && (owner, entry_number) == its,
+            Call::Withdraw { owner, entry_number } => withdrawing && (owner, entry_number) == its,
+            _ => false,
+        }
+    }
+
+    /// A withdrawn entry is looked up, or withdrawn again.
+    fn asked_again(&self, withdrawing: bool) -> bool {
+        let again = |entry: &Lived, at: usize| {
+            entry.gone(at) && self.asks(at, entry, withdrawing) && self.answered(at, NOENTRY)
+        };
+        self.all.iter().any(|entry| self.calls().any(|at| again(entry, at)))
+    }
+
+    /// A withdrawn number is looked up by the other owner, and found.
+    fn found_by_the_other(&self) -> bool {
+        let others = |one: &Lived, two: &Lived| two.owner != one.owner && two.number == one.number;
+        let had = |entry: &Lived, at: usize| {
+            self.all.iter().any(|two| others(entry, two) && self.asks(at, two, false)) && self.answered(at, ACCEPTED)
+        };
+        self.all.iter().any(|entry| self.calls().any(|at| entry.gone(at) && had(entry, at)))
+    }
+
+    /// DUPLICATE for a file of which a letter was withdrawn, and another is left or not.
+    fn duplicate(&self, left: bool) -> bool {
+        self.entering.iter().filter(|one| one.number == DUPLICATE).any(|one| {
+            let its = |entry: &&Lived| (entry.owner, entry.file_number) == (one.owner, one.file_number);
+            let some_left = self.all.iter().filter(its).any(|entry| entry.present(one.at));
+            some_left == left && self.all.iter().filter(its).any(|entry| entry.gone(one.at))
+        })
+    }
+
+    fn numbered_on(&self) -> bool {
+        self.entering.iter().filter(|one| one.accepted()).any(|one| {
+            let before = self.outcomes[one.at].answer[12] - 1;
+            let is_last = |entry: &Lived| entry.owner == one.owner && entry.number == before;
+            self.all.iter().any(|entry| is_last(entry) && entry.gone(one.at))
+        })
+    }
+
+    /// FULL, and the same entered after the owner withdrew something, or the other did.
+    fn freed(&self, same_owner: bool) -> bool {
+        let between = |from: usize, to: usize, owner: u64| {
+            let then = |entry: &Lived| entry.to.is_some_and(|at| (from..to).contains(&at));
+            self.all.iter().any(|entry| then(entry) && (entry.owner == owner) == same_owner)
+        };
+        let full = |two: &Entering| {
+            let refused = |one: &&Entering| one.at < two.at && one.number == FULL && two.repeats(one);
+            self.entering.iter().filter(refused).any(|one| between(one.at, two.at, one.owner))
+        };
+        self.entering.iter().any(|two| two.accepted() && full(two))
+    }
+
+    /// A file is answered so in a book from which everything was withdrawn.
+    fn on_none(&self, number: u64) -> bool {
+        let none =
+            |at: usize| self.all.iter().all(|entry| !entry.present(at)) && self.all.iter().any(|entry| entry.gone(at));
+        self.entering.iter().any(|one| one.number == number && none(one.at))
+    }
+
+    /// Two calls that are the same and are answered the same.
+    fn alike(&self, from: usize, to: usize) -> bool {
+        self.history.calls[from] == self.history.calls[to] && self.outcomes[from] == self.outcomes[to]
+    }
+
+    fn tidy_ups(&self) -> Vec<usize> {
+        self.calls().filter(|at| self.history.calls[*at] == Call::Tidy).collect()
+    }
+
+    /// Tidy-ups after a withdrawal.
+    fn closing(&self) -> Vec<usize> {
+        let closes = |at: &usize| self.all.iter().any(|entry| entry.gone(*at));
+        self.tidy_ups().into_iter().filter(closes).collect()
+    }
+
+    fn found_after_a_tidy_up(&self) -> bool {
+        let find = |at: &usize| matches!(self.history.calls[*at], Call::Find { .. }) && self.answered(*at, ACCEPTED);
+        self.closing().into_iter().any(|tidy| {
+            let later = |from: usize| (tidy..self.calls().end).filter(find).any(|to| self.alike(from, to));
+            (0..tidy).filter(find).any(later)
+        })
+    }
+
+    fn entered_after_a_tidy_up(&self) -> bool {
+        self.closing().into_iter().any(|tidy| self.entering.iter().any(|one| one.at > tidy && one.accepted()))
+    }
+
+    /// Totals as before, though a file of the owner was entered and withdrawn between.
+    fn totals_back(&self) -> bool {
+        let asked = |at: usize| matches!(self.history.calls[at], Call::Totals { owner } if is_owner(owner));
+        let lived = |from: usize, to: usize| {
+            let own = |entry: &&Lived| entry.owner == self.history.calls[to].owner();
+            self.all.iter().filter(own).any(|entry| entry.from > from && entry.gone(to))
+        };
+        let back = |from: usize| (from + 1..self.calls().end).any(|to| self.alike(from, to) && lived(from, to));
+        self.calls().any(|from| asked(from) && back(from))
+    }
+}
+
 /// What calls show that come after a withdrawal or a tidy-up.
 fn withdrawn(history: &History, outcomes: &[Outcome], entering: &[Entering]) -> Vec<Point> {
     let all = lived(history, outcomes, entering);
-    let gone = |entry: &Lived, at: usize| entry.to.is_some_and(|to| to < at);
-    let present = |entry: &Lived, at: usize| entry.from < at && !gone(entry, at);
-    let answered = |at: usize, number: u64| outcomes[at].returned == number;
-    let calls = 0..history.calls.len();
-    let asks = |at: usize, entry: &Lived, withdrawing: bool| match history.calls[at] {
-        Call::Find { owner, entry_number } => !withdrawing && (owner, entry_number) == (entry.owner, entry.number),
-        Call::Withdraw { owner, entry_number } => withdrawing && (owner, entry_number) == (entry.owner, entry.number),
-        _ => false,
-    };
-    let asked_again = |withdrawing: bool| {
-        let again = |entry: &Lived, at: usize| gone(entry, at) && asks(at, entry, withdrawing) && answered(at, NOENTRY);
-        all.iter().any(|entry| calls.clone().any(|at| again(entry, at)))
-    };
-    let the_others = all.iter().any(|entry| {
-        let had = |at: usize| {
-            all.iter().any(|two| two.owner != entry.owner && two.number == entry.number && asks(at, two, false))
-        };
-        calls.clone().any(|at| gone(entry, at) && had(at) && answered(at, ACCEPTED))
-    });
-    let duplicate = |left: bool| {
-        entering.iter().filter(|one| one.number == DUPLICATE).any(|one| {
-            let its = |entry: &&Lived| (entry.owner, entry.file_number) == (one.owner, one.file_number);
-            let some_left = all.iter().filter(its).any(|entry| present(entry, one.at));
-            some_left == left && all.iter().filter(its).any(|entry| gone(entry, one.at))
-        })
-    };
-    let numbered_on = entering.iter().filter(|one| one.accepted()).any(|one| {
-        let before = outcomes[one.at].answer[12] - 1;
-        all.iter().any(|entry| entry.owner == one.owner && entry.number == before && gone(entry, one.at))
-    });
-    let freed = |same_owner: bool| {
-        let between = |from: usize, to: usize, owner: u64| {
-            all.iter().any(|entry| {
-                entry.to.is_some_and(|at| (from..to).contains(&at)) && (entry.owner == owner) == same_owner
-            })
-        };
-        let full = |two: &Entering| {
-            entering
-                .iter()
-                .filter(|one| one.at < two.at && one.number == FULL && two.repeats(one))
-                .any(|one| between(one.at, two.at, one.owner))
-        };
-        entering.iter().any(|two| two.accepted() && full(two))
-    };
-    let none_present =
-        |at: usize| all.iter().all(|entry| !present(entry, at)) && all.iter().any(|entry| gone(entry, at));
-    let on_none = |number: u64| entering.iter().any(|one| one.number == number && none_present(one.at));
-    let tidies: Vec<usize> = calls.clone().filter(|at| history.calls[*at] == Call::Tidy).collect();
-    let closes = |at: &usize| all.iter().any(|entry| gone(entry, *at));
-    let found_after = tidies.iter().filter(|at| closes(at)).any(|tidy| {
-        let found = |at: &usize| matches!(history.calls[*at], Call::Find { .. }) && answered(*at, ACCEPTED);
-        let same = |from: usize, to: usize| history.calls[from] == history.calls[to] && outcomes[from] == outcomes[to];
-        (0..*tidy).filter(found).any(|from| (*tidy..history.calls.len()).filter(found).any(|to| same(from, to)))
-    });
-    let totals_back = calls.clone().any(|from| {
-        let asked = |at: usize| matches!(history.calls[at], Call::Totals { owner } if is_owner(owner));
-        let same =
-            |to: usize| asked(from) && history.calls[from] == history.calls[to] && outcomes[from] == outcomes[to];
-        let lived_between = |to: usize| {
-            let own = |entry: &&Lived| entry.owner == history.calls[to].owner();
-            all.iter().filter(own).any(|entry| entry.from > from && gone(entry, to))
-        };
-        (from + 1..history.calls.len()).any(|to| same(to) && lived_between(to))
-    });
+    let lives = Lives { history, outcomes, entering, all };
+    let tidy_ups = lives.tidy_ups();
     let holds = [
-        asked_again(false),
-        asked_again(true),
-        the_others,
-        duplicate(true),
-        duplicate(false),
-        numbered_on,
-        freed(true),
-        freed(false),
-        on_none(FULL),
-        found_after,
-        totals_back,
-        all.len() > rows_there(history.book.len()),
-        on_none(ACCEPTED),
-        tidies.windows(2).any(|two| two[0] + 1 == two[1]) || tidies.len() > 2,
-        tidies.iter().filter(|at| closes(at)).any(|tidy| entering.iter().any(|one| one.at > *tidy && one.accepted())),
+        lives.asked_again(false),
+        lives.asked_again(true),
+        lives.found_by_the_other(),
+        lives.duplicate(true),
+        lives.duplicate(false),
+        lives.numbered_on(),
+        lives.freed(true),
+        lives.freed(false),
+        lives.on_none(FULL),
+        lives.found_after_a_tidy_up(),
+        lives.totals_back(),
+        lives.all.len() > rows_there(history.book.len()),
+        lives.on_none(ACCEPTED),
+        tidy_ups.windows(2).any(|two| two[0] + 1 == two[1]) || tidy_ups.len() > 2,
+        lives.entered_after_a_tidy_up(),
     ];
     named(WITHDRAWN, holds, Point::Later)
 }
