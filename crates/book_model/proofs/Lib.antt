@@ -1,2 +1,3 @@
 pub mod Laws
 pub mod Taken
+pub mod Steps
