@@ -9,7 +9,9 @@ use lib.ListN.{length, getD, set}
 use lib.Seq.{sets, getD-set-other}
 use Rattle.figures.specs.declared.Figures.{Figures}
 use Rattle.figures.specs.Figures.{figures, plus, minus, same, covers, allOf, figuresAt}
-use Rattle.figures.proofs.Laws.{both, same-true, same-refl, same-step, plus-apart}
+use Rattle.figures.proofs.Laws.{both, same-true, same-refl, same-step}
+use Rattle.passes.specs.declared.Fault.{Fault}
+use Rattle.passes.specs.declared.Fault.the-variants.{NoEntry}
 use Rattle.measure.specs.Measures.{sums}
 use Rattle.book_model.specs.declared.Entry.{Entry}
 use Rattle.book_model.specs.declared.Finding.{Finding}
@@ -72,9 +74,12 @@ abbrev foundIn : Finding → ℕ
 foundIn (Found e) = 1
 foundIn (Refused fault) = 0
 
+pub not-found : (fault : Fault) (e : Entry) → Refused fault ≡ Found e → ⊥
+not-found fault e q = let none : _≡_ {A = ℕ} 0 1 = ap foundIn q in omega arith
+
 found-sum : (es : List Entry) (n : ℕ) (e : Entry) → finding es n ≡ Found e → totalsOf es ≡ plus (e .figures) (totalsOf (without n es))
 unfolding finding without totalsOf
-found-sum [] n e q = let none : _≡_ {A = ℕ} 0 1 = ap foundIn q in absurd (omega arith)
+found-sum [] n e q = absurd (not-found NoEntry e q)
 found-sum (x ∷ xs) n e q = by-number (eqb (x .number) n) (found-sum xs n e) q
   where
     by-number : (t : Bool) → (finding xs n ≡ Found e → totalsOf xs ≡ plus (e .figures) (totalsOf (without n xs))) → cond t (Found x) (finding xs n) ≡ Found e
