@@ -47,7 +47,6 @@ module _ (book : List ℕ) (o n : ℕ) (e : Entry) (b : isBook book ≡ true) (w
   found-long = by-claims (rowsClaimed book) refl
     where
       by-claims : (k : ℕ) → rowsClaimed book ≡ k → 17 ≤ length book
-      unfolding entriesOf
       by-claims zero z = absurd (not-found NoEntry e (sym (found-none o book 17 (rowsClaimed book) n (omega arith)) ∙ q))
       by-claims (suc k) z = omega (arith, sound book b .claims)
 
@@ -97,6 +96,8 @@ module _ (book list : List ℕ) (o n : ℕ) where
     unfolding withdrawAnswer withdrawing
     not-there fault q = rw (b, w, q)
 
+-- a tidy-up
+module _ (book list : List ℕ) where
   pub not-tidied : isBook book && isList list ≡ false → Refused Book ≡ tidyAnswer book list
   unfolding tidyAnswer
   not-tidied b = rw b

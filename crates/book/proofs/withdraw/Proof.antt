@@ -63,7 +63,7 @@ same-length-3 : tie.Need-same-length-3
 same-length-3 c = search needs
 
 returns-3 : tie.Need-returns-3
-returns-3 c = (not-there (now (c .before .before .before .before .before .before .before .before .before .before .before .before .before .before .args .book)) (now (c .before .before .before .before .before .before .before .before .before .before .before .before .before .before .args .list)) (c .before .before .before .before .before .before .before .before .before .before .before .before .before .before .args .owner) (c .before .before .before .before .before .before .before .before .before .before .before .before .before .before .args .number) (good (c .before .before .before .before .before .before .before .before)) (sym (c .before .before .before .before .before .before .before .is-owner .ensures) ∙ not-false (c .before .before .before .before .before .before .before .is-owner .result) (c .before .before .before .before .before .before .if2 .left)) (c .before .fault .given .0) (looked-up (c .before .before .before) ∙ c .before .fault .given .1), refl)
+returns-3 c = (not-there (now (c .before .before .before .before .before .before .before .before .before .before .before .before .before .before .args .book)) (now (c .before .before .before .before .before .before .before .before .before .before .before .before .before .before .args .list)) (c .before .before .before .before .before .before .before .before .before .before .before .before .before .before .args .owner) (c .before .before .before .before .before .before .before .before .before .before .before .before .before .before .args .number) (good (c .before .before .before .before .before .before .before .before)) (sym (c .before .before .before .before .before .before .before .is-owner .ensures) ∙ not-false (c .before .before .before .before .before .before .before .is-owner .result) (c .before .before .before .before .before .before .if2 .left)) (c .before .fault .given .0 .0) (looked-up (c .before .before .before) ∙ c .before .fault .given .1), refl)
 
 same-length-4 : tie.Need-same-length-4
 same-length-4 c = search needs
