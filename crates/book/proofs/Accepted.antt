@@ -162,8 +162,8 @@ module _ (file book list : List ℕ) (m o : ℕ) (t : Totals) (a : AcceptedLette
       let rows = s ∙ ap (λ (n : ℕ). n - gaps book) count in
       r
       ∙ (λ i.
-        sets (set (w i) 0 (claimed-kept i + rows i)) (blockOf o)
-        (blockWith (last-kept i + count i) (plus (sums-kept i) (sum i))))
+      sets (set (w i) 0 (claimed-kept i + rows i)) (blockOf o)
+      (blockWith (last-kept i + count i) (plus (sums-kept i) (sum i))))
 
 -- a book or a list that is none, an owner that is none, and a file that the reader refuses
 module _ (file table book list : List ℕ) (m o : ℕ) where

@@ -97,9 +97,9 @@ module _ (a b : List ℕ) where
       let rest = entries-kept o n (at + 9) (behind-kept at 9 e) in
       let figures = figures-kept (at + 3) (behind-kept at 3 e) in
       λ i.
-        cond (eqb (first-kept at e i) o)
-        (entry (number-kept at 1 e i) (number-kept at 2 e i) (figures i) ∷ rest i)
-        (rest i)
+      cond (eqb (first-kept at e i) o)
+      (entry (number-kept at 1 e i) (number-kept at 2 e i) (figures i) ∷ rest i)
+      (rest i)
 
 -- a row set down before them
 pub used-stored : (book : List ℕ) (to : ℕ) (o : ℕ) (e : Entry) (n : ℕ) → usedIn (sets book to (rowOf o e)) n (to + 9) ≡ usedIn book n (to + 9)

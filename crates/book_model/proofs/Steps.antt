@@ -58,12 +58,12 @@ plus-swap : (a b c : Figures) → plus a (plus b c) ≡ plus b (plus a c)
 plus-swap a b c =
     let swap : (x y z : ℕ) → x + (y + z) ≡ y + (x + z) = λ x y z. omega arith in
     λ i.
-      figures (swap (a .bundles) (b .bundles) (c .bundles) i)
-      (sums (swap (a .sums .debits .0) (b .sums .debits .0) (c .sums .debits .0) i)
-      (swap (a .sums .debit .0) (b .sums .debit .0) (c .sums .debit .0) i)
-      (swap (a .sums .credits .0) (b .sums .credits .0) (c .sums .credits .0) i)
-      (swap (a .sums .credit .0) (b .sums .credit .0) (c .sums .credit .0) i)
-      (swap (a .sums .views .0) (b .sums .views .0) (c .sums .views .0) i))
+    figures (swap (a .bundles) (b .bundles) (c .bundles) i)
+    (sums (swap (a .sums .debits .0) (b .sums .debits .0) (c .sums .debits .0) i)
+    (swap (a .sums .debit .0) (b .sums .debit .0) (c .sums .debit .0) i)
+    (swap (a .sums .credits .0) (b .sums .credits .0) (c .sums .credits .0) i)
+    (swap (a .sums .credit .0) (b .sums .credit .0) (c .sums .credit .0) i)
+    (swap (a .sums .views .0) (b .sums .views .0) (c .sums .views .0) i))
 
 -- the sum of all is the entry found and the sum of the others
 abbrev entryIn : Entry → Finding → Entry
