@@ -13,3 +13,4 @@ pub mod FewerEntries
 pub mod NoGaps
 pub mod MoreTaken
 pub mod Without
+pub mod Steps
