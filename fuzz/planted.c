@@ -14,7 +14,9 @@ uint64_t proved_x9_write(const uint8_t *text, size_t text_len, const uint64_t *d
 uint64_t proved_x9_draft(const uint8_t *file, size_t file_len, uint64_t *draft, size_t draft_len, uint64_t answer[12]);
 uint64_t proved_x9_tiff(const uint8_t *image, size_t image_len, uint64_t answer[2]);
 uint64_t proved_x9_book_enter(const uint8_t *file, size_t file_len, uint64_t file_number, uint64_t owner, uint64_t *table, size_t table_len,
-                              uint64_t *book, size_t book_len, uint64_t answer[13]);
+                              uint64_t *book, size_t book_len, uint64_t *taken, size_t taken_len, uint64_t answer[13]);
+uint64_t proved_x9_book_withdraw(uint64_t *book, size_t book_len, const uint64_t *taken, size_t taken_len, uint64_t owner, uint64_t entry_number);
+uint64_t proved_x9_book_tidy(uint64_t *book, size_t book_len, const uint64_t *taken, size_t taken_len);
 uint64_t proved_x9_book_find(const uint64_t *book, size_t book_len, uint64_t owner, uint64_t entry_number, uint64_t found[9]);
 uint64_t proved_x9_book_totals(const uint64_t *book, size_t book_len, uint64_t owner, uint64_t totals[9]);
 
@@ -391,11 +393,15 @@ static inline uint64_t other_than(uint64_t owner) { return 3 - owner; }
 /* Where the last number given to an owner stands; its running totals and its net position stand behind it. */
 static inline size_t last_of(uint64_t owner) { return owner == 2 ? 9 : 1; }
 
-/* A file number that no row has. */
-static inline uint64_t unused(uint64_t *book, size_t book_len) {
+/* The places of a list that are claimed; a sound list. */
+static inline size_t places(const uint64_t *taken, size_t taken_len) { return taken_len ? (size_t)taken[0] : 0; }
+static inline size_t places_there(size_t taken_len) { return taken_len ? (taken_len - 1) / 2 : 0; }
+
+/* A file number that no place of the list has. */
+static inline uint64_t unused(const uint64_t *taken, size_t taken_len) {
     uint64_t number = UINT64_C(0x7E57) << 40;
-    for (size_t row = 0; row < rows_there(book_len); row++)
-        if (book_row(book, row)[2] >= number) number = book_row(book, row)[2] + 1;
+    for (size_t place = 0; place < places_there(taken_len); place++)
+        if (taken[2 + 2 * place] >= number) number = taken[2 + 2 * place] + 1;
     return number;
 }
 
@@ -409,18 +415,33 @@ typedef struct {
     size_t table_len;
     uint64_t *book;
     size_t book_len;
+    uint64_t *taken;
+    size_t taken_len;
     uint64_t *answer;
+    const uint64_t *old_taken; /* the list as it was before */
 } entering;
 
 static inline uint64_t enter_again(const entering *e, uint64_t file_number) {
-    return proved_x9_book_enter(e->file, e->file_len, file_number, e->owner, e->table, e->table_len, e->book, e->book_len, e->answer);
+    return proved_x9_book_enter(e->file, e->file_len, file_number, e->owner, e->table, e->table_len, e->book, e->book_len, e->taken, e->taken_len, e->answer);
 }
 
-/* Enters under a number that is not taken, and writes this one into the rows; where they are too few, DUPLICATE stays. */
+/* The rows of a file just entered, by the numbers of its letters from 0 on; on a book that no calls have made another row may have such a number too, and
+ * the last of them is taken. */
+static inline uint64_t *new_row(const entering *e, uint64_t letter) {
+    uint64_t *found = NULL;
+    for (size_t row = 0; row < claimed(e->book, e->book_len); row++) {
+        uint64_t *one = book_row(e->book, row);
+        if (one[0] == e->owner && one[1] == e->answer[12] + letter && one[2] == e->file_number) found = one;
+    }
+    return found ? found : e->book + HEAD;
+}
+
+/* Enters under a number that is not taken, and writes this one into the rows and the list; where they are too few, DUPLICATE stays. */
 static inline uint64_t enter_in_spite(const entering *e) {
-    size_t before = claimed(e->book, e->book_len);
-    uint64_t number = enter_again(e, unused(e->book, e->book_len));
-    for (size_t row = before; !number && row < claimed(e->book, e->book_len); row++) book_row(e->book, row)[2] = e->file_number;
+    uint64_t unlike = unused(e->taken, e->taken_len), number = enter_again(e, unlike);
+    for (size_t row = 0; !number && row < claimed(e->book, e->book_len); row++)
+        if (book_row(e->book, row)[2] == unlike) book_row(e->book, row)[2] = e->file_number;
+    if (!number) e->taken[2 * e->taken[0]] = e->file_number;
     return number ? e->answer[0] = 12 : 0;
 }
 
@@ -428,6 +449,7 @@ static inline uint64_t enter_in_spite(const entering *e) {
 static inline uint64_t refuse_entering(const entering *e, const uint64_t *table, const uint64_t *book, uint64_t number) {
     memcpy(e->table, table, e->table_len * 8);
     memcpy(e->book, book, e->book_len * 8);
+    memcpy(e->taken, e->old_taken, e->taken_len * 8);
     memset(e->answer, 0, 13 * 8);
     return e->answer[0] = number;
 }
@@ -438,7 +460,8 @@ static inline uint64_t enter_wrapped(const entering *e, const uint64_t *book) {
     for (size_t row = 0; row < rows; row++) memset(book_row(e->book, row) + 3, 0, FIGURES);
     for (uint64_t owner = 1; rows && owner <= 2; owner++) memset(e->book + last_of(owner) + 1, 0, SUMS);
     uint64_t number = enter_again(e, e->file_number);
-    for (size_t row = 0; row < rows; row++) memcpy(book_row(e->book, row) + 3, book + HEAD + WIDTH * row + 3, FIGURES);
+    for (size_t row = 0; row < rows; row++)
+        if (number || is_owner(book[HEAD + WIDTH * row])) memcpy(book_row(e->book, row) + 3, book + HEAD + WIDTH * row + 3, FIGURES);
     for (size_t i = 0; rows && i < 14; i++) e->book[2 + i + i / 7] += book[2 + i + i / 7];
     return number;
 }
@@ -458,31 +481,46 @@ static inline int by_one_cent(int64_t before, int64_t after) { return (void)befo
 static inline int nearer(int64_t before, int64_t after) { return before < -BOUND ? after > before : before > BOUND && after < before; }
 
 /* Whether the letters just entered carried the net position beyond the bound on the way. */
-static inline int beyond_on_the_way(const entering *e, const uint64_t *book, size_t before) {
+static inline int beyond_on_the_way(const entering *e, const uint64_t *book) {
     __int128 net = net_in(book, e->owner);
     int was = 0;
-    for (size_t row = before; row < claimed(e->book, e->book_len); row++) {
-        net += (__int128)book_row(e->book, row)[8] - book_row(e->book, row)[7];
+    for (uint64_t letter = 0; letter < e->answer[5]; letter++) {
+        net += (__int128)new_row(e, letter)[8] - new_row(e, letter)[7];
         was |= beyond(net, BOUND);
     }
     return was;
 }
 
 /* The numbers of a file just entered go on from a number this much higher. */
-static inline void number_on(const entering *e, size_t before, uint64_t more) {
-    for (size_t row = before; row < claimed(e->book, e->book_len); row++) book_row(e->book, row)[1] += more;
+static inline void number_on(const entering *e, uint64_t more) {
+    uint64_t *rows[64];
+    uint64_t letters = e->answer[5] < 64 ? e->answer[5] : 64;
+    for (uint64_t letter = 0; letter < letters; letter++) rows[letter] = new_row(e, letter);
+    for (uint64_t letter = 0; letter < letters; letter++) rows[letter][1] += more;
     e->book[last_of(e->owner)] += more, e->answer[12] += more;
+}
+
+/* The row is among those claimed before, and was a gap. */
+static inline int was_gap(const entering *e, const uint64_t *book, const uint64_t *row) {
+    size_t at = (size_t)(row - e->book);
+    return at < HEAD + WIDTH * claimed(book, e->book_len) && !is_owner(book[at]);
+}
+
+static inline size_t gaps_in(const uint64_t *book, size_t book_len) {
+    size_t gaps = 0;
+    for (size_t row = 0; row < claimed(book, book_len); row++) gaps += !is_owner(book[HEAD + WIDTH * row]);
+    return gaps;
 }
 
 /* What the planted fault makes of an answered entering; `table` and `book` are as they were before it. */
 static inline uint64_t spoil_entering(const entering *e, uint64_t number, const uint64_t *table, const uint64_t *book) {
     size_t before = claimed(book, e->book_len), len = e->book_len, last = last_of(e->owner);
-    (void)enter_in_spite, (void)refuse_entering, (void)enter_wrapped, (void)number_on, (void)other_than, (void)enter_beyond;
+    (void)new_row, (void)was_gap, (void)gaps_in, (void)enter_in_spite, (void)refuse_entering, (void)enter_wrapped, (void)number_on, (void)other_than, (void)enter_beyond;
     (void)by_one_cent, (void)nearer, (void)beyond_on_the_way, (void)table, (void)before, (void)len, (void)last;
 #if PLANT == 78 /* a duplicate is accepted */
     if (number == 12) number = enter_in_spite(e);
 #elif PLANT == 79 /* a later file alters an entry, and the total with it */
-    if (!number && before && book_row(e->book, 0)[0] == e->owner) {
+    if (!number && before && book[HEAD] == e->owner) {
         uint64_t *row = book_row(e->book, 0), more = row[7] & 1 ? UINT64_MAX : 1;
         row[7] += more, e->book[last + 5] += more, e->book[last + 7] -= more;
     }
@@ -504,37 +542,37 @@ static inline uint64_t spoil_entering(const entering *e, uint64_t number, const 
 #elif PLANT == 87 /* a full book has its last number moved on */
     if (number == 13 && len > last) e->book[last]++;
 #elif PLANT == 88 /* a file that takes the last free row is too much */
-    if (!number && e->book[0] == rows_there(len)) number = refuse_entering(e, table, book, 13);
-#elif PLANT == 89 /* rows behind those claimed are looked at for duplicates */
-    for (size_t row = before; !number && row < rows_there(len); row++)
-        if (book[HEAD + WIDTH * row + 2] == e->file_number) number = refuse_entering(e, table, book, 12);
+    if (!number && e->book[0] == rows_there(len) && !gaps_in(e->book, len)) number = refuse_entering(e, table, book, 13);
+#elif PLANT == 89 /* places behind those claimed are looked at for duplicates */
+    for (size_t place = places(e->old_taken, e->taken_len); !number && place < places_there(e->taken_len); place++)
+        if (e->old_taken[2 + 2 * place] == e->file_number) number = refuse_entering(e, table, book, 12);
 #elif PLANT == 90 /* file numbers are compared in 32 bits */
-    for (size_t row = 0; !number && row < before; row++)
-        if (book[HEAD + WIDTH * row] == e->owner && (uint32_t)book[HEAD + WIDTH * row + 2] == (uint32_t)e->file_number) number = refuse_entering(e, table, book, 12);
+    for (size_t place = 0; !number && place < places(e->old_taken, e->taken_len); place++)
+        if (e->old_taken[1 + 2 * place] == e->owner && (uint32_t)e->old_taken[2 + 2 * place] == (uint32_t)e->file_number) number = refuse_entering(e, table, book, 12);
 #elif PLANT == 91 /* entries are numbered by the rows claimed, not from the last number given */
-    if (!number) number_on(e, before, before - book[last]);
+    if (!number) number_on(e, before - book[last]);
 #elif PLANT == 92 /* a number behind the last whole row is written */
     if (!number && (len - HEAD) % WIDTH) e->book[len - 1] = 0;
 #elif PLANT == 93 /* FULL names a record */
     if (number == 13) e->answer[1] = 1;
 #elif PLANT == 94 /* what a second letter has is added to the first one's entry */
-    if (!number && e->answer[5] > 1) book_row(e->book, before)[8] += book_row(e->book, before + 1)[8], book_row(e->book, before + 1)[8] = 0;
+    if (!number && e->answer[5] > 1) new_row(e, 0)[8] += new_row(e, 1)[8], new_row(e, 1)[8] = 0;
 #elif PLANT == 95 /* FULL comes before DUPLICATE */
-    if (number == 12 && before == rows_there(len)) number = e->answer[0] = 13;
+    if (number == 12 && before == rows_there(len) && !gaps_in(book, len)) number = e->answer[0] = 13;
 #elif PLANT == 96 /* another answer now and then */
     if (++calls % 5000 == 0) e->answer[12] ^= 1;
 #elif PLANT == 103 /* a duplicate is judged over both owners */
-    for (size_t row = 0; !number && row < before; row++)
-        if (book[HEAD + WIDTH * row] == other_than(e->owner) && book[HEAD + WIDTH * row + 2] == e->file_number) number = refuse_entering(e, table, book, 12);
+    for (size_t place = 0; !number && place < places(e->old_taken, e->taken_len); place++)
+        if (e->old_taken[1 + 2 * place] == other_than(e->owner) && e->old_taken[2 + 2 * place] == e->file_number) number = refuse_entering(e, table, book, 12);
 #elif PLANT == 104 /* entry numbers count for both owners */
-    if (!number) number_on(e, before, book[last_of(other_than(e->owner))]);
+    if (!number) number_on(e, book[last_of(other_than(e->owner))]);
 #elif PLANT == 107 /* the reader's answer comes before NOENTRY */
     if (number == 15) {
         uint64_t answer[12], read = proved_x9_read(e->file, e->file_len, e->table, 0, answer);
         if (read && read != 2) number = read, memcpy(e->answer, answer, sizeof answer);
     }
 #elif PLANT == 108 /* owner 2's entries are set down as owner 1's */
-    if (!number && e->owner == 2) for (size_t row = before; row < e->book[0]; row++) book_row(e->book, row)[0] = 1;
+    if (!number && e->owner == 2) new_row(e, 0)[0] = 1;
 #elif PLANT == 109 /* each owner has half of the rows */
     size_t own = 0;
     for (size_t row = 0; !number && row < before; row++) own += book[HEAD + WIDTH * row] == e->owner;
@@ -546,29 +584,155 @@ static inline uint64_t spoil_entering(const entering *e, uint64_t number, const 
 #elif PLANT == 118 /* FULL comes before RANGE */
     if (number == 16) number = refuse_entering(e, table, book, enter_wrapped(e, book) == 13 ? 13 : 16);
 #elif PLANT == 120 /* RANGE for the letters one by one */
-    if (!number && beyond_on_the_way(e, book, before)) number = refuse_entering(e, table, book, 16);
+    if (!number && beyond_on_the_way(e, book)) number = refuse_entering(e, table, book, 16);
 #elif PLANT == 121 /* RANGE for both owners together */
     if (!number && beyond((__int128)net_in(e->book, 1) + net_in(e->book, 2), BOUND)) number = refuse_entering(e, table, book, 16);
 #elif PLANT == 122 /* the net position is not updated */
     if (!number) e->book[last + 7] = book[last + 7];
 #elif PLANT == 124 /* RANGE comes before DUPLICATE */
-    if (number == 12) number = refuse_entering(e, table, book, enter_again(e, unused(e->book, len)) == 16 ? 16 : 12);
+    if (number == 12) number = refuse_entering(e, table, book, enter_again(e, unused(e->taken, e->taken_len)) == 16 ? 16 : 12);
 #elif PLANT == 125 /* from beyond the bound a file may lead nearer to it */
     if (number == 16) number = enter_beyond(e, table, book, nearer);
 #elif PLANT == 126 /* RANGE names a record */
     if (number == 16) e->answer[1] = 1;
+#elif PLANT == 128 /* a gap is not used: FULL for want of rows behind those claimed */
+    if (!number && before + e->answer[5] > rows_there(len)) number = refuse_entering(e, table, book, 13);
+#elif PLANT == 129 /* a gap's row is not overwritten whole: a figure of nothing stays as it was */
+    uint64_t *first = number ? NULL : new_row(e, 0);
+    if (first && was_gap(e, book, first) && !first[3]) first[3] = book[(first - e->book) + 3];
+#elif PLANT == 130 /* the rows claimed grow by every letter */
+    if (!number && before + e->answer[5] <= rows_there(len)) e->book[0] = before + e->answer[5];
+#elif PLANT == 131 /* the rows decide DUPLICATE, not the list: a withdrawn letter's file number is free again */
+    size_t having = 0;
+    for (size_t row = 0; number == 12 && row < before; row++) having += book[HEAD + WIDTH * row] == e->owner && book[HEAD + WIDTH * row + 2] == e->file_number;
+    if (number == 12 && !having) number = enter_in_spite(e);
+#elif PLANT == 132 /* no place is taken */
+    if (!number) e->taken[0]--;
+#elif PLANT == 133 /* a place for each letter is asked for */
+    if (!number && places(e->old_taken, e->taken_len) + e->answer[5] > places_there(e->taken_len)) number = refuse_entering(e, table, book, 13);
+#elif PLANT == 134 /* a place has no owner */
+    if (!number) e->taken[2 * e->taken[0] - 1] = 0;
+#elif PLANT == 135 /* a list without a free place is not FULL: the last place is written over */
+    if (number == 13 && places(e->taken, e->taken_len) && places(e->taken, e->taken_len) == places_there(e->taken_len)) {
+        e->taken[0]--;
+        number = enter_again(e, e->file_number);
+        if (number) number = refuse_entering(e, table, book, 13);
+    }
+#elif PLANT == 136 /* writes a number past the list */
+    if (!number) e->taken[e->taken_len] = 0;
+#elif PLANT == 137 /* the list is not judged: what it claims beyond its end is let go */
+    if (number == 20 && e->taken_len && e->taken[0] > places_there(e->taken_len)) {
+        e->taken[0] = 0;
+        number = refuse_entering(e, table, book, enter_again(e, e->file_number) == 15 ? 15 : 20);
+    }
 #endif
     return number;
 }
 
 uint64_t x9_book_enter(const uint8_t *file, size_t file_len, uint64_t file_number, uint64_t owner, uint64_t *table, size_t table_len, uint64_t *book,
-                       size_t book_len, uint64_t answer[13]) {
-    entering e = {file, file_len, file_number, owner, table, table_len, book, book_len, answer};
-    uint64_t *old_table = malloc(table_len * 8 + 8), *old_book = malloc(book_len * 8 + 8);
+                       size_t book_len, uint64_t *taken, size_t taken_len, uint64_t answer[13]) {
+    uint64_t *old_table = malloc(table_len * 8 + 8), *old_book = malloc(book_len * 8 + 8), *old_taken = malloc(taken_len * 8 + 8);
+    entering e = {file, file_len, file_number, owner, table, table_len, book, book_len, taken, taken_len, answer, old_taken};
+    memcpy(old_taken, taken, taken_len * 8);
     memcpy(old_table, table, table_len * 8);
     memcpy(old_book, book, book_len * 8);
     uint64_t number = spoil_entering(&e, enter_again(&e, file_number), old_table, old_book);
-    free(old_table), free(old_book);
+    free(old_table), free(old_book), free(old_taken);
+    return number;
+}
+
+/* The first claimed row of an owner with an entry number, of a sound book; NULL if there is none. */
+static inline const uint64_t *row_with(const uint64_t *book, size_t book_len, uint64_t owner, uint64_t entry_number) {
+    for (size_t row = 0; row < claimed(book, book_len); row++)
+        if (book[HEAD + WIDTH * row] == owner && book[HEAD + WIDTH * row + 1] == entry_number) return book + HEAD + WIDTH * row;
+    return NULL;
+}
+
+/* What the planted fault makes of an answered withdrawal; `old` is the book before it. */
+static inline uint64_t spoil_withdrawal(uint64_t number, uint64_t *book, const uint64_t *old, size_t len, uint64_t *taken, size_t taken_len, uint64_t owner,
+                                        uint64_t entry_number) {
+    const uint64_t *row = number ? NULL : row_with(old, len, owner, entry_number);
+    size_t at = row ? (size_t)(row - old) : 0, last = last_of(owner);
+    (void)book, (void)taken, (void)taken_len, (void)at, (void)last;
+#if PLANT == 138 /* a withdrawn entry is still found */
+    if (row) memcpy(book + at, row, 3 * 8);
+#elif PLANT == 139 /* a withdrawn number is given out again */
+    if (row && old[last] == entry_number) book[last]--;
+#elif PLANT == 140 /* a withdrawn letter's file number is free again */
+    for (size_t place = 0; row && place < places(taken, taken_len); place++)
+        if (taken[1 + 2 * place] == owner && taken[2 + 2 * place] == row[2]) taken[1 + 2 * place] = 0;
+#elif PLANT == 141 /* the totals are not lowered */
+    if (row) memcpy(book + last + 1, old + last + 1, FIGURES);
+#elif PLANT == 142 /* the net position is not lowered */
+    if (row) book[last + 7] = old[last + 7];
+#elif PLANT == 143 /* the rows claimed are lowered */
+    if (row && at + WIDTH == HEAD + WIDTH * claimed(old, len)) book[0]--;
+#elif PLANT == 144 /* the row keeps its figures, and is nobody's */
+    if (row) memcpy(book + at + 1, row + 1, (WIDTH - 1) * 8);
+#elif PLANT == 145 /* RANGE comes before NOENTRY */
+    if (number == 15 && is_owner(owner) && len >= HEAD && beyond(net_in(old, owner), BOUND)) number = 16;
+#elif PLANT == 146 /* the other owner's entry is withdrawn */
+    if (number == 15 && is_owner(owner)) number = proved_x9_book_withdraw(book, len, taken, taken_len, other_than(owner), entry_number);
+#elif PLANT == 147 /* the range of a withdrawal is not judged beyond an i64: what 64 bits leave counts */
+    const uint64_t *far = number == 16 ? row_with(old, len, owner, entry_number) : NULL;
+    if (far && !beyond((int64_t)(old[last + 7] - far[8] + far[7]), BOUND)) number = 0;
+#elif PLANT == 148 /* a net position of exactly 10^18 is RANGE */
+    if (row && beyond(net_in(book, owner), BOUND - 1)) memcpy(book, old, len * 8), number = 16;
+#elif PLANT == 149 /* a refused withdrawal takes the row out all the same */
+    const uint64_t *refused = number == 16 ? row_with(old, len, owner, entry_number) : NULL;
+    if (refused) book[refused - old] = 0;
+#elif PLANT == 150 /* the last row with the number is withdrawn, not the first */
+    size_t later = 0;
+    for (size_t one = 0; row && one < claimed(old, len); one++)
+        if (old[HEAD + WIDTH * one] == owner && old[HEAD + WIDTH * one + 1] == entry_number) later = HEAD + WIDTH * one;
+    if (row && later != at) memcpy(book + at, row, WIDTH * 8), memset(book + later, 0, WIDTH * 8);
+#elif PLANT == 151 /* reads a number past the list */
+    sink = (uint8_t)taken[taken_len];
+#endif
+    return number;
+}
+
+uint64_t x9_book_withdraw(uint64_t *book, size_t book_len, const uint64_t *taken, size_t taken_len, uint64_t owner, uint64_t entry_number) {
+    uint64_t *old = malloc(book_len * 8 + 8);
+    memcpy(old, book, book_len * 8);
+    uint64_t number = proved_x9_book_withdraw(book, book_len, taken, taken_len, owner, entry_number);
+    number = spoil_withdrawal(number, book, old, book_len, (uint64_t *)(uintptr_t)taken, taken_len, owner, entry_number);
+    free(old);
+    return number;
+}
+
+/* What the planted fault makes of an answered tidy-up. */
+static inline uint64_t spoil_tidying(uint64_t number, uint64_t *book, const uint64_t *old, size_t len) {
+    size_t before = claimed(old, len), after = number ? 0 : claimed(book, len);
+    (void)before, (void)after;
+#if PLANT == 152 /* the tidy-up changes the order: the last entry moves into the first gap */
+    size_t gap = 0;
+    while (gap < before && is_owner(old[HEAD + WIDTH * gap])) gap++;
+    if (!number && gap + 1 < after) {
+        uint64_t last_row[WIDTH];
+        memcpy(last_row, book_row(book, after - 1), sizeof last_row);
+        memmove(book_row(book, gap + 1), book_row(book, gap), (after - 1 - gap) * WIDTH * 8);
+        memcpy(book_row(book, gap), last_row, sizeof last_row);
+    }
+#elif PLANT == 153 /* the tidy-up leaves old numbers behind */
+    if (!number && after < before) memcpy(book_row(book, before - 1), old + HEAD + WIDTH * (before - 1), WIDTH * 8);
+#elif PLANT == 154 /* the rows claimed stay */
+    if (!number && before) book[0] = before;
+#elif PLANT == 155 /* what is behind the claimed rows is cleared too */
+    if (!number && after < before) memset(book_row(book, before), 0, (len - HEAD - WIDTH * before) * 8);
+#elif PLANT == 156 /* entries are numbered anew */
+    for (size_t row = 0; row < after; row++) book_row(book, row)[1] = row + 1;
+#elif PLANT == 157 /* a tidy-up of a table that is no book */
+    if (number == 20 && len > HEAD && claimed(old, len) <= rows_there(len)) number = 0;
+#endif
+    return number;
+}
+
+uint64_t x9_book_tidy(uint64_t *book, size_t book_len, const uint64_t *taken, size_t taken_len) {
+    uint64_t *old = malloc(book_len * 8 + 8);
+    memcpy(old, book, book_len * 8);
+    uint64_t number = spoil_tidying(proved_x9_book_tidy(book, book_len, taken, taken_len), book, old, book_len);
+    free(old);
     return number;
 }
 

@@ -91,42 +91,65 @@ uint64_t x9_draft(const uint8_t *file, size_t file_len, uint64_t *draft, size_t 
  * offset, parts that overlap, a strip of 0 bytes, the two bytes behind a SHORT, and the compressed data. The variances of Table 3 are wrong values. */
 uint64_t x9_tiff(const uint8_t *image, size_t image_len, uint64_t answer[2]);
 
-/* The day book: a lent table of 64-bit numbers, which keeps the figures of cash letters as they were when their files were entered. Two owners, 1 and 2,
- * share it: each has entries, entry numbers, file numbers, running totals and a net position of its own. A table of zeros is an empty book. A head of 17 numbers:
- *   [0] the rows claimed, for both owners
+/* The day book: two lent arrays of 64-bit numbers, a table which keeps the figures of cash letters as they were when their files were entered, and a list of
+ * the file numbers taken. Two owners, 1 and 2, share them: each has entries, entry numbers, file numbers, running totals and a net position of its own.
+ * Zeros are an empty book and an empty list.
+ * The table. A head of 17 numbers:
+ *   [0] the rows claimed, for both owners, gaps among them
  *   of owner 1:   [1] the last entry number given
  *                 [2] bundles   [3] debit items   [4] credit items   [5] views   [6] debit cents   [7] credit cents: the running totals, the sums of its rows
  *                 [8] the net position, the credit cents of its rows minus their debit cents, below zero in two's complement
  *   of owner 2:   [9] to [16] the same
- * and then rows of 9, one for each cash letter entered:
- *   [0] the owner; a row with any other number than 1 or 2 here is no one's   [1] the entry number, from 1 on   [2] the file number that the caller gave
+ * and then rows of 9, one for each cash letter that is in the book:
+ *   [0] the owner   [1] the entry number, from 1 on   [2] the file number that the caller gave
  *   [3] bundles   [4] debit items   [5] credit items   [6] views   [7] debit cents   [8] credit cents: the letter's own
+ * A claimed row whose owner is neither 1 nor 2 is a gap: no one's, and free, as are the rows behind those claimed.
  * `book_len` counts numbers. Numbers of the head that a short table lacks count as 0, and such a table has no rows; the rows there are the whole nines
  * behind the head. What stands behind the rows claimed, and behind the last whole row, is not looked at.
+ * The list. [0] the places claimed, and then places of two numbers, one for each file ever entered, whether or not its letters are still in the book:
+ *   [0] the owner   [1] the file number
+ * `taken_len` counts numbers. A list without its first number claims 0 and has no place; the places there are the whole pairs behind that number. A place
+ * behind those claimed is free, and what stands there is not looked at. A claimed place of neither owner takes no file number.
  * Every call first asks whether the table is a book: BOOK where it claims more rows than there are, or a running total of either owner is not the sum of
- * its own rows, or its net position is not what they come to (what 64 bits with a sign do not hold is none). So the time of a call grows with the rows
- * claimed. Then NOENTRY, where the owner is neither 1 nor 2. What an owner is answered depends on its own calls and on how many rows are free, and on nothing
- * else that the other did. On the book's own refusals (BOOK, DUPLICATE, FULL, NOENTRY, RANGE) all behind the number is 0.
+ * its own rows, or its net position is not what they come to (what 64 bits with a sign do not hold is none); and, where the list is lent, where it claims
+ * more places than there are. So the time of a call grows with the rows claimed, that of an entry with the places claimed too. Then NOENTRY, where the owner
+ * is neither 1 nor 2. What an owner is answered depends on its own calls and on how many rows and places are free, and on nothing else that the other did.
+ * On the book's own refusals (BOOK, DUPLICATE, FULL, NOENTRY, RANGE) all behind the number is 0, and table and list are as they were.
  * Tables from before: where [9] to [16] are 0, one that was filled before there were owners (request 6) is a book in which all entries are owner 1's; one
- * that was filled before net positions were kept is a book as soon as [8] and [16] hold them.
+ * that was filled before net positions were kept is a book as soon as [8] and [16] hold them. Any of them needs a list with a place for each file number of
+ * each owner in its rows, or these may be entered again.
  *
  * Entering a file for an owner: reads it as x9_read does, with its row table, and enters each of its cash letters in a row of its own, numbered on from the
- * last number given to the owner. Returns the number and fills `answer` as x9_read does, with
+ * last number given to the owner; a number is not given again, whatever is withdrawn. The lowest gaps are used first, then rows behind those claimed, and a
+ * row is overwritten whole. The file number, with its owner, gets the first free place of the list. Returns the number and fills `answer` as x9_read does, with
  *   [12] the first entry number given, 0 where nothing was entered
- * Refused, book and table untouched: BOOK; NOENTRY; then x9_read's own answers, with record, field and offset; DUPLICATE, the file number stands in a row of
- * the owner already; RANGE, the net position of the owner with all the file's letters would lie beyond 1,000,000,000,000,000,000 cents either side; FULL,
- * more letters than free rows, or a running total or the last entry number of the owner would pass 64 bits. */
+ * Refused, table, book and list untouched: BOOK; NOENTRY; then x9_read's own answers, with record, field and offset; DUPLICATE, a claimed place of the list
+ * has the owner and the file number (the rows are not looked at for it); RANGE, the net position of the owner with all the file's letters would lie beyond
+ * 1,000,000,000,000,000,000 cents either side; FULL, more letters than free rows, or no free place, or a running total or the last entry number of the
+ * owner would pass 64 bits. */
 uint64_t x9_book_enter(const uint8_t *file, size_t file_len, uint64_t file_number, uint64_t owner, uint64_t *table, size_t table_len, uint64_t *book,
-                       size_t book_len, uint64_t answer[13]);
+                       size_t book_len, uint64_t *taken, size_t taken_len, uint64_t answer[13]);
+
+/* Withdrawing an entry: the first row of the owner that has the entry number becomes nine zeros, a gap, and the running totals and the net position of the
+ * owner are those of the rows that are left. All else stays: the rows claimed, the last entry number, and the list, so that the file number stays taken.
+ * Returns the number.
+ * Refused, book untouched: BOOK; NOENTRY, also where no row of the owner has the entry number; RANGE, the net position without the entry would lie beyond
+ * 1,000,000,000,000,000,000 cents either side. */
+uint64_t x9_book_withdraw(uint64_t *book, size_t book_len, const uint64_t *taken, size_t taken_len, uint64_t owner, uint64_t entry_number);
+
+/* Tidying up: the rows of both owners among those claimed close up from the first row on, in their order and as they are; the claimed rows behind them become
+ * zeros; the rows claimed are then as many as there are entries. All else stays. It makes no row free that was not. Returns the number: 0, or BOOK with the
+ * book untouched. */
+uint64_t x9_book_tidy(uint64_t *book, size_t book_len, const uint64_t *taken, size_t taken_len);
 
 /* Looking up an entry: the first row of the owner that has the entry number. Returns the number and fills `found` with
  *   [0] the number   [1] the entry number   [2] the file number
  *   [3] bundles   [4] debit items   [5] credit items   [6] views   [7] debit cents   [8] credit cents
- * NOENTRY where no row of the owner has it. */
+ * NOENTRY where no row of the owner has it, as after a withdrawal. */
 uint64_t x9_book_find(const uint64_t *book, size_t book_len, uint64_t owner, uint64_t entry_number, uint64_t found[9]);
 
 /* The running totals of an owner. Returns the number and fills `totals` with
- *   [0] the number   [1] its entries
+ *   [0] the number   [1] its entries, those withdrawn left out
  *   [2] bundles   [3] debit items   [4] credit items   [5] views   [6] debit cents   [7] credit cents
  *   [8] the net position, credit cents minus debit cents, as a signed number in two's complement: where it is 2^63 or more, it stands for itself minus 2^64.
  *       In C, a number above INT64_MAX is -(int64_t)(UINT64_MAX - totals[8]) - 1, and any other one (int64_t)totals[8]; a memcpy into an int64_t does the same */

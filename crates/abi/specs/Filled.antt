@@ -12,15 +12,17 @@ use Rattle.passes.specs.Answers.{numberOf, numbersOf}
 use Rattle.draft.specs.declared.Outcome.{Outcome}
 use Rattle.draft.specs.declared.Outcome.the-variants.{Written, Refused}
 use Rattle.net.specs.Net.{bitsOf}
-use Rattle.book_table.specs.declared.Entering.{Entering}
-use Rattle.book_table.specs.declared.Finding.{Finding}
-use Rattle.book_table.specs.declared.Tally.{Tally}
+use Rattle.book_model.specs.declared.Entering.{Entering}
+use Rattle.book_model.specs.declared.Finding.{Finding}
+use Rattle.book_model.specs.declared.Tally.{Tally}
+use Rattle.book_model.specs.declared.Change.{Change}
 use Rattle.judge.specs.Alone as alone
 use Rattle.passes.specs.declared.Answer.the-variants as answers
 use Rattle.picture.specs.Picture as picture
-use Rattle.book_table.specs.declared.Entering.the-variants as entering
-use Rattle.book_table.specs.declared.Finding.the-variants as finding
-use Rattle.book_table.specs.declared.Tally.the-variants as tally
+use Rattle.book_model.specs.declared.Entering.the-variants as entering
+use Rattle.book_model.specs.declared.Finding.the-variants as finding
+use Rattle.book_model.specs.declared.Tally.the-variants as tally
+use Rattle.book_model.specs.declared.Change.the-variants as change
 use Rattle.figures.specs.Figures as figures
 use Rattle.tiff.specs.Judged as tiff
 
@@ -75,3 +77,8 @@ tallyNumber (tally.Refused fault) = numberOf fault
 abbrev pub tallyNumbers : Tally → List ℕ
 tallyNumbers (tally.Totals n f position) = 0 ∷ n ∷ figures.numbersOf f ++ (bitsOf position ∷ [])
 tallyNumbers (tally.Refused fault) = numberOf fault ∷ 0 ∷ 0 ∷ 0 ∷ 0 ∷ 0 ∷ 0 ∷ 0 ∷ 0 ∷ []
+
+-- x9_book_withdraw and x9_book_tidy: the number alone
+abbrev pub changeNumber : Change → ℕ
+changeNumber change.Done = 0
+changeNumber (change.Refused fault) = numberOf fault

@@ -18,8 +18,8 @@ use Rattle.draft.specs.Drafted.{outcomeOf, bufferOf}
 use Rattle.draft.specs.Promises.{Promised}
 use Rattle.drafting.specs.DraftOf.{draftAnswerOf, draftTableOf, DraftOfItself}
 use Rattle.letters.specs.OfArrangement.{LettersOwn}
-use Rattle.book.specs.Calls.{enterAnswer, rowsAfter, bookAfter, findAnswer, totalsAnswer}
-use Rattle.abi.specs.Filled.{placeOf, judgementOf, taggingOf, outcomeNumber, outcomeNumbers, enteringNumber, enteringNumbers, findingNumber, findingNumbers, tallyNumber, tallyNumbers}
+use Rattle.book_model.specs.Calls.{enterAnswer, rowsAfter, bookAfter, listAfter, findAnswer, totalsAnswer, withdrawAnswer, bookWithdrawn, tidyAnswer, bookTidied}
+use Rattle.abi.specs.Filled.{placeOf, judgementOf, taggingOf, outcomeNumber, outcomeNumbers, enteringNumber, enteringNumbers, findingNumber, findingNumbers, tallyNumber, tallyNumbers, changeNumber}
 use Rattle.judge.specs.Alone as alone
 use Rattle.picture.specs.Picture as picture
 use Rattle.tiff.specs.Judged as tiff
@@ -88,19 +88,20 @@ pub one-drafting : (file draft : List ℕ) {n m : ℕ} {after later answer other
     → Drafting file draft n after answer → Drafting file draft m later other → (n ≡ m) × (after ≡ later) × (answer ≡ other)
 one-drafting file draft r s = (one (r .number) (s .number), one (r .rows) (s .rows), one (r .answer) (s .answer))
 
--- x9_book_enter: the number, the row table, the book, the thirteen numbers, and that the letters entered are those of the file's arrangement
-pub record Booking (file : List ℕ) (m o : ℕ) (table book : List ℕ) (n : ℕ) (rows after numbers : List ℕ) : Type 0 where
-  pub number : n ≡ enteringNumber (enterAnswer file m o (length table) book)
-  pub rows-after : rows ≡ rowsAfter file table (enterAnswer file m o (length table) book)
-  pub book-after : after ≡ bookAfter file m o book (enterAnswer file m o (length table) book)
-  pub answer : numbers ≡ enteringNumbers (length file) (enterAnswer file m o (length table) book)
+-- x9_book_enter: the number, the row table, the book, the list, the thirteen numbers, and that the letters entered are those of the file's arrangement
+pub record Booking (file : List ℕ) (m o : ℕ) (table book list : List ℕ) (n : ℕ) (rows after taken numbers : List ℕ) : Type 0 where
+  pub number : n ≡ enteringNumber (enterAnswer file m o (length table) book list)
+  pub rows-after : rows ≡ rowsAfter file table (enterAnswer file m o (length table) book list)
+  pub book-after : after ≡ bookAfter file m o book (enterAnswer file m o (length table) book list)
+  pub list-after : taken ≡ listAfter m o list (enterAnswer file m o (length table) book list)
+  pub answer : numbers ≡ enteringNumbers (length file) (enterAnswer file m o (length table) book list)
   pub own : LettersOwn file
 
-pub one-booking : (file : List ℕ) (m o : ℕ) (table book : List ℕ) {n k : ℕ} {rows others after later answer other : List ℕ}
-    → Booking file m o table book n rows after answer → Booking file m o table book k others later other
-    → (n ≡ k) × (rows ≡ others) × (after ≡ later) × (answer ≡ other)
-one-booking file m o table book r s =
-    (one (r .number) (s .number), one (r .rows-after) (s .rows-after), one (r .book-after) (s .book-after), one (r .answer) (s .answer))
+pub one-booking : (file : List ℕ) (m o : ℕ) (table book list : List ℕ) {n k : ℕ} {rows others after later taken more answer other : List ℕ}
+    → Booking file m o table book list n rows after taken answer → Booking file m o table book list k others later more other
+    → (n ≡ k) × (rows ≡ others) × (after ≡ later) × (taken ≡ more) × (answer ≡ other)
+one-booking file m o table book list r s =
+    (one (r .number) (s .number), one (r .rows-after) (s .rows-after), one (r .book-after) (s .book-after), one (r .list-after) (s .list-after), one (r .answer) (s .answer))
 
 -- x9_book_find and x9_book_totals: the number and the numbers
 pub record LookingUp (book : List ℕ) (o m n : ℕ) (numbers : List ℕ) : Type 0 where
@@ -117,6 +118,23 @@ pub record Tallying (book : List ℕ) (o n : ℕ) (numbers : List ℕ) : Type 0 
 
 pub one-tallying : (book : List ℕ) (o : ℕ) {n k : ℕ} {totals other : List ℕ} → Tallying book o n totals → Tallying book o k other → (n ≡ k) × (totals ≡ other)
 one-tallying book o r s = (one (r .number) (s .number), one (r .totals) (s .totals))
+
+-- x9_book_withdraw and x9_book_tidy: the number and the book
+pub record Withdrawing (book list : List ℕ) (o m n : ℕ) (after : List ℕ) : Type 0 where
+  pub number : n ≡ changeNumber (withdrawAnswer book list o m)
+  pub book-after : after ≡ bookWithdrawn o m book (withdrawAnswer book list o m)
+
+pub one-withdrawing : (book list : List ℕ) (o m : ℕ) {n k : ℕ} {after later : List ℕ}
+    → Withdrawing book list o m n after → Withdrawing book list o m k later → (n ≡ k) × (after ≡ later)
+one-withdrawing book list o m r s = (one (r .number) (s .number), one (r .book-after) (s .book-after))
+
+pub record Tidying (book list : List ℕ) (n : ℕ) (after : List ℕ) : Type 0 where
+  pub number : n ≡ changeNumber (tidyAnswer book list)
+  pub book-after : after ≡ bookTidied book (tidyAnswer book list)
+
+pub one-tidying : (book list : List ℕ) {n k : ℕ} {after later : List ℕ} → Tidying book list n after → Tidying book list k later
+    → (n ≡ k) × (after ≡ later)
+one-tidying book list r s = (one (r .number) (s .number), one (r .book-after) (s .book-after))
 
 -- the calls of the Rattle crates: writer::write and drafting::draft_of; reader::read, picture::picture, picture::find_picture and
 -- tiff::judge_tags

@@ -1,7 +1,8 @@
 // The calls for C and Rust (include/x9180.h).
-use book_table::Entering;
-use book_table::Finding;
-use book_table::Tally;
+use book_model::Change;
+use book_model::Entering;
+use book_model::Finding;
+use book_model::Tally;
 use draft::Outcome;
 use passes::Answer;
 use passes::Fault;
@@ -12,9 +13,9 @@ ghost use Rattle.text.specs.declared.character_set.CharacterSet.the-variants.{A
 ghost use Prim.Native.Nat.{ℕ};
 ghost use Rattle.passes.specs.Answers.{numberOf, numbersOf};
 ghost use Rattle.passes.specs.declared.Answer.the-variants.{Accepted, Refused};
-ghost use Rattle.book_table.specs.declared.Entering.the-variants.{Entered, Refused as NotEntered};
+ghost use Rattle.book_model.specs.declared.Entering.the-variants.{Entered, Refused as NotEntered};
 ghost use Rattle.abi.specs.Filled.{setNumbered, enteringNumbers};
-ghost use Rattle.abi.specs.Outcomes.{Reading, Writing, Drafting, Picturing, Judging, Tagging, Booking, LookingUp, Tallying};
+ghost use Rattle.abi.specs.Outcomes.{Reading, Writing, Drafting, Picturing, Judging, Tagging, Booking, LookingUp, Tallying, Withdrawing, Tidying};
 
 // The numbers of an acceptance, where the file has so many bytes, and of a refusal.
 fn fill_accepted(bytes: u64, totals: Totals, answer: &mut [u64; 12])
@@ -220,8 +221,8 @@ fn fill_not_entered(fault: Fault, place: u64, offset: usize, answer: &mut [u64; 
     number
 }
 
-// An owner enters a file into a day book: the number, in `table` its rows, in `book` its letters, and in `answer` the numbers of the reading and the first
-// entry number given.
+// An owner enters a file into a day book: the number, in `table` its rows, in `book` its letters, in `list` its file number, and in `answer` the numbers of
+// the reading and the first entry number given.
 #[no_mangle]
 pub extern "C" fn x9_book_enter(
     file: &[u8],
@@ -229,12 +230,13 @@ pub extern "C" fn x9_book_enter(
     owner: u64,
     table: &mut [u64],
     book: &mut [u64],
+    list: &mut [u64],
     answer: &mut [u64; 13],
 ) -> u64
-    ensures { λ r. ⌜ Booking (now (file .entry)) number owner (now (table .entry)) (now (book .entry)) r (now (table .exit)) (now (book .exit)) (now (answer .exit)) ⌝ }
+    ensures { λ r. ⌜ Booking (now (file .entry)) number owner (now (table .entry)) (now (book .entry)) (now (list .entry)) r (now (table .exit)) (now (book .exit)) (now (list .exit)) (now (answer .exit)) ⌝ }
 {
     let bytes = file.len() as u64;
-    match book::enter(file, number, owner, table, book) {
+    match book::enter(file, number, owner, table, book, list) {
         Entering::Entered(first, totals) => {
             fill_entered(bytes, totals, first, answer);
             0
@@ -300,5 +302,27 @@ pub extern "C" fn x9_book_totals(book: &[u64], owner: u64, totals: &mut [u64; 9]
             *totals = [refused, 0, 0, 0, 0, 0, 0, 0, 0];
             refused
         }
+    }
+}
+
+// An owner withdraws one of its entries from a day book: the number, and in `book` what is left.
+#[no_mangle]
+pub extern "C" fn x9_book_withdraw(book: &mut [u64], list: &[u64], owner: u64, number: u64) -> u64
+    ensures { λ r. ⌜ Withdrawing (now (book .entry)) (now (list .entry)) owner number r (now (book .exit)) ⌝ }
+{
+    match book::withdraw(book, list, owner, number) {
+        Change::Done => 0,
+        Change::Refused(fault) => fault.number(),
+    }
+}
+
+// The gaps of a day book closed: the number, and in `book` the rows without gaps.
+#[no_mangle]
+pub extern "C" fn x9_book_tidy(book: &mut [u64], list: &[u64]) -> u64
+    ensures { λ r. ⌜ Tidying (now (book .entry)) (now (list .entry)) r (now (book .exit)) ⌝ }
+{
+    match book::tidy(book, list) {
+        Change::Done => 0,
+        Change::Refused(fault) => fault.number(),
     }
 }

@@ -1,9 +1,10 @@
-pub mod Stores
-pub mod Rows
-pub mod Grown
-pub mod MoreEntries
+pub mod Matched
+pub mod Held
+pub mod Entered
+pub mod Withdrawn
 pub mod EachCall
 pub mod Empty
+pub mod Both
 pub mod Lasting
 pub mod Theorem
 pub mod Separate

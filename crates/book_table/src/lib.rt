@@ -1,11 +1,12 @@
 // A day book in a lent table: its head and rows read, judged and written. The plain list that a table holds stands in `specs/`.
+use book_model::Entry;
+use book_model::Finding;
 use figures::Figures;
 use measure::Cents;
 use measure::Items;
 use measure::Sums;
 use measure::Views;
 use passes::Fault;
-use passes::Totals;
 ghost use mathlib.Core.Bool.{true, _&&_};
 ghost use mathlib.Core.List.{_∷_};
 ghost use mathlib.Core.Path.{_≡_};
@@ -13,34 +14,10 @@ ghost use Prim.Native.Nat.{_+_, _*_, _≤_, _<_};
 ghost use lib.Dec.{leb};
 ghost use lib.ListN.{length, getD, set};
 ghost use lib.Seq.{sets};
-ghost use Rattle.figures.specs.Figures.{numbersOf, figuresAt, plus, same, fits};
+ghost use Rattle.figures.specs.Figures.{numbersOf, figuresAt, plus, minus, same, covers, fits};
 ghost use Rattle.net.specs.Net.{isNet, within};
-ghost use Rattle.book_table.specs.PlainList.{isTaken, totalsOf, positionOf, finding};
-ghost use Rattle.book_table.specs.Table.{isOwner, blockOf, rowsClaimed, rowsThere, freeRows, lastNumber, runningTotals, netNumber, addsUp, blockWith, entryAt, ownFiguresAt, rowOf, entriesFrom, isBook};
-
-// One cash letter as it was entered: its entry number, the caller's number for its file, its own figures.
-pub struct Entry {
-    pub number: u64,
-    pub file: u64,
-    pub figures: Figures,
-}
-
-// What entering a file gives: the first entry number given and the totals of the file, or the fault, the record and the offset.
-pub enum Entering {
-    Entered(u64, Totals),
-    Refused(Fault, u64, usize),
-}
-
-pub enum Finding {
-    Found(Entry),
-    Refused(Fault),
-}
-
-// How many entries there are, the running totals and the net position.
-pub enum Tally {
-    Totals(u64, Figures, i64),
-    Refused(Fault),
-}
+ghost use Rattle.book_model.specs.PlainList.{totalsOf, positionOf, finding};
+ghost use Rattle.book_model.specs.Table.{isOwner, blockOf, rowsClaimed, rowsThere, lastNumber, runningTotals, netNumber, addsUp, blockWith, entryAt, ownFiguresAt, rowOf, entriesFrom, isBook};
 
 // A number of the table, 0 where the table is too short.
 pub fn number_at(book: &[u64], at: usize) -> u64
@@ -175,23 +152,6 @@ pub fn is_book(book: &[u64]) -> bool
     adds_up(book, 1, claimed) & adds_up(book, 2, claimed)
 }
 
-// Whether a file number stands in one of an owner's rows among so many.
-pub fn is_taken(book: &[u64], owner: u64, claimed: u64, number: u64) -> bool
-    requires { ⌜ claimed ≤ rowsThere (now book) ⌝ }
-    ensures { λ r. ⌜ r ≡ isTaken number (entriesFrom owner (now (book .entry)) claimed 17) ⌝ }
-{
-    let mut at: usize = 17;
-    let mut rows = claimed;
-    while 0 < rows {
-        if (book[at] == owner) & (book[at + 2] == number) {
-            return true;
-        }
-        at += 9;
-        rows -= 1;
-    }
-    false
-}
-
 // The first of an owner's rows among so many that has the entry number.
 pub fn first_numbered(book: &[u64], owner: u64, claimed: u64, number: u64) -> Finding
     requires { ⌜ claimed ≤ rowsThere (now book) ⌝ }
@@ -253,13 +213,11 @@ pub fn put_row(book: &mut [u64], at: usize, owner: u64, e: Entry)
     put_figures(book, at + 3, figures);
 }
 
-// Whether there are rows, and of an owner's numbers and running totals enough, for so many letters and what they come to.
-pub fn has_room(book: &[u64], owner: u64, letters: u64, added: Figures) -> bool
-    requires { ⌜ rowsClaimed (now book) ≤ rowsThere (now book) ⌝ }
-    ensures { λ r. ⌜ r ≡ (leb letters (freeRows (now (book .entry))) && fits (plus (runningTotals owner (now (book .entry))) added) && leb (lastNumber owner (now (book .entry)) + letters) 0xFFFF_FFFF_FFFF_FFFF) ⌝ }
+// Whether there are rows, of which so many are free, and of an owner's numbers and running totals enough, for so many letters and what they come to.
+pub fn has_room(book: &[u64], owner: u64, free: u64, letters: u64, added: Figures) -> bool
+    ensures { λ r. ⌜ r ≡ (leb letters free && fits (plus (runningTotals owner (now (book .entry))) added) && leb (lastNumber owner (now (book .entry)) + letters) 0xFFFF_FFFF_FFFF_FFFF) ⌝ }
 {
     let block = block_of(owner);
-    let free = rows_there(book) - number_at(book, 0);
     let totals = figures_at(book, block + 1);
     (letters <= free)
         & totals.has_room_for(added)
@@ -276,6 +234,16 @@ pub fn keeps_range(book: &[u64], owner: u64, added: Figures) -> bool
     net::stays_within(position, sums.credit.0, sums.debit.0)
 }
 
+// Whether it stays within its bound without so much of what it was made of.
+pub fn keeps_range_without(book: &[u64], owner: u64, gone: Figures) -> bool
+    requires { ⌜ (isNet (netNumber owner (now book)) (positionOf (runningTotals owner (now book))) ≡ true) × (covers (runningTotals owner (now book)) gone ≡ true) ⌝ }
+    ensures { λ r. ⌜ r ≡ within (positionOf (minus (runningTotals owner (now (book .entry))) gone)) ⌝ }
+{
+    let position = net::signed_of(number_at(book, block_of(owner) + 7));
+    let sums = gone.sums;
+    net::stays_within(position, sums.debit.0, sums.credit.0)
+}
+
 // An owner's block of the head: the last number, the running totals and the net position of these, which is within its bound.
 fn put_block(book: &mut [u64], at: usize, last: u64, totals: Figures)
     requires { ⌜ (at + 8 ≤ length (now book)) × (within (positionOf totals) ≡ true) ⌝ }
@@ -289,13 +257,24 @@ fn put_block(book: &mut [u64], at: usize, last: u64, totals: Figures)
 }
 
 // The head with so many rows more, and of an owner so many numbers more and the running totals raised where they stand.
-pub fn raise_head(book: &mut [u64], owner: u64, letters: u64, added: Figures)
-    requires { ⌜ (17 ≤ length (now book)) × (rowsClaimed (now book) + letters < 0x1_0000_0000_0000_0000) × (lastNumber owner (now book) + letters < 0x1_0000_0000_0000_0000) × (fits (plus (runningTotals owner (now book)) added) ≡ true) × (within (positionOf (plus (runningTotals owner (now book)) added)) ≡ true) ⌝ }
-    ensures { λ _. ⌜ now (book .exit) ≡ sets (set (now (book .entry)) 0 (rowsClaimed (now (book .entry)) + letters)) (blockOf owner) (blockWith (lastNumber owner (now (book .entry)) + letters) (plus (runningTotals owner (now (book .entry))) added)) ⌝ }
+pub fn raise_head(book: &mut [u64], owner: u64, rows: u64, letters: u64, added: Figures)
+    requires { ⌜ (17 ≤ length (now book)) × (rowsClaimed (now book) + rows < 0x1_0000_0000_0000_0000) × (lastNumber owner (now book) + letters < 0x1_0000_0000_0000_0000) × (fits (plus (runningTotals owner (now book)) added) ≡ true) × (within (positionOf (plus (runningTotals owner (now book)) added)) ≡ true) ⌝ }
+    ensures { λ _. ⌜ now (book .exit) ≡ sets (set (now (book .entry)) 0 (rowsClaimed (now (book .entry)) + rows)) (blockOf owner) (blockWith (lastNumber owner (now (book .entry)) + letters) (plus (runningTotals owner (now (book .entry))) added)) ⌝ }
 {
     let block = block_of(owner);
     let last = number_at(book, block) + letters;
     let totals = figures_at(book, block + 1);
-    book[0] += letters;
+    book[0] += rows;
     put_block(book, block, last, figures::raised(totals, added));
+}
+
+// The head with an owner's running totals lowered where they stand.
+pub fn lower_head(book: &mut [u64], owner: u64, gone: Figures)
+    requires { ⌜ (17 ≤ length (now book)) × (covers (runningTotals owner (now book)) gone ≡ true) × (within (positionOf (minus (runningTotals owner (now book)) gone)) ≡ true) ⌝ }
+    ensures { λ _. ⌜ now (book .exit) ≡ sets (now (book .entry)) (blockOf owner) (blockWith (lastNumber owner (now (book .entry))) (minus (runningTotals owner (now (book .entry))) gone)) ⌝ }
+{
+    let block = block_of(owner);
+    let last = number_at(book, block);
+    let totals = figures_at(book, block + 1);
+    put_block(book, block, last, figures::lowered(totals, gone));
 }

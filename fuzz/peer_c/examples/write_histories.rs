@@ -10,14 +10,14 @@ use peer_book::paper::Paper;
 use peer_c::histories::{Input, Step};
 
 /// The histories of which the first ones of each shape are taken.
-const HISTORIES: u64 = 2_400;
+const HISTORIES: u64 = 9_000;
 
-/// How many of a shape, and the bytes of the largest. Files in which every letter has all six figures are long, and a full book has eight causes. A
-/// history that is to be held beside another has nine files.
+/// How many of a shape, and the bytes of the largest. Files in which every letter has all six figures are long, and a full book has nine causes. A
+/// history that is to be held beside another has ten files.
 fn wanted(shape: &str) -> (usize, usize) {
     match shape {
-        "full" => (24, 9_000),
-        "grown" => (12, 12_000),
+        "full" => (27, 9_000),
+        "grown" | "refilled" => (12, 12_000),
         "apart" => (9, 19_000),
         _ => (9, 4_000),
     }
@@ -54,7 +54,7 @@ fn control(index: u64) -> [u8; 16] {
     control
 }
 
-/// A book with room for twelve entries and the accepted samples: each entered, most for owner 1 and some for owner 2, some again under their own number,
+/// A book with room for twelve entries and fourteen file numbers, and the accepted samples: each entered, most for owner 1 and some for owner 2, some again under their own number,
 /// under another and for the other owner, everything looked up by both.
 fn a_day(folder: &str) -> std::io::Result<Input> {
     let mut names: Vec<_> =
@@ -75,5 +75,16 @@ fn a_day(folder: &str) -> std::io::Result<Input> {
     steps.extend((0..2).map(|file| Step::enter(OWNERS[0], file, 200 + file as u64)));
     steps.extend([12, 13].into_iter().flat_map(|number| for_both(Step::find, number)));
     steps.extend(OWNERS.map(Step::sum_up));
-    Ok(Input { control: control(1), book: Vec::new(), zeros: 17 + 9 * 12, steps, files })
+    // Some withdrawn, looked for and entered again, before and after a tidy-up.
+    steps.extend([1, 3, 3].map(|number| Step::withdraw(OWNERS[0], number)));
+    steps.extend([
+        Step::find(OWNERS[0], 3),
+        Step::enter(OWNERS[0], 0, 100),
+        Step::enter(OWNERS[0], 1, 300),
+        Step::tidy(),
+    ]);
+    steps.extend([Step::withdraw(OWNERS[1], 1), Step::enter(OWNERS[1], 0, 301), Step::find(OWNERS[1], 1)]);
+    steps.extend(OWNERS.map(Step::sum_up));
+    let (book, taken) = (Vec::new(), Vec::new());
+    Ok(Input { control: control(1), book, zeros: 17 + 9 * 12, taken, free: 1 + 2 * 14, steps, files })
 }

@@ -34,7 +34,7 @@ pub unsafe extern "C" fn peer_drop_paper(paper: *mut Paper) {
 /// Enters a paper for an owner.
 ///
 /// # Safety
-/// `paper` came from `peer_paper`; `rows` points to `rows_len` numbers, `book` to `book_len`, `answer` to thirteen.
+/// `paper` came from `peer_paper`; `rows` points to `rows_len` numbers, `book` to `book_len`, `taken` to `taken_len`, `answer` to thirteen.
 #[no_mangle]
 pub unsafe extern "C" fn peer_enter(
     paper: *const Paper,
@@ -44,15 +44,53 @@ pub unsafe extern "C" fn peer_enter(
     rows_len: usize,
     book: *mut u64,
     book_len: usize,
+    taken: *mut u64,
+    taken_len: usize,
     answer: *mut u64,
 ) -> u64 {
     let (rows, book) = (from_raw_parts_mut(rows, rows_len), from_raw_parts_mut(book, book_len));
-    let (mut other_rows, mut other_book) = (rows.to_vec(), book.to_vec());
-    let given: [u64; ENTER_ANSWER] = table::enter(&*paper, file_number, owner, rows, book);
-    let other = opinion::enter(&*paper, file_number, owner, &mut other_rows, &mut other_book);
+    let taken = from_raw_parts_mut(taken, taken_len);
+    let (mut other_rows, mut other_book, mut other_taken) = (rows.to_vec(), book.to_vec(), taken.to_vec());
+    let given: [u64; ENTER_ANSWER] = table::enter(&*paper, file_number, owner, rows, book, taken);
+    let other = opinion::enter(&*paper, file_number, owner, &mut other_rows, &mut other_book, &mut other_taken);
     assert_eq!(other, given, "the second opinion is another");
-    assert!(rows == other_rows && book == other_book, "the second opinion leaves something else");
+    let alike = rows == other_rows && book == other_book && taken == other_taken;
+    assert!(alike, "the second opinion leaves something else");
     give(&given, answer)
+}
+
+/// Withdraws an owner's entry.
+///
+/// # Safety
+/// `book` points to `book_len` numbers, `taken` to `taken_len`.
+#[no_mangle]
+pub unsafe extern "C" fn peer_withdraw(
+    book: *mut u64,
+    book_len: usize,
+    taken: *const u64,
+    taken_len: usize,
+    owner: u64,
+    entry_number: u64,
+) -> u64 {
+    let (book, taken) = (from_raw_parts_mut(book, book_len), lent(taken, taken_len));
+    let mut other_book = book.to_vec();
+    let given = table::withdraw(book, taken, owner, entry_number);
+    let other = opinion::withdraw(&mut other_book, taken, owner, entry_number);
+    assert!(given == other && book == other_book, "the second opinion is another");
+    given
+}
+
+/// Closes the gaps.
+///
+/// # Safety
+/// `book` points to `book_len` numbers, `taken` to `taken_len`.
+#[no_mangle]
+pub unsafe extern "C" fn peer_tidy(book: *mut u64, book_len: usize, taken: *const u64, taken_len: usize) -> u64 {
+    let (book, taken) = (from_raw_parts_mut(book, book_len), lent(taken, taken_len));
+    let mut other_book = book.to_vec();
+    let (given, other) = (table::tidy(book, taken), opinion::tidy(&mut other_book, taken));
+    assert!(given == other && book == other_book, "the second opinion is another");
+    given
 }
 
 /// Looks an owner's entry up.

@@ -1,5 +1,5 @@
-//! Inputs of the target `book`, and their mutator: by number of the book, by call, and by file. An input is sixteen control bytes, the numbers of the
-//! book, the calls, the lengths of the files but the last, and the files.
+//! Inputs of the target `book`, and their mutator: by number of the book and of the list, by call, and by file. An input is sixteen control bytes, the
+//! numbers of the book, those of the list of file numbers taken, the calls, the lengths of the files but the last, and the files.
 
 use std::slice::{from_raw_parts, from_raw_parts_mut};
 
@@ -7,8 +7,8 @@ use peer_book::call::{Call, History};
 use peer_book::files::{any_paper, sound_paper};
 use peer_book::generate::{history, ROUND};
 use peer_book::layout::{
-    is_owner, last, net_of, row_start, rows_there, total, BOUND, CLAIMED, CREDIT_CENTS, DEBIT_CENTS, FIGURES,
-    FILE_NUMBER, HEAD, NUMBER, OWNER, OWNERS, SIX, WIDTH,
+    is_owner, last, list_of, net_of, place_start, places_claimed, places_there, row_start, rows_there, total, BOUND,
+    CLAIMED, CREDIT_CENTS, DEBIT_CENTS, FIGURES, HEAD, NUMBER, OWNER, OWNERS, PLACE, SIX, WIDTH,
 };
 use peer_book::paper::Paper;
 use peer_book::sheet::{another, caller, junk, other_cents};
@@ -23,7 +23,7 @@ const CALLS: usize = 128;
 /// The bytes of a call.
 const CALL: usize = 16;
 
-/// A call as the input has it. Request 10 has two kinds more.
+/// A call as the input has it.
 #[derive(Clone, Copy)]
 pub struct Step {
     pub kind: u8,
@@ -39,7 +39,9 @@ pub struct Step {
 pub const ENTER: u8 = 0;
 pub const FIND: u8 = 1;
 pub const SUM_UP: u8 = 2;
-const KINDS: usize = 3;
+pub const WITHDRAW: u8 = 3;
+pub const TIDY: u8 = 4;
+const KINDS: usize = 5;
 
 /// How the length of a row table and a number are taken.
 const AS_TOLD: u8 = 0;
@@ -93,6 +95,14 @@ impl Step {
         Step { kind: SUM_UP, ..Step::find(owner, 0) }
     }
 
+    pub fn withdraw(owner: u64, number: u64) -> Step {
+        Step { kind: WITHDRAW, ..Step::find(owner, number) }
+    }
+
+    pub fn tidy() -> Step {
+        Step { kind: TIDY, ..Step::find(0, 0) }
+    }
+
     /// A call of a history. A row table that is longer than two bytes tell is ample.
     fn of_call(call: &Call) -> Step {
         match *call {
@@ -102,6 +112,8 @@ impl Step {
             }
             Call::Find { owner, entry_number } => Step::find(owner, entry_number),
             Call::Totals { owner } => Step::sum_up(owner),
+            Call::Withdraw { owner, entry_number } => Step::withdraw(owner, entry_number),
+            Call::Tidy => Step::tidy(),
         }
     }
 }
@@ -113,6 +125,9 @@ pub struct Input {
     pub book: Vec<u64>,
     /// So many zeros follow in the book.
     pub zeros: u16,
+    /// The list of file numbers taken, and so many zeros that follow in it.
+    pub taken: Vec<u64>,
+    pub free: u16,
     pub steps: Vec<Step>,
     pub files: Vec<Vec<u8>>,
 }
@@ -122,6 +137,19 @@ fn take<'a>(from: &mut &'a [u8], count: usize) -> &'a [u8] {
     let (taken, left) = from.split_at(count.min(from.len()));
     *from = left;
     taken
+}
+
+/// Numbers whose zeros at the end are told, not set down: the others, and how many zeros follow.
+fn told(numbers: &[u64]) -> (Vec<u64>, usize) {
+    let end = numbers.iter().rposition(|number| *number != 0).map_or(0, |last| last + 1);
+    (numbers[..end].to_vec(), numbers.len() - end)
+}
+
+/// So many numbers from the front, or all that are there.
+fn take_numbers(from: &mut &[u8], count: usize) -> Vec<u64> {
+    let count = count.min(from.len() / 8);
+    let numbers = take(from, 8 * count).chunks_exact(8);
+    numbers.map(|number| u64::from_le_bytes(number.try_into().expect("eight bytes"))).collect()
 }
 
 fn two(laid: &[u8]) -> usize {
@@ -135,9 +163,8 @@ impl Input {
         let mut control = [0; CONTROL];
         let held = take(&mut left, CONTROL);
         control[..held.len()].copy_from_slice(held);
-        let numbers = two(&control[1..3]).min(left.len() / 8);
-        let book = take(&mut left, 8 * numbers).chunks_exact(8);
-        let book = book.map(|number| u64::from_le_bytes(number.try_into().expect("eight bytes"))).collect();
+        let book = take_numbers(&mut left, two(&control[1..3]));
+        let taken = take_numbers(&mut left, two(&control[8..10]));
         let calls = usize::from(control[6]).min(CALLS).min(left.len() / CALL);
         let steps = take(&mut left, CALL * calls).chunks_exact(CALL).map(Step::of).collect();
         let count = usize::from(control[7]).min(FILES);
@@ -146,18 +173,22 @@ impl Input {
         if count > 0 {
             files.push(left.to_vec());
         }
-        Input { control, book, zeros: two(&control[4..6]) as u16, steps, files }
+        let (zeros, free) = (two(&control[4..6]) as u16, two(&control[10..12]) as u16);
+        Input { control, book, zeros, taken, free, steps, files }
     }
 
     /// The bytes of the input. Files that two bytes do not tell the length of are cut.
     pub fn put_together(&self) -> Vec<u8> {
         let (steps, files) = (&self.steps[..self.steps.len().min(CALLS)], &self.files[..self.files.len().min(FILES)]);
-        let numbers = u16::try_from(self.book.len()).unwrap_or(u16::MAX);
+        let [numbers, of_list] = [&self.book, &self.taken].map(|of| u16::try_from(of.len()).unwrap_or(u16::MAX));
         let mut made = self.control.to_vec();
         made[1..3].copy_from_slice(&numbers.to_le_bytes());
         made[4..6].copy_from_slice(&self.zeros.to_le_bytes());
+        made[8..10].copy_from_slice(&of_list.to_le_bytes());
+        made[10..12].copy_from_slice(&self.free.to_le_bytes());
         (made[6], made[7]) = (steps.len() as u8, files.len() as u8);
         made.extend(self.book[..usize::from(numbers)].iter().flat_map(|number| number.to_le_bytes()));
+        made.extend(self.taken[..usize::from(of_list)].iter().flat_map(|number| number.to_le_bytes()));
         made.extend(steps.iter().flat_map(Step::laid));
         let cut = |file: &Vec<u8>| file.len().min(usize::from(u16::MAX));
         let but_the_last = &files[..files.len().saturating_sub(1)];
@@ -171,12 +202,13 @@ impl Input {
         if history.papers.len() > FILES || history.calls.len() > CALLS {
             return None;
         }
-        // Zeros at the end are told, not set down.
-        let end = history.book.iter().rposition(|number| *number != 0).map_or(0, |last| last + 1);
+        let ((book, zeros), (taken, free)) = (told(&history.book), told(&history.taken));
         Some(Input {
             control,
-            book: history.book[..end].to_vec(),
-            zeros: u16::try_from(history.book.len() - end).ok()?,
+            book,
+            zeros: u16::try_from(zeros).ok()?,
+            taken,
+            free: u16::try_from(free).ok()?,
             steps: history.calls.iter().map(Step::of_call).collect(),
             files: history.papers.iter().map(|paper| paper.bytes.clone()).collect(),
         })
@@ -188,6 +220,19 @@ impl Input {
         table.resize(table.len() + usize::from(self.zeros), 0);
         table
     }
+}
+
+/// The list that the target lends.
+fn list_in(input: &Input) -> Vec<u64> {
+    let mut list = input.taken.clone();
+    list.resize(list.len() + usize::from(input.free), 0);
+    list
+}
+
+/// The list of an input, with the zeros at its end told, not set down.
+fn put_list(input: &mut Input, list: Vec<u64>) {
+    let (taken, free) = told(&list);
+    (input.taken, input.free) = (taken, u16::try_from(free).unwrap_or(u16::MAX));
 }
 
 /// # Safety
@@ -245,8 +290,9 @@ fn mutated(mut input: Input, random: &mut Random, bytewise: Bytewise) -> Input {
             return Input::taken_apart(&bytes(bytewise, &all, all.len() + 64));
         }
         6..=11 => return fresh(input, random),
-        12..=34 => (0..times).for_each(|_| change_book(&mut input, random)),
-        35..=64 => (0..times).for_each(|_| change_steps(&mut input, random)),
+        12..=30 => (0..times).for_each(|_| change_book(&mut input, random)),
+        31..=36 => (0..times).for_each(|_| change_list(&mut input, random)),
+        37..=64 => (0..times).for_each(|_| change_steps(&mut input, random)),
         65..=84 => change_files(&mut input, random, bytewise),
         _ => to_the_brim(&mut input, random),
     }
@@ -299,9 +345,29 @@ fn change_book(input: &mut Input, random: &mut Random) {
 
 /// The table of an input, with the zeros at its end told, not set down.
 fn put_table(input: &mut Input, table: Vec<u64>) {
-    let end = table.iter().rposition(|number| *number != 0).map_or(0, |last| last + 1);
-    input.zeros = u16::try_from(table.len() - end).unwrap_or(u16::MAX);
-    input.book = table[..end].to_vec();
+    let (book, zeros) = told(&table);
+    (input.book, input.zeros) = (book, u16::try_from(zeros).unwrap_or(u16::MAX));
+}
+
+/// One number of the list, one of its places, or its length.
+fn change_list(input: &mut Input, random: &mut Random) {
+    let mut list = list_in(input);
+    let there = places_there(list.len());
+    let place = place_start(random.below(there.max(1)));
+    match random.below(10) {
+        0 => list.truncate(random.below(list.len() + 1)),
+        1 => list.resize(list.len() + random.between(1, 4 * PLACE), 0),
+        2 => list.truncate(place_start(places_claimed(&list).min(there as u64) as usize)),
+        _ if list.is_empty() => list = vec![0; list_of(random.between(1, 20))],
+        3 => list[0] = there as u64 + random.draw() % 3,
+        4 => list[0] = another(random, list[0]),
+        5 => list[0] = random.draw() % (there as u64 + 1),
+        _ if place + 1 >= list.len() => list.resize(place + PLACE, 0),
+        6 | 7 => list[place] = caller(random),
+        8 => list[place + 1] = input.steps.get(random.below(input.steps.len())).map_or(7, |step| step.number.1),
+        _ => list[place + 1] = junk(random),
+    }
+    put_list(input, list);
 }
 
 /// Calls dropped, doubled, swapped, inserted, or one part of a call changed.
@@ -311,7 +377,7 @@ fn change_steps(input: &mut Input, random: &mut Random) {
     let files = input.files.len();
     match random.below(14) {
         0..=2 => {
-            let step = any_step(&input.book, files, random);
+            let step = any_step(&input.book, &input.taken, files, random);
             steps.insert(random.below(steps.len() + 1), step);
         }
         _ if steps.is_empty() => steps.push(Step::enter(caller(random), 0, 1)),
@@ -329,10 +395,14 @@ fn change_steps(input: &mut Input, random: &mut Random) {
 }
 
 /// Any call, with a number that means something in the book or with any.
-fn any_step(book: &[u64], files: usize, random: &mut Random) -> Step {
+fn any_step(book: &[u64], taken: &[u64], files: usize, random: &mut Random) -> Step {
     let row = random.below(rows_there(book.len()).max(1));
-    let kind = random.pick(&[ENTER, ENTER, FIND, SUM_UP]);
-    let near = book.get(row_start(row) + if kind == ENTER { FILE_NUMBER } else { NUMBER }).copied();
+    let place = random.below(places_there(taken.len()).max(1));
+    let kind = random.pick(&[ENTER, ENTER, ENTER, FIND, SUM_UP, WITHDRAW, WITHDRAW, TIDY]);
+    let near = match kind {
+        ENTER => taken.get(place_start(place) + 1).copied(),
+        _ => book.get(row_start(row) + NUMBER).copied(),
+    };
     let number = match random.below(4) {
         0 => near.unwrap_or(1),
         1 => junk(random),
@@ -359,7 +429,7 @@ fn change_files(input: &mut Input, random: &mut Random, bytewise: Bytewise) {
 }
 
 /// The running totals and net positions of both owners, as far as they are there, are made the sums of their rows claimed, and no more rows are claimed
-/// than there are. A sum that 64 bits do not hold is stated as what they leave of it, or rows are lowered.
+/// than there are, nor places. A sum that 64 bits do not hold is stated as what they leave of it, or rows are lowered.
 fn make_sound(input: &mut Input, random: &mut Random) {
     let mut table = input.table();
     let rows = table.first().map_or(0, |claimed| (*claimed).min(rows_there(table.len()) as u64));
@@ -375,6 +445,12 @@ fn make_sound(input: &mut Input, random: &mut Random) {
         table.iter_mut().skip(total(owner, 0)).zip(part).for_each(|(number, sum)| *number = sum);
     }
     put_table(input, table);
+    let mut list = list_in(input);
+    let there = places_there(list.len()) as u64;
+    if let Some(claimed) = list.first_mut() {
+        *claimed = (*claimed).min(there);
+    }
+    put_list(input, list);
 }
 
 /// Where the claimed rows of an owner begin; they are there.
@@ -404,8 +480,8 @@ fn near(number: i128, random: &mut Random) -> i128 {
     number + random.pick(&[-1, 0, 1])
 }
 
-/// A book that one of the files makes full for an owner, or just does not: by its rows, its last number, or a running total; or whose net position the
-/// file brings to its bound. The file is entered at the end.
+/// A book that one of the files makes full for an owner, or just does not: by its rows, its last number, a running total, or the places of the list; or
+/// whose net position the file, or a withdrawal, brings to its bound. The file is entered at the end, or the entry withdrawn.
 fn to_the_brim(input: &mut Input, random: &mut Random) {
     make_sound(input, random);
     let mut table = input.table();
@@ -417,6 +493,12 @@ fn to_the_brim(input: &mut Input, random: &mut Random) {
     let letters = paper.letters.len();
     table.resize(table.len().max(row_start(letters + 1)), 0);
     let claimed = table[CLAIMED] as usize;
+    if random.percent(25) {
+        return places_to_the_brim(input, owner, at, random);
+    }
+    if random.percent(25) {
+        return withdrawal_to_the_bound(input, table, owner, random);
+    }
     match random.below(2 + SIX + 4) {
         0 => table.resize(row_start(claimed + letters).saturating_sub(random.below(2)), 0),
         1 => table[last(owner)] = near(i128::from(u64::MAX) - letters as i128, random) as u64,
@@ -433,6 +515,31 @@ fn to_the_brim(input: &mut Input, random: &mut Random) {
         }
     }
     input.steps.push(Step::enter(owner, at, random.draw()));
+    put_table(input, table);
+    make_sound(input, random);
+}
+
+/// A list with no free place, or one.
+fn places_to_the_brim(input: &mut Input, owner: u64, file: usize, random: &mut Random) {
+    let mut list = list_in(input);
+    let claimed = places_claimed(&list).min(places_there(list.len()) as u64) as usize;
+    list.resize(list_of(claimed + random.below(2)), 0);
+    put_list(input, list);
+    input.steps.push(Step::enter(owner, file, random.draw()));
+}
+
+/// Two rows of the owner: without the one the net position is that of the others, and the other brings it to the bound.
+fn withdrawal_to_the_bound(input: &mut Input, mut table: Vec<u64>, owner: u64, random: &mut Random) {
+    let first = own_row(&mut table, owner, random);
+    let number = table[first + NUMBER];
+    let net = random.pick(&[BOUND, -BOUND, BOUND, -BOUND, i128::from(i64::MAX), i128::from(i64::MIN)]);
+    let own = random.pick(&[0, 1, -1, 1_000, -1_000, BOUND / 2]);
+    let wanted = near(net, random) + own;
+    net_to(&mut table, owner, wanted, random);
+    let cents = [DEBIT_CENTS, CREDIT_CENTS].map(|figure| first + FIGURES + figure);
+    let (debit, credit) = if own < 0 { (own.unsigned_abs() as u64, 0) } else { (0, own as u64) };
+    (table[cents[0]], table[cents[1]]) = (debit, credit);
+    input.steps.push(Step::withdraw(owner, number));
     put_table(input, table);
     make_sound(input, random);
 }
@@ -474,6 +581,9 @@ fn crossed(mut one: Input, two: Input, random: &mut Random) -> Input {
     match random.below(4) {
         0 => {
             (one.book, one.zeros) = (two.book, two.zeros);
+            if random.percent(60) {
+                (one.taken, one.free) = (two.taken, two.free);
+            }
         }
         1 if !one.files.is_empty() && !two.files.is_empty() => {
             let place = random.below(one.files.len());

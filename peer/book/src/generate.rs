@@ -3,25 +3,28 @@
 use peer_reader::random::Random;
 
 use crate::apart::{self, Pair};
-use crate::call::History;
+use crate::call::{History, Kind};
 use crate::{grow, tamper};
 
 /// Shapes by turn.
 #[rustfmt::skip]
-const TURNS: [&str; 55] = [
+const TURNS: [&str; 90] = [
     "grown", "grown", "grown", "grown", "grown", "grown", "grown", "grown", "head", "head",
-    "row", "row", "row", "behind", "claim", "claim", "sum", "sum", "sum", "sum",
-    "sum", "short", "short", "short", "short", "short", "full", "full", "full", "full",
-    "duplicate", "duplicate", "no duplicate", "find", "find", "not found", "totals", "order", "order", "again",
-    "owner", "owner", "strange", "apart", "apart", "sum", "order", "order", "totals", "head",
-    "net", "net", "range", "range", "held",
+    "row", "row", "row", "row", "claim", "claim", "sum", "sum", "sum", "sum",
+    "sum", "sum", "sum", "sum", "sum", "sum", "short", "short", "short", "short",
+    "short", "short", "full", "full", "full", "full", "full", "duplicate", "duplicate", "no duplicate",
+    "no duplicate", "find", "find", "not found", "totals", "totals", "order", "order", "order", "order",
+    "order", "again", "owner", "owner", "owner", "strange", "strange", "apart", "apart", "apart",
+    "head", "head", "net", "net", "net", "net", "range", "range", "held", "behind",
+    "refilled", "refilled", "refilled", "withdraw", "withdraw", "not withdrawn", "withdraw range", "withdraw range", "withdraw order", "withdraw order",
+    "tidy", "tidy", "gaps", "gaps", "list claim", "list claim", "short list", "short list", "edges", "edges",
 ];
 
 /// The histories of a round.
 pub const ROUND: usize = TURNS.len();
 
 /// Coverage is demanded of runs of at least so many histories.
-pub const WHOLE_RUN: u64 = 5_000;
+pub const WHOLE_RUN: u64 = 10_000;
 
 /// The histories of a run unless told otherwise.
 pub const USUAL_RUN: u64 = 20_000;
@@ -41,7 +44,7 @@ fn turn_of(index: u64) -> (&'static str, usize) {
 }
 
 fn random_of(seed: u64, index: u64) -> Random {
-    Random::for_file(seed ^ 0x0009_0009_0009_0009, index)
+    Random::for_file(seed ^ 0x0010_0010_0010_0010, index)
 }
 
 /// The history of this index in the run of this seed; of a pair the first.
@@ -70,15 +73,30 @@ pub fn shaped(random: &mut Random, shape: &str, turn: usize) -> History {
         "full" => tamper::full(random, turn),
         "duplicate" => tamper::duplicate(random, turn),
         "no duplicate" => tamper::no_duplicate(random, turn),
-        "find" => tamper::find(random, turn),
-        "not found" => tamper::not_found(random, turn),
+        "find" => tamper::find(random, turn, Kind::Find),
+        "not found" => tamper::not_found(random, turn, Kind::Find),
+        "withdraw" => tamper::find(random, turn, Kind::Withdraw),
+        "not withdrawn" => tamper::not_found(random, turn, Kind::Withdraw),
+        "withdraw range" => tamper::withdraw_range(random, turn),
+        "withdraw order" => tamper::withdraw_order(random, turn),
+        "tidy" => tamper::tidy(random, turn),
+        "gaps" => tamper::gaps(random, turn),
+        "list claim" => tamper::list_claim(random, turn),
+        "short list" => tamper::short_list(random, turn),
+        "edges" => tamper::edges(random, turn),
         "totals" => tamper::totals(random, turn),
         "order" => tamper::order(random, turn),
         "again" => tamper::again(random, turn),
         "net" => tamper::net_off(random, turn),
         "range" => tamper::range(random, turn),
         "held" => tamper::held(random, turn),
+        "refilled" => grow::refilled(random),
         "apart" => apart::pair(random).histories[0].clone(),
         _ => grow::grown(random),
     }
+}
+
+/// The long history of this index in the run of this seed: so many calls on an empty book.
+pub fn long(seed: u64, index: u64, calls: usize) -> History {
+    grow::long(&mut random_of(seed ^ 1 << 40, index), calls)
 }

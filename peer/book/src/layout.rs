@@ -1,4 +1,5 @@
-//! The table that holds a book, number by number, as the C header has it, and the numbers of the answers (points 34 to 37, 39 and 40).
+//! The table that holds a book and the list of the file numbers taken, number by number, as the C header has them, and the numbers of the answers
+//! (points 34 to 37 and 39 to 41).
 
 pub const ACCEPTED: u64 = 0;
 pub const ROOM: u64 = 2;
@@ -14,19 +15,23 @@ pub const OWNERS: [u64; 2] = [1, 2];
 /// A net position may lie as far as this on either side of 0, in cents (request 9).
 pub const BOUND: i128 = 1_000_000_000_000_000_000;
 
-/// The head: [0] rows claimed, once for both; then for each owner the last entry number given, six running totals and the net position.
+/// The head: [0] rows claimed, gaps among them, once for both; then for each owner the last entry number given, six running totals and the net position.
 pub const HEAD: usize = 17;
 pub const CLAIMED: usize = 0;
 
 /// How many numbers of the head are an owner's.
 const PART: usize = 8;
 
-/// A row: [0] owner, [1] entry number, [2] file number, [3] to [8] the letter's own figures.
+/// A row: [0] owner (neither 1 nor 2 in a gap, point 41), [1] entry number, [2] file number, [3] to [8] the letter's own figures.
 pub const WIDTH: usize = 9;
 pub const OWNER: usize = 0;
 pub const NUMBER: usize = 1;
 pub const FILE_NUMBER: usize = 2;
 pub const FIGURES: usize = 3;
+
+/// A place of the list of file numbers taken: [0] owner, [1] file number. Before the first place stand the places claimed (point 41).
+pub const PLACE: usize = 2;
+pub const PLACES: usize = 1;
 
 /// A letter's own bundles, debit items, credit items, views, debit cents, credit cents.
 pub type Figures = [u64; 6];
@@ -98,6 +103,26 @@ pub fn row_start(row: usize) -> usize {
 /// The length of a table of so many rows.
 pub fn table_of(rows: usize) -> usize {
     row_start(rows)
+}
+
+/// The whole places of a list of so many numbers; one without its first number has none.
+pub fn places_there(length: usize) -> usize {
+    length.saturating_sub(PLACES) / PLACE
+}
+
+/// Where a place of the list begins, counted from 0.
+pub fn place_start(place: usize) -> usize {
+    PLACES + PLACE * place
+}
+
+/// The length of a list of so many places.
+pub fn list_of(places: usize) -> usize {
+    place_start(places)
+}
+
+/// The places that a list claims; one without its first number claims none.
+pub fn places_claimed(taken: &[u64]) -> u64 {
+    taken.first().copied().unwrap_or(0)
 }
 
 /// A number of the head; one that a short table lacks counts as 0 (point 34).

@@ -6,17 +6,19 @@ use peer_reader::charset::Set;
 use peer_reader::descent::Row;
 
 use crate::apart::{self, Pair, APART};
-use crate::call::{Call, History, Kind, Outcome, KINDS};
+use crate::call::{Call, History, Kind, Outcome, KINDS, NO_OWNER, WITH_LIST};
 use crate::files::{read_number, short_tables, REFUSALS};
-use crate::later::{self, GROWN, LATER};
+use crate::later::{self, GROWN, LATER, WITHDRAWN};
 use crate::layout::{
-    head, in_range, is_judged, is_owner, last, net, net_of, other, row_start, rows_there, total, Figures, ACCEPTED,
-    BOOK, BOUND, CLAIMED, CREDIT_CENTS, DEBIT_CENTS, DUPLICATE, FIGURES, FILE_NUMBER, FULL, HEAD, NOENTRY, NUMBER,
-    OWNER, OWNERS, RANGE, ROOM, SIX, WIDTH,
+    head, in_range, is_judged, is_owner, last, net, net_of, other, place_start, places_claimed, places_there,
+    row_start, rows_there, total, Figures, ACCEPTED, BOOK, BOUND, CLAIMED, CREDIT_CENTS, DEBIT_CENTS, DUPLICATE,
+    FIGURES, FILE_NUMBER, FULL, HEAD, NOENTRY, NUMBER, OWNER, OWNERS, PLACE, RANGE, ROOM, SIX, WIDTH,
 };
 use crate::paper::{sums, Paper};
 use crate::put::Seen;
-use crate::tamper::{ordered_pairs, CAUSES, CAUSE_LAST, CAUSE_ROWS, HELD, OWNER_CHANGES, SHORT};
+use crate::tamper::{
+    ordered_pairs, CAUSES, CAUSE_LAST, CAUSE_PLACES, CAUSE_ROWS, HELD, OWNER_CHANGES, SHORT, SHORT_LIST,
+};
 
 /// Where a number stands in a table.
 #[derive(Clone, Copy, Debug, PartialEq, Eq, PartialOrd, Ord)]
@@ -53,6 +55,10 @@ pub enum Point {
     Short(Kind, usize, bool),
     /// BOOK for the last number of a table that ends within the head.
     ShortEnd(Kind, usize),
+    /// BOOK for more places claimed in the list than there are.
+    ListClaim(Kind, &'static str),
+    /// A list of so many numbers, and whether the answer was BOOK.
+    ShortList(Kind, usize, bool),
     /// FULL for this cause alone, or just not.
     Full(u64, usize, &'static str),
     /// Entered, though the other owner could not have: for a running total, or the last number.
@@ -66,6 +72,17 @@ pub enum Point {
     Order(u64, u64),
     Found(&'static str),
     NotFound(&'static str),
+    /// Withdrawn, by where the row stands and which others have the number; and by what it takes with it.
+    Withdrawn(&'static str),
+    Withdrawal(&'static str),
+    NotWithdrawn(&'static str),
+    /// RANGE to a withdrawal of an owner, or just not, above or below.
+    WithdrawRange(u64, bool, &'static str),
+    /// The first refusal of a withdrawal was given, and the second was due too.
+    WithdrawOrder(&'static str),
+    Tidied(&'static str),
+    /// Where the rows stand into which a file was entered, or was not.
+    Gap(&'static str),
     Totals(&'static str),
     /// A running total of an owner of 2^64 - 1.
     Brim(u64, usize),
@@ -181,21 +198,55 @@ pub fn named<const COUNT: usize>(
     names.into_iter().zip(holds).filter(|(_, holds)| *holds).map(|(name, _)| point(name)).collect()
 }
 
-/// A table as it is looked at here: what it claims, and the rows that are both claimed and there.
+/// Table and list as they are looked at here: what they claim, and the rows and places that are both claimed and there.
 struct Looked<'a> {
     book: &'a [u64],
     claimed: u64,
     there: usize,
     rows: Vec<&'a [u64]>,
     spare: Vec<&'a [u64]>,
+    taken: &'a [u64],
+    places: Vec<&'a [u64]>,
+    free_places: Vec<&'a [u64]>,
 }
 
-impl Looked<'_> {
-    fn at(book: &[u64]) -> Looked<'_> {
+impl<'a> Looked<'a> {
+    fn at(book: &'a [u64], taken: &'a [u64]) -> Looked<'a> {
         let (claimed, there) = (head(book, CLAIMED), rows_there(book.len()));
         let row = |row| &book[row_start(row)..row_start(row) + WIDTH];
         let both = claimed.min(there as u64) as usize;
-        Looked { book, claimed, there, rows: (0..both).map(row).collect(), spare: (both..there).map(row).collect() }
+        let place = |place| &taken[place_start(place)..place_start(place) + PLACE];
+        let all_places = places_there(taken.len());
+        let places = places_claimed(taken).min(all_places as u64) as usize;
+        Looked {
+            book,
+            claimed,
+            there,
+            rows: (0..both).map(row).collect(),
+            spare: (both..there).map(row).collect(),
+            taken,
+            places: (0..places).map(place).collect(),
+            free_places: (places..all_places).map(place).collect(),
+        }
+    }
+
+    fn list_claims_too_much(&self) -> bool {
+        places_claimed(self.taken) > places_there(self.taken.len()) as u64
+    }
+
+    /// Not BOOK in a call that is lent both.
+    fn both_sound(&self) -> bool {
+        self.is_book() && !self.list_claims_too_much()
+    }
+
+    /// The claimed places that have a file number for an owner.
+    fn taken_by(&self, owner: u64, file_number: u64) -> Vec<usize> {
+        (0..self.places.len()).filter(|place| self.places[*place] == [owner, file_number]).collect()
+    }
+
+    /// The rows that a file of so many letters gets: the lowest gaps, then those behind.
+    fn rows_for(&self, letters: usize) -> Vec<&'a [u64]> {
+        self.strays().into_iter().chain(self.spare.iter().copied()).take(letters).collect()
     }
 
     fn head(&self, place: usize) -> u64 {
@@ -207,12 +258,12 @@ impl Looked<'_> {
     }
 
     /// An owner's rows, or those that have a number for an owner that is none.
-    fn rows_of(&self, owner: u64) -> Vec<&[u64]> {
+    fn rows_of(&self, owner: u64) -> Vec<&'a [u64]> {
         self.rows.iter().filter(|row| row[OWNER] == owner).copied().collect()
     }
 
-    /// The rows of neither owner.
-    fn strays(&self) -> Vec<&[u64]> {
+    /// The rows of neither owner, which are gaps.
+    fn strays(&self) -> Vec<&'a [u64]> {
         self.rows.iter().filter(|row| !is_owner(row[OWNER])).copied().collect()
     }
 
@@ -240,7 +291,7 @@ impl Looked<'_> {
     }
 
     fn free(&self) -> usize {
-        self.there - self.rows.len()
+        self.strays().len() + self.spare.len()
     }
 
     /// The rows of an owner that have this number in this column.
@@ -261,7 +312,7 @@ fn sum_of(rows: &[&[u64]], figure: usize) -> u128 {
 }
 
 fn shown(seen: &Seen) -> Vec<Point> {
-    let look = Looked::at(seen.before);
+    let look = Looked::at(seen.before, seen.taken);
     let (kind, owner) = (seen.call().kind(), seen.call().owner());
     let number = seen.outcome.returned;
     let mut points = vec![Point::Answer(kind, number, Caller::of(owner))];
@@ -271,11 +322,15 @@ fn shown(seen: &Seen) -> Vec<Point> {
         Call::Enter { paper, file_number, rows, .. } => {
             points.extend(entering(&look, &seen.history.papers[paper], file_number, owner, rows, number));
         }
-        Call::Find { entry_number, .. } if number == ACCEPTED => points.extend(found(&look, owner, entry_number)),
+        Call::Find { entry_number, .. } if number == ACCEPTED => {
+            points.extend(found(&look, owner, entry_number, Point::Found));
+        }
         Call::Find { entry_number, .. } if number == NOENTRY && is_owner(owner) => {
-            points.extend(not_found(&look, owner, entry_number));
+            points.extend(not_found(&look, owner, entry_number, Point::NotFound));
         }
         Call::Totals { .. } if number == ACCEPTED => points.extend(totals(&look, owner)),
+        Call::Withdraw { entry_number, .. } => points.extend(withdrawing(&look, owner, entry_number, number)),
+        Call::Tidy if number == ACCEPTED => points.extend(tidied(&look)),
         _ => {}
     }
     points
@@ -306,11 +361,11 @@ const SUMS: [&str; 10] = [
 /// What a table shows that is no book, or short.
 fn book_points(kind: Kind, caller: u64, look: &Looked, is_book_fault: bool) -> Vec<Point> {
     let length = look.book.len();
-    let mut points = Vec::new();
+    let mut points = list_points(kind, look, is_book_fault);
     if length < SHORT {
-        points.push(Point::Short(kind, length, is_book_fault));
+        points.push(Point::Short(kind, length, !look.is_book()));
     }
-    if !is_book_fault {
+    if look.is_book() {
         return points;
     }
     if look.claims_too_much() {
@@ -335,6 +390,40 @@ fn book_points(kind: Kind, caller: u64, look: &Looked, is_book_fault: bool) -> V
     let others_zero = (0..length - 1).filter(|place| is_judged(*place)).all(|place| look.book[place] == 0);
     if length <= HEAD && is_judged(length - 1) && others_zero {
         points.push(Point::ShortEnd(kind, length - 1));
+    }
+    points
+}
+
+const LIST_CLAIMS: [&str; 6] = [
+    "one more than there are",
+    "twice it seems to fit",
+    "its low half fits",
+    "2^64 - 1",
+    "one in a list of none",
+    "in its first number alone",
+];
+
+/// What a list shows that claims too much, or is short.
+fn list_points(kind: Kind, look: &Looked, is_book_fault: bool) -> Vec<Point> {
+    let (length, there, claimed) =
+        (look.taken.len(), places_there(look.taken.len()) as u64, places_claimed(look.taken));
+    let mut points = Vec::new();
+    if !WITH_LIST.contains(&kind) || !look.is_book() {
+        return points;
+    }
+    if length < SHORT_LIST {
+        points.push(Point::ShortList(kind, length, is_book_fault));
+    }
+    let holds = [
+        there > 0 && claimed == there + 1,
+        claimed < u64::MAX && claimed >= 1 << 63 && claimed.wrapping_mul(2) <= length as u64,
+        claimed == (1 << 32) + claimed % (1 << 32) && claimed % (1 << 32) <= there,
+        claimed == u64::MAX,
+        length == 2 && claimed == 1,
+        length == 1 && claimed > 0,
+    ];
+    if look.list_claims_too_much() {
+        points.extend(named(LIST_CLAIMS, holds, |name| Point::ListClaim(kind, name)));
     }
     points
 }
@@ -443,7 +532,7 @@ fn changed(seen: &Seen, kind: Kind) -> Option<Point> {
 
 /// What the first call on a table shows of which one row became another's. Whose it was is told by the totals: theirs that miss its figures.
 fn owner_changed(seen: &Seen, kind: Kind, row: &[u64]) -> Option<Point> {
-    let look = Looked::at(seen.before);
+    let look = Looked::at(seen.before, seen.taken);
     let misses = |owner: &u64| look.off().iter().any(|off| off.0 == *owner);
     let from = OWNERS.into_iter().filter(misses).find(|owner| *owner != row[OWNER]).map_or(NOBODY, Caller::Owner);
     let figures = row[FIGURES..].iter().any(|figure| *figure > 0);
@@ -456,13 +545,13 @@ fn entering(look: &Looked, paper: &Paper, file_number: u64, owner: u64, rows: us
     let read = read_number(paper, rows);
     let causes = if is_owner(owner) { causes_of_full(look, paper, owner) } else { Vec::new() };
     let mut due = vec![read];
-    due.extend((!look.is_book()).then_some(BOOK));
+    due.extend((!look.both_sound()).then_some(BOOK));
     due.extend((!is_owner(owner)).then_some(NOENTRY));
-    due.extend((!look.with(owner, FILE_NUMBER, file_number).is_empty()).then_some(DUPLICATE));
+    due.extend((!look.taken_by(owner, file_number).is_empty()).then_some(DUPLICATE));
     let whose = if is_owner(owner) { vec![owner] } else { OWNERS.to_vec() };
     let beyond = |owner: u64| !in_range(look.net(owner) + net_of(paper.sums()));
     due.extend(whose.into_iter().all(beyond).then_some(RANGE));
-    due.extend((!causes.is_empty() || look.free() == 0).then_some(FULL));
+    due.extend((!causes.is_empty() || look.free() == 0 || look.free_places.is_empty()).then_some(FULL));
     let others = due.into_iter().filter(|other| *other != number && *other != ACCEPTED);
     let mut points: Vec<Point> = others.map(|other| Point::Order(number, other)).collect();
     match number {
@@ -520,31 +609,39 @@ fn room(paper: &Paper, rows: usize) -> Vec<Point> {
     named(ROOMS, short_tables(paper).map(|length| length == rows), Point::Room)
 }
 
-const DUPLICATES: [&str; 9] = [
-    "first row",
-    "middle row",
-    "last row",
-    "only row",
+const DUPLICATES: [&str; 12] = [
+    "first place",
+    "middle place",
+    "last place",
+    "only place",
     "number 0",
     "number 2^64 - 1",
-    "several rows",
+    "several places",
     "the other owner's too",
     "one of neither's too",
+    "a row of the owner's has it",
+    "no row has it",
+    "in a book without an entry",
 ];
 
 fn duplicate(look: &Looked, owner: u64, file_number: u64) -> Vec<Point> {
-    let having = look.with(owner, FILE_NUMBER, file_number);
-    let only = |name| having.len() == 1 && which(having[0], look.rows.len()) == Some(name);
+    let having = look.taken_by(owner, file_number);
+    let only = |name| having.len() == 1 && which(having[0], look.places.len()) == Some(name);
+    let has = |whose: &dyn Fn(u64) -> bool| look.places.iter().any(|place| whose(place[0]) && place[1] == file_number);
+    let row = |row: &&[u64]| row[FILE_NUMBER] == file_number;
     let holds = [
         only(OF_THREE[0]),
         only(OF_THREE[1]),
         only(OF_THREE[2]),
-        look.rows.len() == 1,
+        look.places.len() == 1,
         file_number == 0,
         file_number == u64::MAX,
         having.len() > 1,
-        !look.with(other(owner), FILE_NUMBER, file_number).is_empty(),
-        look.strays().iter().any(|row| row[FILE_NUMBER] == file_number),
+        has(&|whose| whose == other(owner)),
+        has(&|whose| !is_owner(whose)),
+        look.rows_of(owner).iter().any(row),
+        !look.rows.iter().any(row) && !look.rows_of(owner).is_empty(),
+        look.rows_of(owner).is_empty() && look.rows_of(other(owner)).is_empty(),
     ];
     named(DUPLICATES, holds, Point::Duplicate)
 }
@@ -558,7 +655,12 @@ fn grown_to(look: &Looked, place: usize, more: u128) -> u128 {
 fn measured(look: &Looked, owner: u64, cause: usize, letters: &[Figures]) -> (u128, u128) {
     let most = u128::from(u64::MAX);
     match cause {
-        CAUSE_ROWS => (look.rows.len() as u128 + letters.len() as u128, look.there as u128),
+        CAUSE_ROWS => ((look.there - look.free()) as u128 + letters.len() as u128, look.there as u128),
+        CAUSE_PLACES => {
+            // One for the file, however many letters it has.
+            let all = look.places.len() + look.free_places.len();
+            (look.places.len() as u128 + u128::from(!letters.is_empty()), all as u128)
+        }
         CAUSE_LAST => (grown_to(look, last(owner), letters.len() as u128), most),
         _ => (grown_to(look, total(owner, cause - 1), sums(letters)[cause - 1]), most),
     }
@@ -566,7 +668,7 @@ fn measured(look: &Looked, owner: u64, cause: usize, letters: &[Figures]) -> (u1
 
 /// Every cause of FULL that is due, of an accepted file on a book.
 fn causes_of_full(look: &Looked, paper: &Paper, owner: u64) -> Vec<usize> {
-    if !look.is_book() {
+    if !look.both_sound() {
         return Vec::new();
     }
     let due = |cause: &usize| {
@@ -585,19 +687,71 @@ fn full(look: &Looked, owner: u64, paper: &Paper, causes: &[usize]) -> Vec<Point
     let (before, _) = measured(look, owner, cause, &[]);
     let (but_last, _) = measured(look, owner, cause, &paper.letters[..paper.letters.len() - 1]);
     let holds = [true, would_be == most + 1, paper.letters.len() > 1 && but_last <= most, before == most];
-    named(FULLS, holds, |name| Point::Full(owner, cause, name))
+    let mut points = named(FULLS, holds, |name| Point::Full(owner, cause, name));
+    let gaps = look.strays().len();
+    let though = [
+        cause == CAUSE_ROWS && gaps > 0 && look.spare.is_empty(),
+        cause == CAUSE_ROWS && gaps > 0 && !look.spare.is_empty(),
+        cause == CAUSE_PLACES && gaps >= paper.letters.len(),
+    ];
+    points.extend(named(THOUGH, though, Point::Gap));
+    points
 }
 
-const NO_DUPLICATES: [&str; 9] = [
+const THOUGH: [&str; 3] =
+    ["FULL, too few gaps alone", "FULL, too few gaps and rows behind", "FULL for places, gaps enough"];
+
+const GAPS: [&str; 9] = [
+    "as many gaps as letters, no row behind",
+    "gaps left over",
+    "gaps and rows behind",
+    "no gap",
+    "a gap before the first entry",
+    "a gap between entries",
+    "a gap behind the last entry",
+    "a gap with anything in it",
+    "a gap of zeros",
+];
+
+/// Into which rows a file was entered.
+fn into_gaps(look: &Looked, letters: usize) -> Vec<Point> {
+    let gaps = look.strays();
+    let used = &gaps[..letters.min(gaps.len())];
+    let is_gap = |row: &usize| !is_owner(look.rows[*row][OWNER]);
+    let entries: Vec<usize> = (0..look.rows.len()).filter(|row| !is_gap(row)).collect();
+    let (first, last) = (entries.first().copied().unwrap_or(0), entries.last().copied().unwrap_or(0));
+    let mut at = (0..look.rows.len()).filter(is_gap).take(letters);
+    let zeros = |row: &&&[u64]| row.iter().all(|number| *number == 0);
+    let some = !entries.is_empty();
+    let between = at.clone().any(|row| (first..last).contains(&row));
+    let behind = at.clone().any(|row| some && row > last);
+    let holds = [
+        gaps.len() == letters && look.spare.is_empty(),
+        gaps.len() > letters,
+        !gaps.is_empty() && gaps.len() < letters,
+        gaps.is_empty(),
+        at.any(|row| some && row < first),
+        between,
+        behind,
+        used.iter().any(|row| row.iter().all(|number| *number != 0)),
+        used.iter().filter(zeros).count() > 0,
+    ];
+    named(GAPS, holds, Point::Gap)
+}
+
+const NO_DUPLICATES: [&str; 12] = [
     "behind those claimed",
     "zeros behind",
     "the low half",
     "the high half",
     "an entry number",
-    "a figure",
+    "a row of the owner's has it",
+    "a row behind those claimed has it",
     "owner 2's, entered for owner 1",
     "owner 1's, entered for owner 2",
     "one of neither's",
+    "a place turned round",
+    "the places claimed",
 ];
 
 const ENTERED: [&str; 25] = [
@@ -618,7 +772,7 @@ const ENTERED: [&str; 25] = [
     "rows to spare",
     "into zeros",
     "over something",
-    "behind a row of neither",
+    "beside a row of neither",
     "behind the other owner's alone",
     "with a number that the other has",
     "a net position below 0",
@@ -633,7 +787,7 @@ fn entered(look: &Looked, paper: &Paper, file_number: u64, owner: u64, rows: usi
     let first = look.head(last(owner)) + 1;
     let others = look.rows_of(other(owner));
     let net_after = look.net(owner) + net_of(paper.sums());
-    let taken = &look.spare[..letters.len()];
+    let taken = look.rows_for(letters.len());
     let enough = 7 * paper.reading.rows.len();
     let ebcdic = Set::of(&paper.bytes) == Set::Ebcdic;
     let holds = [
@@ -655,7 +809,7 @@ fn entered(look: &Looked, paper: &Paper, file_number: u64, owner: u64, rows: usi
         taken.iter().all(|row| row.iter().all(|number| *number == 0)),
         taken.iter().all(|row| row.iter().any(|number| *number != 0)),
         !look.strays().is_empty(),
-        !others.is_empty() && others.len() == look.rows.len(),
+        !others.is_empty() && look.rows_of(owner).is_empty(),
         others.iter().any(|row| row[NUMBER] == first),
         net_after < 0,
         net_after > 0,
@@ -665,6 +819,7 @@ fn entered(look: &Looked, paper: &Paper, file_number: u64, owner: u64, rows: usi
     ];
     let mut points = named(ENTERED, holds, Point::Entered);
     points.extend(no_duplicate(look, owner, file_number));
+    points.extend(into_gaps(look, letters.len()));
     points.extend(within_range(look, owner, letters));
     for figure in 0..SIX {
         let mut figures: Vec<u64> = letters.iter().map(|letter| letter[figure]).filter(|number| *number > 0).collect();
@@ -692,21 +847,24 @@ fn credit(paper: &Paper, ebcdic: bool, pair: &[Row]) -> Option<Point> {
 
 fn no_duplicate(look: &Looked, owner: u64, file_number: u64) -> Vec<Point> {
     let (low, high) = (file_number % (1 << 32), file_number >> 32);
-    let own = look.rows_of(owner);
-    let claimed = |holds: &dyn Fn(&[u64]) -> bool| own.iter().any(|row| holds(row));
-    let behind =
-        look.spare.iter().any(|row| row[FILE_NUMBER] == file_number && (row[OWNER] == owner || file_number == 0));
-    let others = !look.with(other(owner), FILE_NUMBER, file_number).is_empty();
+    let claimed = |holds: &dyn Fn(&[u64]) -> bool| look.places.iter().any(|place| holds(place));
+    let own = |holds: &dyn Fn(u64) -> bool| claimed(&|place| place[0] == owner && holds(place[1]));
+    let behind = |owner: u64| look.free_places.iter().any(|place| **place == [owner, file_number]);
+    let others = !look.taken_by(other(owner), file_number).is_empty();
+    let row = |row: &&[u64]| row[OWNER] == owner && row[FILE_NUMBER] == file_number;
     let holds = [
-        file_number > 0 && behind,
-        file_number == 0 && behind,
-        claimed(&|row| row[FILE_NUMBER] % (1 << 32) == low),
-        high > 0 && claimed(&|row| row[FILE_NUMBER] >> 32 == high),
-        claimed(&|row| row[NUMBER] == file_number),
-        file_number > 0 && claimed(&|row| row[FIGURES..].contains(&file_number)),
+        behind(owner),
+        file_number == 0 && behind(0),
+        own(&|number| number % (1 << 32) == low),
+        high > 0 && own(&|number| number >> 32 == high),
+        look.rows_of(owner).iter().any(|row| row[NUMBER] == file_number),
+        look.rows.iter().any(row),
+        look.spare.iter().any(row),
         owner == OWNERS[0] && others,
         owner == OWNERS[1] && others,
-        look.strays().iter().any(|row| row[FILE_NUMBER] == file_number),
+        claimed(&|place| !is_owner(place[0]) && place[1] == file_number),
+        claimed(&|place| place[0] == file_number && place[1] == owner),
+        file_number == places_claimed(look.taken),
     ];
     named(NO_DUPLICATES, holds, Point::NoDuplicate)
 }
@@ -727,7 +885,7 @@ const FOUND: [&str; 13] = [
     "before one of the other's",
 ];
 
-fn found(look: &Looked, owner: u64, entry_number: u64) -> Vec<Point> {
+fn found(look: &Looked, owner: u64, entry_number: u64, point: impl Fn(&'static str) -> Point) -> Vec<Point> {
     let having = look.with(owner, NUMBER, entry_number);
     let others = look.with(other(owner), NUMBER, entry_number);
     let strays = look.rows[..having[0]].iter().filter(|row| !is_owner(row[OWNER]));
@@ -749,7 +907,7 @@ fn found(look: &Looked, owner: u64, entry_number: u64) -> Vec<Point> {
         strays.into_iter().any(|row| row[NUMBER] == entry_number),
         others.iter().any(|row| *row > having[0]),
     ];
-    named(FOUND, holds, Point::Found)
+    named(FOUND, holds, point)
 }
 
 const NOT_FOUND: [&str; 12] = [
@@ -767,7 +925,7 @@ const NOT_FOUND: [&str; 12] = [
     "no entry of the owner's in a book of the other's",
 ];
 
-fn not_found(look: &Looked, owner: u64, entry_number: u64) -> Vec<Point> {
+fn not_found(look: &Looked, owner: u64, entry_number: u64, point: impl Fn(&'static str) -> Point) -> Vec<Point> {
     let (low, high) = (entry_number % (1 << 32), entry_number >> 32);
     let own = look.rows_of(owner);
     let claimed = |holds: &dyn Fn(&[u64]) -> bool| own.iter().any(|row| holds(row));
@@ -787,7 +945,179 @@ fn not_found(look: &Looked, owner: u64, entry_number: u64) -> Vec<Point> {
         look.strays().iter().any(|row| row[NUMBER] == entry_number),
         own.is_empty() && others,
     ];
-    named(NOT_FOUND, holds, Point::NotFound)
+    named(NOT_FOUND, holds, point)
+}
+
+/// What a withdrawal shows, by everything that is due.
+fn withdrawing(look: &Looked, owner: u64, entry_number: u64, number: u64) -> Vec<Point> {
+    let mut points = withdraw_order(look, owner, entry_number, number);
+    match number {
+        ACCEPTED => {
+            points.extend(found(look, owner, entry_number, Point::Withdrawn));
+            points.extend(withdrawal(look, owner, entry_number));
+        }
+        NOENTRY if is_owner(owner) => points.extend(not_found(look, owner, entry_number, Point::NotWithdrawn)),
+        _ => {}
+    }
+    if number == ACCEPTED || number == RANGE {
+        points.extend(withdraw_range(look, owner, entry_number, number == RANGE));
+    }
+    points
+}
+
+const WITHDRAWALS: [&str; 11] = [
+    "a row with nothing in it",
+    "a file number that another row has",
+    "a file number that no place has",
+    "a running total of 2^64 - 1",
+    "a net position from above 0 to below",
+    "a net position from below 0 to above",
+    "the owner's only entry",
+    "beside a gap before it",
+    "beside a gap behind it",
+    "the last number given",
+    "with no free place in the list",
+];
+
+fn withdrawal(look: &Looked, owner: u64, entry_number: u64) -> Vec<Point> {
+    let at = look.with(owner, NUMBER, entry_number)[0];
+    let row = look.rows[at];
+    let after = look.net(owner) - net_in(&[row]);
+    let gap = |rows: &[&[u64]]| rows.iter().any(|row| !is_owner(row[OWNER]));
+    let holds = [
+        row[FIGURES..].iter().all(|figure| *figure == 0),
+        look.with(owner, FILE_NUMBER, row[FILE_NUMBER]).len() > 1,
+        look.taken_by(owner, row[FILE_NUMBER]).is_empty(),
+        (0..SIX).any(|figure| look.head(total(owner, figure)) == u64::MAX && row[FIGURES + figure] > 0),
+        look.net(owner) > 0 && after < 0,
+        look.net(owner) < 0 && after > 0,
+        look.rows_of(owner).len() == 1,
+        gap(&look.rows[..at]),
+        gap(&look.rows[at + 1..]),
+        look.head(last(owner)) == entry_number,
+        look.free_places.is_empty(),
+    ];
+    named(WITHDRAWALS, holds, Point::Withdrawal)
+}
+
+const WITHDRAW_OUT: [&str; 5] = [
+    "by a cent",
+    "a cent short of back",
+    "from beyond by nothing",
+    "from the end of an i64",
+    "to where 64 bits leave something in range",
+];
+const WITHDRAW_IN: [&str; 3] = ["at the bound", "back to the bound", "though the other owner is beyond"];
+
+/// What a withdrawal shows of the range that it keeps, or would not keep.
+fn withdraw_range(look: &Looked, owner: u64, entry_number: u64, out: bool) -> Vec<Point> {
+    let row = look.rows[look.with(owner, NUMBER, entry_number)[0]];
+    let (before, own) = (look.net(owner), net_in(&[row]));
+    let after = before - own;
+    let ends = [i128::from(i64::MAX), i128::from(i64::MIN)];
+    let beyond = look.net(other(owner));
+    let above = if out || in_range(beyond) { after > 0 } else { beyond > 0 };
+    let point = |name| Point::WithdrawRange(owner, above, name);
+    let (by_a_cent, at_the_bound) = (after.abs() == BOUND + 1, after.abs() == BOUND);
+    let outward = [
+        by_a_cent && in_range(before),
+        by_a_cent && !in_range(before) && own != 0,
+        !in_range(before) && own == 0,
+        ends.contains(&before) && !ends.contains(&after) && (after > ends[0] || after < ends[1]),
+        in_range(i128::from(after as i64)),
+    ];
+    let inward = [at_the_bound && in_range(before) && own != 0, at_the_bound && !in_range(before), !in_range(beyond)];
+    match out {
+        true => named(WITHDRAW_OUT, outward, point),
+        false => named(WITHDRAW_IN, inward, point),
+    }
+}
+
+const WITHDRAW_ORDER: [&str; 8] = [
+    "BOOK for the table before the owner",
+    "BOOK for the table before the number",
+    "BOOK for the table before RANGE",
+    "BOOK for the list before the owner",
+    "BOOK for the list before the number",
+    "BOOK for the list before RANGE",
+    "the owner before RANGE",
+    "the number before RANGE",
+];
+
+fn withdraw_order(look: &Looked, owner: u64, entry_number: u64, number: u64) -> Vec<Point> {
+    let (no_book, no_list) = (!look.is_book(), look.list_claims_too_much());
+    let nobody = !is_owner(owner);
+    let having = look.with(owner, NUMBER, entry_number);
+    let absent = !nobody && having.is_empty();
+    let out = |owner: u64| !in_range(look.net(owner));
+    let range = match having.first() {
+        Some(row) if !nobody => !in_range(look.net(owner) - net_in(&[look.rows[*row]])),
+        _ if nobody => OWNERS.into_iter().all(out),
+        _ => out(owner),
+    };
+    let (table, list) = (number == BOOK && !no_list, number == BOOK && !no_book);
+    let holds = [
+        table && nobody,
+        table && absent,
+        table && range && !nobody && !absent,
+        list && nobody,
+        list && absent,
+        list && range && !nobody && !absent,
+        number == NOENTRY && nobody && range,
+        number == NOENTRY && absent && range,
+    ];
+    named(WITHDRAW_ORDER, holds, Point::WithdrawOrder)
+}
+
+const TIDIED: [&str; 17] = [
+    "a table without a whole row",
+    "no row claimed",
+    "no gap",
+    "gaps alone",
+    "a gap first",
+    "a gap in the middle",
+    "a gap last",
+    "gaps side by side",
+    "gaps apart",
+    "a gap with anything in it",
+    "a gap of zeros",
+    "something behind the rows claimed",
+    "entries of both owners",
+    "a number that stands twice",
+    "entries that are not in the order of their numbers",
+    "numbers behind the last row",
+    "more gaps than entries",
+];
+
+fn tidied(look: &Looked) -> Vec<Point> {
+    let is_gap = |row: &&[u64]| !is_owner(row[OWNER]);
+    let gaps: Vec<usize> = (0..look.rows.len()).filter(|row| is_gap(&look.rows[*row])).collect();
+    let at = |name| gaps.iter().any(|row| which(*row, look.rows.len()) == Some(name));
+    let some = |rows: &[&[u64]]| rows.iter().any(|row| row.iter().any(|number| *number > 0));
+    let entries = look.rows.len() - gaps.len();
+    let numbers = |owner| look.rows_of(owner).iter().map(|row| row[NUMBER]).collect::<Vec<u64>>();
+    let twice = |owner| numbers(owner).len() > numbers(owner).into_iter().collect::<BTreeSet<u64>>().len();
+    let [one, two] = OWNERS.map(|owner| look.rows_of(owner).len());
+    let holds = [
+        look.there == 0,
+        look.there > 0 && look.rows.is_empty(),
+        entries > 0 && gaps.is_empty(),
+        !gaps.is_empty() && entries == 0,
+        at(OF_THREE[0]),
+        at(OF_THREE[1]),
+        at(OF_THREE[2]),
+        gaps.windows(2).any(|two| two[0] + 1 == two[1]),
+        gaps.windows(2).any(|two| two[0] + 1 < two[1]),
+        gaps.iter().any(|row| look.rows[*row].iter().all(|number| *number > 0)),
+        gaps.iter().any(|row| look.rows[*row].iter().all(|number| *number == 0)),
+        !gaps.is_empty() && some(&look.spare),
+        !gaps.is_empty() && one > 0 && two > 0,
+        !gaps.is_empty() && OWNERS.into_iter().any(twice),
+        !gaps.is_empty() && OWNERS.into_iter().any(|owner| !numbers(owner).is_sorted()),
+        !gaps.is_empty() && look.book.len() > row_start(look.there),
+        entries > 0 && gaps.len() > entries,
+    ];
+    named(TIDIED, holds, Point::Tidied)
 }
 
 const TOTALS_OF: [&str; 5] = ["no row", "one row", "several rows", "beside the other's", "beside rows of neither"];
@@ -809,12 +1139,16 @@ fn answers(kind: Kind) -> Vec<u64> {
     match kind {
         Kind::Enter => REFUSALS.into_iter().chain([ACCEPTED, ROOM, DUPLICATE, RANGE, FULL, BOOK]).collect(),
         Kind::Find => vec![ACCEPTED, NOENTRY, BOOK],
-        Kind::Totals => vec![ACCEPTED, BOOK],
+        Kind::Totals | Kind::Tidy => vec![ACCEPTED, BOOK],
+        Kind::Withdraw => vec![ACCEPTED, NOENTRY, RANGE, BOOK],
     }
 }
 
 /// Every answer of a kind of call, to either owner and to numbers that are none.
 fn demanded_answers(kind: Kind) -> Vec<Point> {
+    if kind == Kind::Tidy {
+        return answers(kind).into_iter().map(|number| Point::Answer(kind, number, Caller::of(NO_OWNER))).collect();
+    }
     let to = |caller: Caller| match caller {
         Caller::Owner(_) => answers(kind),
         Caller::Nobody(_) => vec![NOENTRY, BOOK],
@@ -844,8 +1178,9 @@ fn demanded_of_tables(kind: Kind) -> Vec<Point> {
     for owner in OWNERS {
         (0..SIX).for_each(|figure| points.extend(SUMS.map(|how| Point::Sum(kind, owner, figure, how))));
         points.extend(NETS.map(|how| Point::Net(kind, owner, how)));
-        let callers = [Caller::Owner(OWNERS[0]), Caller::Owner(OWNERS[1]), NOBODY];
-        points.extend(callers.map(|caller| Point::Whose(kind, owner, caller)));
+        let callers = [NOBODY, Caller::Owner(OWNERS[0]), Caller::Owner(OWNERS[1])];
+        let callers = &callers[..if kind == Kind::Tidy { 1 } else { callers.len() }];
+        points.extend(callers.iter().map(|caller| Point::Whose(kind, owner, *caller)));
     }
     points.extend(demanded_owner_changes(kind));
     points.extend((0..HEAD).map(|place| Point::Changed(kind, Place::Head(place), is_judged(place))));
@@ -864,11 +1199,15 @@ fn demanded_of_tables(kind: Kind) -> Vec<Point> {
 pub fn demanded() -> Vec<Point> {
     let mut points: Vec<Point> = KINDS.into_iter().flat_map(demanded_of_tables).collect();
     for (owner, cause) in OWNERS.into_iter().flat_map(|owner| (0..CAUSES).map(move |cause| (owner, cause))) {
-        points.extend(FULLS.into_iter().chain([JUST_NOT]).map(|edge| Point::Full(owner, cause, edge)));
-        points.extend((cause != CAUSE_ROWS).then_some(Point::FullForTheOther(owner, cause)));
+        // A file has one place however many letters it has.
+        let edges = FULLS.into_iter().chain([JUST_NOT]).filter(|edge| cause != CAUSE_PLACES || *edge != FULLS[2]);
+        points.extend(edges.map(|edge| Point::Full(owner, cause, edge)));
+        points.extend((![CAUSE_ROWS, CAUSE_PLACES].contains(&cause)).then_some(Point::FullForTheOther(owner, cause)));
     }
     for (owner, above) in OWNERS.into_iter().flat_map(|owner| [(owner, true), (owner, false)]) {
         points.extend(OUT_OF_RANGE.into_iter().chain(IN_RANGE).map(|name| Point::Range(owner, above, name)));
+        let withdrawals = WITHDRAW_OUT.into_iter().chain(WITHDRAW_IN);
+        points.extend(withdrawals.map(|name| Point::WithdrawRange(owner, above, name)));
     }
     points.extend(OWNERS.into_iter().flat_map(|owner| HELD.map(|net| Point::Held(owner, net))));
     points.extend(DUPLICATES.map(Point::Duplicate));
@@ -876,6 +1215,17 @@ pub fn demanded() -> Vec<Point> {
     points.extend(ordered_pairs().into_iter().map(|(first, second)| Point::Order(first, second)));
     points.extend(FOUND.map(Point::Found));
     points.extend(NOT_FOUND.map(Point::NotFound));
+    points.extend(FOUND.map(Point::Withdrawn));
+    points.extend(WITHDRAWALS.map(Point::Withdrawal));
+    points.extend(NOT_FOUND.map(Point::NotWithdrawn));
+    points.extend(WITHDRAW_ORDER.map(Point::WithdrawOrder));
+    points.extend(TIDIED.map(Point::Tidied));
+    points.extend(GAPS.into_iter().chain(THOUGH).map(Point::Gap));
+    for kind in WITH_LIST {
+        points.extend(LIST_CLAIMS.map(|how| Point::ListClaim(kind, how)));
+        points.extend((0..SHORT_LIST).map(|length| Point::ShortList(kind, length, false)));
+        points.extend((1..SHORT_LIST).map(|length| Point::ShortList(kind, length, true)));
+    }
     points.extend(TOTALS_OF.map(Point::Totals));
     points.extend(OWNERS.into_iter().flat_map(|owner| (0..SIX).map(move |figure| Point::Brim(owner, figure))));
     points.extend(ENTERED.map(Point::Entered));
@@ -885,7 +1235,7 @@ pub fn demanded() -> Vec<Point> {
         points.push(Point::Credit(bit(0), bit(1), bit(2), bit(3)));
     }
     points.extend(ROOMS.map(Point::Room));
-    points.extend(LATER.map(Point::Later));
+    points.extend(LATER.into_iter().chain(WITHDRAWN).map(Point::Later));
     points.extend(GROWN.map(Point::Grown));
     points.extend(APART.map(Point::Apart));
     points

@@ -1,5 +1,5 @@
-//! A history put to both sides, call by call: the number that comes back, the answer, every number of the book and of the row table, and a
-//! guard on either side of both.
+//! A history put to both sides, call by call: the number that comes back, the answer, every number of the book, of the list of file
+//! numbers taken and of the row table, and a guard on either side of each.
 
 use peer_reader::random::Random;
 
@@ -15,6 +15,8 @@ pub struct Seen<'a> {
     pub at: usize,
     /// The table before the call.
     pub before: &'a [u64],
+    /// The list of file numbers taken before the call.
+    pub taken: &'a [u64],
     pub outcome: &'a Outcome,
 }
 
@@ -24,11 +26,12 @@ impl Seen<'_> {
     }
 }
 
-/// The first call on which the sides differ, the table that it was put to, and how they differ.
+/// The first call on which the sides differ, the table and the list that it was put to, and how they differ.
 #[derive(Clone, Debug)]
 pub struct Broken {
     pub at: usize,
     pub book: Vec<u64>,
+    pub taken: Vec<u64>,
     pub difference: String,
 }
 
@@ -39,13 +42,16 @@ pub fn put(
     random: &mut Random,
     mut show: impl FnMut(&Seen),
 ) -> Result<Vec<Outcome>, Broken> {
-    let mut book = history.book.clone();
+    let (mut book, mut taken) = (history.book.clone(), history.taken.clone());
     let mut outcomes = Vec::new();
     for (at, call) in history.calls.iter().enumerate() {
-        let before = book.clone();
-        let outcome = one_call(side, history, call, &mut book, random);
-        let outcome = outcome.map_err(|difference| Broken { at, book: before.clone(), difference })?;
-        show(&Seen { history, at, before: &before, outcome: &outcome });
+        let (before, taken_before) = (book.clone(), taken.clone());
+        let outcome = one_call(side, history, call, [&mut book, &mut taken], random);
+        let outcome = outcome.map_err(|difference| {
+            let (book, taken) = (before.clone(), taken_before.clone());
+            Broken { at, book, taken, difference }
+        })?;
+        show(&Seen { history, at, before: &before, taken: &taken_before, outcome: &outcome });
         outcomes.push(outcome);
     }
     Ok(outcomes)
@@ -74,31 +80,42 @@ impl Guarded {
     }
 }
 
-/// One call put to both sides; the book is left as the call leaves it.
+/// What is lent to a call, each with a guard on either side: row table, book, list.
+type LentGuarded = [Guarded; 3];
+
+/// The names of what is lent.
+const NAMES: [&str; 3] = ["row table", "book", "list"];
+
+/// A call put to one side.
+fn answered(side: &dyn Side, history: &History, call: &Call, lent: &mut LentGuarded) -> Result<Outcome, String> {
+    let [rows, book, taken] = lent;
+    side.answer(&history.papers, call, Lent { rows: rows.lent(), book: book.lent(), taken: taken.lent() })
+}
+
+/// One call put to both sides; book and list are left as the call leaves them.
 fn one_call(
     side: &dyn Side,
     history: &History,
     call: &Call,
-    book: &mut [u64],
+    [book, taken]: [&mut Vec<u64>; 2],
     random: &mut Random,
 ) -> Result<Outcome, String> {
     let start = random.draw();
     let before: Vec<u64> = (0..call.rows() as u64).map(|place| start.wrapping_add(place)).collect();
-    let mut ours = (Guarded::around(&before, random), Guarded::around(book, random));
+    let mut ours = [&before, &*book, &*taken].map(|numbers| Guarded::around(numbers, random));
     let mut theirs = ours.clone();
-    let lent = Lent { rows: ours.0.lent(), book: ours.1.lent() };
-    let expected = Independent.answer(&history.papers, call, lent)?;
-    let lent = Lent { rows: theirs.0.lent(), book: theirs.1.lent() };
-    let outcome = side.answer(&history.papers, call, lent)?;
+    let expected = answered(&Independent, history, call, &mut ours)?;
+    let outcome = answered(side, history, call, &mut theirs)?;
     if outcome != expected {
         return Err(format!("\n  proved      {outcome:?}\n  independent {expected:?}"));
     }
-    for (name, ours, theirs) in [("row table", &ours.0, &theirs.0), ("book", &ours.1, &theirs.1)] {
+    for (name, (ours, theirs)) in NAMES.into_iter().zip(ours.iter().zip(&theirs)) {
         if let Some((at, ours, theirs)) = ours.unlike(theirs) {
             let words = format!("{expected:?}: number {at} of the {name}");
             return Err(format!("{words}\n  proved      {theirs}\n  independent {ours}"));
         }
     }
-    book.copy_from_slice(ours.1.lent());
+    book.copy_from_slice(ours[1].lent());
+    taken.copy_from_slice(ours[2].lent());
     Ok(expected)
 }

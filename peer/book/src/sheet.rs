@@ -1,14 +1,17 @@
-//! A sound book in the making, laid out as a table: rows of any numbers, and the running totals that they come to. It need not have grown from an
-//! empty one.
+//! A sound book in the making, laid out as a table: rows of any numbers, and the running totals that they come to; and the list of file numbers taken
+//! beside it. It need not have grown from an empty one.
 
 use peer_reader::random::Random;
 
 use crate::layout::{
     is_owner, last, net, row_start, total, BOUND, CLAIMED, CREDIT_CENTS, DEBIT_CENTS, FIGURES, FILE_NUMBER, HEAD,
-    NUMBER, OWNER, OWNERS, SIX, WIDTH,
+    NUMBER, OWNER, OWNERS, PLACE, SIX, WIDTH,
 };
 
 pub type Row = [u64; WIDTH];
+
+/// Owner and file number.
+pub type Place = [u64; PLACE];
 
 /// What stands in a table, from its head to the numbers behind its last whole row.
 #[derive(Clone, Debug)]
@@ -21,6 +24,12 @@ pub struct Sheet {
     pub spare: Vec<Row>,
     /// Fewer numbers than a row has.
     pub tail: Vec<u64>,
+    /// The places claimed in the list of file numbers taken.
+    pub taken: Vec<Place>,
+    /// The places behind those claimed.
+    pub free_places: Vec<Place>,
+    /// Half a place behind the last.
+    pub half_place: Option<u64>,
 }
 
 /// A number that means nothing.
@@ -181,8 +190,12 @@ impl Sheet {
             rows: owners.iter().map(|owner| [*owner, random.below(9) as u64, 0, 0, 0, 0, 0, 0, 0]).collect(),
             spare: vec![[0; WIDTH]; spare],
             tail: (0..tail).map(|_| junk(random)).collect(),
+            taken: Vec::new(),
+            free_places: vec![[0; PLACE]; random.between(1, 4)],
+            half_place: random.percent(30).then(|| junk(random)),
         };
         sheet.give_numbers(random);
+        sheet.give_places(random);
         (0..SIX).for_each(|figure| {
             let figures = column(random, owners.len());
             sheet.put_column(figure, &figures);
@@ -209,6 +222,26 @@ impl Sheet {
             // A file of several letters has several rows, and both owners may have the same number.
             file_number += if random.percent(30) { 0 } else { 1 + random.below(9) as u64 };
             row[FILE_NUMBER] = file_number;
+        }
+    }
+
+    /// The places of the list: mostly those of the rows, some withdrawn ones and some of neither owner among them; seldom anything at all.
+    fn give_places(&mut self, random: &mut Random) {
+        let mut places: Vec<Place> = Vec::new();
+        let lacking = random.percent(10);
+        for row in self.rows.iter().filter(|row| is_owner(row[OWNER])) {
+            let place = [row[OWNER], row[FILE_NUMBER]];
+            if !places.contains(&place) && !lacking {
+                places.push(place);
+            }
+        }
+        for _ in 0..random.below(4) {
+            let owner = if random.percent(60) { random.pick(&OWNERS) } else { stranger(random) };
+            places.insert(random.below(places.len() + 1), [owner, 5_000 + random.draw() % 1_000]);
+        }
+        self.taken = places;
+        if random.percent(60) {
+            self.free_places.iter_mut().for_each(|place| *place = [caller(random), junk(random)]);
         }
     }
 
@@ -258,7 +291,8 @@ impl Sheet {
         self.rows_of(owner).into_iter().map(|row| u128::from(self.rows[row][FIGURES + figure])).sum()
     }
 
-    /// The rows get file numbers of their own, from 101 on, and entry numbers from 1 on for each owner; those of neither from 51 on.
+    /// The rows get file numbers of their own, from 101 on, and entry numbers from 1 on for each owner; those of neither from 51 on. The list has them
+    /// in the order of the rows.
     pub fn number_plainly(&mut self) {
         let mut strangers = 50;
         self.last = [0; OWNERS.len()];
@@ -271,16 +305,23 @@ impl Sheet {
             row[NUMBER] = *last;
             row[FILE_NUMBER] = at as u64 + 101;
         }
+        self.taken = self.rows.iter().map(|row| [row[OWNER], row[FILE_NUMBER]]).collect();
     }
 
-    /// A file number that no row has, claimed or not.
+    /// How many rows are free: gaps, and those behind the rows claimed.
+    pub fn free(&self) -> usize {
+        self.rows.iter().filter(|row| !is_owner(row[OWNER])).count() + self.spare.len()
+    }
+
+    /// A file number that no row and no place of the list has, claimed or not.
     pub fn fresh(&self, random: &mut Random) -> u64 {
         loop {
             let number = match random.below(3) {
                 0 => random.below(2_000) as u64,
                 _ => random.draw(),
             };
-            if self.rows.iter().chain(&self.spare).all(|row| row[FILE_NUMBER] != number) {
+            let in_list = self.taken.iter().chain(&self.free_places).any(|place| place[1] == number);
+            if !in_list && self.rows.iter().chain(&self.spare).all(|row| row[FILE_NUMBER] != number) {
                 return number;
             }
         }
@@ -299,5 +340,13 @@ impl Sheet {
         debug_assert_eq!(table.len(), row_start(self.rows.len() + self.spare.len()));
         table.extend(&self.tail);
         table
+    }
+
+    /// The list of file numbers taken.
+    pub fn lay_taken(&self) -> Vec<u64> {
+        let mut taken = vec![self.taken.len() as u64];
+        self.taken.iter().chain(&self.free_places).for_each(|place| taken.extend(place));
+        taken.extend(self.half_place);
+        taken
     }
 }

@@ -3,11 +3,12 @@
 
 use peer_reader::random::Random;
 
-use crate::call::{Call, History, Kind, KINDS};
+use crate::call::{Call, History, Kind, KINDS, WITH_LIST};
 use crate::files::{ample, refused_paper, rich_paper, short_tables, sound_paper, REFUSALS};
 use crate::layout::{
-    is_judged, last, net, net_of, other, row_start, rows_there, total, BOOK, BOUND, CLAIMED, CREDIT_CENTS, DEBIT_CENTS,
-    DUPLICATE, FIGURES, FILE_NUMBER, FULL, HEAD, NOENTRY, NUMBER, OWNER, OWNERS, RANGE, ROOM, SIX, WIDTH,
+    is_judged, is_owner, last, net, net_of, other, place_start, places_there, row_start, rows_there, total, BOOK,
+    BOUND, CLAIMED, CREDIT_CENTS, DEBIT_CENTS, DUPLICATE, FIGURES, FILE_NUMBER, FULL, HEAD, NOENTRY, NUMBER, OWNER,
+    OWNERS, PLACE, RANGE, ROOM, SIX, WIDTH,
 };
 use crate::paper::{sums, Paper};
 use crate::sheet::{another, caller, junk, mixed, other_cents, stranger, Sheet};
@@ -35,56 +36,74 @@ fn mixed_sheet(random: &mut Random, owner: u64, rows: [usize; 3]) -> Sheet {
     Sheet::of(random, &owners, spare)
 }
 
+/// What calls are put to: the table and the list of file numbers taken.
+type Tables = (Vec<u64>, Vec<u64>);
+
 /// A history of one call, and sometimes a few more of any kind.
-fn history(random: &mut Random, shape: &'static str, book: Vec<u64>, papers: Vec<Paper>, call: Call) -> History {
-    let mut history = History { shape, papers, book, changed: None, calls: vec![call] };
+fn history(random: &mut Random, shape: &'static str, tables: Tables, papers: Vec<Paper>, call: Call) -> History {
+    let (book, taken) = tables;
+    let mut history = History { shape, papers, book, taken, changed: None, calls: vec![call] };
     if random.percent(35) {
-        for _ in 0..random.between(1, 3) {
-            let more = any_call(random, &mut history);
-            history.calls.push(more);
-        }
+        let count = random.between(1, 3);
+        more_calls(random, &mut history, count);
     }
     history
 }
 
-/// A call with what the table has at some row, claimed or not, or with anything.
+/// So many calls more.
+fn more_calls(random: &mut Random, history: &mut History, count: usize) {
+    for _ in 0..count {
+        let more = any_call(random, history);
+        history.calls.push(more);
+    }
+}
+
+/// A call with what table or list have at some row or place, claimed or not, or with anything.
 fn any_call(random: &mut Random, history: &mut History) -> Call {
     let row = random.below(rows_there(history.book.len()).max(1));
     let near = |column: usize| history.book.get(row_start(row) + column).copied();
+    let place = random.below(places_there(history.taken.len()).max(1));
+    let file_number_near = history.taken.get(place_start(place) + 1).copied();
     let number = random.below(5) as u64;
     let owner = near(OWNER).filter(|_| random.percent(40)).unwrap_or_else(|| caller(random));
-    match random.below(3) {
+    let entry_number = near(NUMBER).filter(|_| random.percent(70)).unwrap_or(number);
+    match random.below(5) {
         0 => {
-            let kept = near(FILE_NUMBER).filter(|_| random.percent(30));
+            let kept = file_number_near.filter(|_| random.percent(30));
             let file_number = kept.unwrap_or_else(|| random.draw());
             history.papers.push(sound_paper(random, (1, 2)));
             let paper = history.papers.len() - 1;
             let rows = ample(random, &history.papers[paper]);
             Call::Enter { paper, file_number, owner, rows }
         }
-        1 => {
-            let entry_number = near(NUMBER).filter(|_| random.percent(70)).unwrap_or(number);
-            Call::Find { owner, entry_number }
-        }
+        1 => Call::Find { owner, entry_number },
+        2 => Call::Withdraw { owner, entry_number },
+        3 if random.percent(50) => Call::Tidy,
         _ => Call::Totals { owner },
     }
 }
 
-/// A call of this kind that a sound book would mostly answer with 0, put to a table.
+/// A call of this kind that a sound book would mostly answer with 0, put to a table and the list of the sheet.
 fn of_kind(random: &mut Random, shape: &'static str, kind: Kind, owner: u64, sheet: &Sheet, book: Vec<u64>) -> History {
+    kind_on(random, shape, kind, owner, sheet, (book, sheet.lay_taken()))
+}
+
+/// The same, put to any list.
+fn kind_on(random: &mut Random, shape: &'static str, kind: Kind, owner: u64, sheet: &Sheet, tables: Tables) -> History {
     let paper = sound_paper(random, (1, 2));
     let rows = ample(random, &paper);
+    let own = sheet.rows_of(owner);
+    let row = own.get(random.below(own.len()));
+    let entry_number = row.map_or(1, |row| sheet.rows[*row][NUMBER]);
     let call = match kind {
         Kind::Enter => Call::Enter { paper: 0, file_number: sheet.fresh(random), owner, rows },
-        Kind::Find => {
-            let own = sheet.rows_of(owner);
-            let row = own.get(random.below(own.len()));
-            Call::Find { owner, entry_number: row.map_or(1, |row| sheet.rows[*row][NUMBER]) }
-        }
+        Kind::Find => Call::Find { owner, entry_number },
         Kind::Totals => Call::Totals { owner },
+        Kind::Withdraw => Call::Withdraw { owner, entry_number },
+        Kind::Tidy => Call::Tidy,
     };
     let papers = if kind == Kind::Enter { vec![paper] } else { Vec::new() };
-    history(random, shape, book, papers, call)
+    history(random, shape, tables, papers, call)
 }
 
 /// A sound book but for one number, which is another.
@@ -140,12 +159,13 @@ pub const STRANGERS: usize = 4;
 
 /// A call with a number that is no owner, though some row has it for one, and what the call asks for.
 pub fn strange(random: &mut Random, turn: usize) -> History {
+    const OWNED: [Kind; 4] = [Kind::Enter, Kind::Find, Kind::Totals, Kind::Withdraw];
     let owner = [0, 3, u64::MAX, random.pick(&OWNERS) | 1 << random.between(32, 63)][turn % STRANGERS];
     let mut sheet = sound_sheet(random, (2, 5));
     let row = random.below(sheet.rows.len());
     sheet.rows[row][OWNER] = owner;
     sheet.number_plainly();
-    of_kind(random, "strange", KINDS[turn / STRANGERS % KINDS.len()], owner, &sheet, sheet.lay())
+    of_kind(random, "strange", OWNED[turn / STRANGERS % OWNED.len()], owner, &sheet, sheet.lay())
 }
 
 /// A number of a row behind those claimed changed, or of those behind the last row.
@@ -311,12 +331,13 @@ pub fn short(random: &mut Random, turn: usize) -> History {
     of_kind(random, "short", KINDS[turn / SHORT / 2 % KINDS.len()], owner, &sheet, book)
 }
 
-/// The causes of FULL: rows, the six running totals, the last number.
-pub const CAUSES: usize = 2 + SIX;
+/// The causes of FULL: rows, the six running totals, the last number, the places of the list.
+pub const CAUSES: usize = 3 + SIX;
 pub const CAUSE_ROWS: usize = 0;
 pub const CAUSE_LAST: usize = 1 + SIX;
+pub const CAUSE_PLACES: usize = 2 + SIX;
 
-/// By one; not, by one; the first letters fit; from the start; the other owner's, so that it is not (rows are both owners').
+/// By one; not, by one; the first letters fit; from the start; the other owner's, so that it is not (rows and places are both owners').
 pub const EDGES: usize = 5;
 const EDGE_OF_THE_OTHER: usize = 4;
 
@@ -328,19 +349,23 @@ pub fn full(random: &mut Random, turn: usize) -> History {
     let paper = rich_paper(random, letters, |letters| {
         figure >= SIX || letters.iter().all(|letter| letter[figure] > 0 && letter[figure] < 1 << 60)
     });
-    let count = paper.letters.len() as u64;
-    let rows = [random.between(1, 3), random.between(1, 2), random.below(2)];
+    let count = paper.letters.len();
+    let wanted = [count - 1, count, count - 1, 0, count - 1];
+    let free = if cause == CAUSE_ROWS { wanted[edge] } else { count + random.below(3) };
+    // Free rows are gaps and rows behind those claimed.
+    let gaps = random.below(free + 1);
+    let rows = [random.between(1, 3), random.between(1, 2), gaps];
     let mut sheet = mixed_sheet(random, owner, rows);
     // Nothing but the one cause.
     sheet.number_plainly();
-    (0..SIX).for_each(|figure| sheet.put_column(figure, &[3; 6]));
-    let spare = [count - 1, count, count - 1, 0, count - 1];
-    let free = if cause == CAUSE_ROWS { spare[edge] } else { count + random.draw() % 3 };
-    sheet.spare = vec![[junk(random); WIDTH]; free as usize];
+    (0..SIX).for_each(|figure| sheet.put_column(figure, &[3; 12]));
+    sheet.spare = vec![[junk(random); WIDTH]; free - gaps];
     let whose = if edge == EDGE_OF_THE_OTHER { other(owner) } else { owner };
+    let count = count as u64;
     match cause {
         CAUSE_ROWS => {}
         CAUSE_LAST => sheet.last[whose as usize - 1] = u64::MAX - [count - 1, count, 1, 0, 0][edge],
+        CAUSE_PLACES => sheet.free_places.truncate([0, 1, 0, 0, 0][edge]),
         _ => {
             let sum = paper.sums()[figure] as u64;
             let last_letter = paper.letters[paper.letters.len() - 1][figure];
@@ -349,6 +374,38 @@ pub fn full(random: &mut Random, turn: usize) -> History {
         }
     }
     entering(random, "full", &sheet, paper, owner, None)
+}
+
+/// How many gaps and how many rows behind those claimed there are for a file of so many letters: as many gaps; more; fewer, and enough behind; fewer,
+/// and enough but for one; none.
+pub const GAPS: usize = 5;
+
+/// A file entered, or not, where there are gaps, by their number and place.
+pub fn gaps(random: &mut Random, turn: usize) -> History {
+    let (how, count) = (turn % GAPS, 1 + turn / GAPS % 3);
+    let owner = random.pick(&OWNERS);
+    let paper = sound_paper(random, (count, count));
+    let some = random.below(count);
+    let (gaps, behind) = match how {
+        0 => (count, random.below(2)),
+        1 => (count + random.between(1, 2), random.below(2)),
+        2 => (some, count - some + random.below(2)),
+        3 => (some, count - some - 1),
+        _ => (0, count + random.below(2)),
+    };
+    let rows = [random.between(1, 3), random.below(3), gaps];
+    let mut sheet = mixed_sheet(random, owner, rows);
+    sheet.number_plainly();
+    sheet.spare = (0..behind).map(|_| std::array::from_fn(|_| junk(random))).collect();
+    let zeros = random.percent(40);
+    for row in sheet.rows.iter_mut().filter(|row| !is_owner(row[OWNER])) {
+        // As a withdrawal leaves a row, or anything.
+        *row = if zeros { [0; WIDTH] } else { std::array::from_fn(|_| random.draw() | 4) };
+    }
+    let mut history = entering(random, "gaps", &sheet, paper, owner, None);
+    let first = sheet.last[owner as usize - 1] + 1;
+    history.calls.extend([Call::Find { owner, entry_number: first }, Call::Totals { owner }, Call::Tidy]);
+    history
 }
 
 /// How a file meets the bound of the net position: to it; a cent beyond; back to it from beyond; back to a cent beyond; out on the way and back;
@@ -388,6 +445,9 @@ pub fn range(random: &mut Random, turn: usize) -> History {
         sheet.put_net(random, other(owner), bound + side);
     }
     sheet.spare.resize(paper.letters.len() + random.below(2), [junk(random); WIDTH]);
+    if matches!(meeting, 1 | 3 | 5..=7) && random.percent(25) {
+        sheet.free_places.clear(); // RANGE comes first
+    }
     entering(random, "range", &sheet, paper, owner, None)
 }
 
@@ -412,7 +472,8 @@ fn entering(
 ) -> History {
     let rows = ample(random, &paper);
     let file_number = number.unwrap_or_else(|| sheet.fresh(random));
-    history(random, shape, sheet.lay(), vec![paper], Call::Enter { paper: 0, file_number, owner, rows })
+    let call = Call::Enter { paper: 0, file_number, owner, rows };
+    history(random, shape, (sheet.lay(), sheet.lay_taken()), vec![paper], call)
 }
 
 /// Rows 0 to n - 1: the first, a middle one, the last.
@@ -430,65 +491,89 @@ fn with_row_of(random: &mut Random, owner: u64, which: usize, spare: usize) -> (
     (sheet, row)
 }
 
-/// A file number that some row of the owner has, by the place of the row and the number; some other row has it too.
+/// A file number that some place of the list has for the owner, by the place and the number; some other place has it too.
 pub fn duplicate(random: &mut Random, turn: usize) -> History {
     let (owner, free) = (random.pick(&OWNERS), random.pick(&[0, 3]));
-    let (mut sheet, row) = with_row_of(random, owner, turn % 4, free);
+    let (mut sheet, place) = with_row_of(random, owner, turn % 4, free);
     let number = [0, u64::MAX, 1 + random.draw() % 1_000_000][turn / 4 % 3];
-    let beside = if row == 0 { sheet.rows.len() - 1 } else { row - 1 };
+    let beside = if place == 0 { sheet.taken.len() - 1 } else { place - 1 };
     let also = [None, Some(owner), Some(other(owner)), Some(stranger(random))][turn / 12 % 4];
-    if let Some(whose) = also.filter(|_| beside != row) {
-        sheet.rows[beside][OWNER] = whose;
-        sheet.rows[beside][FILE_NUMBER] = number;
+    if let Some(whose) = also.filter(|_| beside != place) {
+        sheet.taken[beside] = [whose, number];
     }
-    sheet.rows[row][FILE_NUMBER] = number;
+    sheet.taken[place] = [owner, number];
+    match random.below(3) {
+        // A row of the owner has it, or none: its entries were withdrawn.
+        0 => sheet.rows[place][FILE_NUMBER] = number,
+        1 => sheet.rows.clear(),
+        _ => {}
+    }
+    sheet.free_places.truncate(random.below(4));
     let paper = sound_paper(random, (1, 2));
     entering(random, "duplicate", &sheet, paper, owner, Some(number))
 }
 
-/// How a number is nearly that of a row, and is not.
-pub const NEARLY: usize = 8;
+/// How a number is nearly that of a place, and is not.
+pub const NEARLY: usize = 10;
 
-/// Numbers that no claimed row of the owner has, though something has them.
+/// Numbers that no claimed place has for the owner, though something has them.
 pub fn no_duplicate(random: &mut Random, turn: usize) -> History {
     let owner = OWNERS[turn / NEARLY % 2];
     let own = random.between(1, 3);
     let mut sheet = mixed_sheet(random, owner, [own, 1, 1]);
     sheet.number_plainly();
     let row = random.pick(&sheet.rows_of(owner));
-    let file_number = sheet.rows[row][FILE_NUMBER];
+    let nobodys = sheet.rows.iter().position(|row| !is_owner(row[OWNER])).expect("one of neither");
+    // The places are those of the rows, in their order.
+    let file_number = sheet.taken[row][1];
     let number = match turn % NEARLY {
         0 => {
-            (sheet.spare[0][OWNER], sheet.spare[0][FILE_NUMBER]) = (owner, 77);
+            sheet.free_places[0] = [owner, 77];
             77
         }
         1 => {
-            sheet.spare.iter_mut().for_each(|row| *row = [0; WIDTH]);
+            sheet.free_places.iter_mut().for_each(|place| *place = [0; PLACE]);
             0
         }
         2 => file_number | 1 << 32,
         3 => {
-            sheet.rows[row][FILE_NUMBER] = file_number << 32;
+            sheet.taken[row][1] = file_number << 32;
             (file_number << 32) + 1
         }
         4 => sheet.rows[row][NUMBER],
         5 => {
-            sheet.rows[row][FIGURES] = 9_999;
-            9_999
+            // A row of the owner has it, and no place.
+            sheet.taken[row][1] = 4_000;
+            file_number
         }
-        6 => sheet.rows[sheet.rows_of(other(owner))[0]][FILE_NUMBER],
-        _ => sheet.rows.iter().find(|row| !OWNERS.contains(&row[OWNER])).expect("one of neither")[FILE_NUMBER],
+        6 => sheet.taken[sheet.rows_of(other(owner))[0]][1],
+        7 => sheet.taken[nobodys][1],
+        8 => {
+            sheet.taken[nobodys] = [40, owner];
+            40
+        }
+        _ => sheet.taken.len() as u64,
     };
     let paper = sound_paper(random, (1, 2));
     entering(random, "no duplicate", &sheet, paper, owner, Some(number))
 }
 
-fn finding(random: &mut Random, shape: &'static str, sheet: &Sheet, owner: u64, entry_number: u64) -> History {
-    history(random, shape, sheet.lay(), Vec::new(), Call::Find { owner, entry_number })
+/// A call that looks an entry up, to find it or to withdraw it; of a withdrawal, what shows it afterwards too.
+fn looking_up(random: &mut Random, kind: Kind, sheet: &Sheet, owner: u64, entry_number: u64) -> History {
+    let (shape, call) = match kind {
+        Kind::Withdraw => ("withdraw", Call::Withdraw { owner, entry_number }),
+        _ => ("find", Call::Find { owner, entry_number }),
+    };
+    let mut history = history(random, shape, (sheet.lay(), sheet.lay_taken()), Vec::new(), call);
+    if kind == Kind::Withdraw {
+        let find = Call::Find { owner, entry_number };
+        history.calls.extend([find, Call::Totals { owner }, Call::Tidy, find, call, Call::Totals { owner }]);
+    }
+    history
 }
 
-/// A row that is found: the first, a middle one, the last, the only; some numbers twice, the owner's first row counts.
-pub fn find(random: &mut Random, turn: usize) -> History {
+/// A row that is found or withdrawn: the first, a middle one, the last, the only; some numbers twice, the owner's first row counts.
+pub fn find(random: &mut Random, turn: usize, kind: Kind) -> History {
     let (owner, free) = (random.pick(&OWNERS), random.below(3));
     let (mut sheet, row) = with_row_of(random, owner, turn % 4, free);
     let number = [0, u64::MAX, 1_000 + random.draw() % 1_000_000][turn / 4 % 3];
@@ -508,18 +593,23 @@ pub fn find(random: &mut Random, turn: usize) -> History {
             sheet.rows[row - 1][OWNER] = whose;
         }
     }
-    finding(random, "find", &sheet, owner, number)
+    looking_up(random, kind, &sheet, owner, number)
 }
 
 /// How a number is not found.
 pub const ABSENT: usize = 10;
 
-pub fn not_found(random: &mut Random, turn: usize) -> History {
+/// The same for entries that are not there; half of the withdrawals come while the net position is beyond its bound.
+pub fn not_found(random: &mut Random, turn: usize, kind: Kind) -> History {
     let owner = OWNERS[turn / ABSENT % 2];
     let rows = if turn.is_multiple_of(ABSENT) { [0, 0, 0] } else { [random.between(2, 3), 1, 1] };
     let mut sheet = mixed_sheet(random, owner, rows);
     sheet.number_plainly();
     let own = sheet.rows_of(owner);
+    if kind == Kind::Withdraw && !own.is_empty() && random.percent(50) {
+        let beyond = random.pick(&[1, -1]) * (BOUND + 1 + random.draw() as i128 % BOUND);
+        sheet.put_net(random, owner, beyond);
+    }
     let number = match turn % ABSENT {
         0 => 1,
         1 => 0,
@@ -542,7 +632,201 @@ pub fn not_found(random: &mut Random, turn: usize) -> History {
         8 => 51, // that of the row of neither
         _ => u64::MAX,
     };
-    finding(random, "not found", &sheet, owner, number)
+    looking_up(random, kind, &sheet, owner, number)
+}
+
+/// How a withdrawal meets the bound of the net position: to it; a cent beyond; back to it from beyond; back to a cent beyond; nothing, from beyond;
+/// from the end of an i64; to where 64 bits leave something in range; the other owner's is beyond.
+pub const WITHDRAWALS: usize = 8;
+
+/// A withdrawal that would carry a net position beyond its bound, or just does not, on either side.
+pub fn withdraw_range(random: &mut Random, turn: usize) -> History {
+    let (meeting, owner) = (turn % WITHDRAWALS, OWNERS[turn / WITHDRAWALS % 2]);
+    let side: i128 = [1, -1][turn / WITHDRAWALS / 2 % 2];
+    let most = random.pick(&[1, 1_000, 1 << 50]);
+    let some = 1 + i128::from(random.draw() % most);
+    let most_64 = i128::from(u64::MAX);
+    // Where the net position would be, and what the entry contributes to it.
+    let (after, own) = match meeting {
+        0 => (side * BOUND, -side * some),
+        1 => (side * (BOUND + 1), -side * some),
+        2 => (side * BOUND, side * some),
+        3 => (side * (BOUND + 1), side * some),
+        4 => (side * (BOUND + some), 0),
+        5 if side > 0 => (i128::from(i64::MAX) + some, -some),
+        5 => (i128::from(i64::MIN) - some, some),
+        6 => (-side * (most_64 - random.below(1_000) as i128), side * (most_64 - 1_000 - random.below(1_000) as i128)),
+        _ => (side * some, -side * some),
+    };
+    let rows = [random.between(2, 4), random.between(1, 2), random.below(3)];
+    let mut sheet = mixed_sheet(random, owner, rows);
+    sheet.number_plainly();
+    let mut rows = sheet.rows_of(owner);
+    let row = rows.remove(random.below(rows.len()));
+    sheet.put_net(random, owner, 0);
+    put_cents(&mut sheet, row, own);
+    rows.iter().for_each(|row| put_cents(&mut sheet, *row, 0));
+    put_cents(&mut sheet, random.pick(&rows), after);
+    if meeting == WITHDRAWALS - 1 {
+        sheet.put_net(random, other(owner), side * (BOUND + 1));
+    }
+    let entry_number = sheet.rows[row][NUMBER];
+    let call = Call::Withdraw { owner, entry_number };
+    let mut history = history(random, "withdraw range", (sheet.lay(), sheet.lay_taken()), Vec::new(), call);
+    history.calls.extend([Call::Totals { owner }, Call::Find { owner, entry_number }]);
+    history
+}
+
+/// A row gets cents of this net position.
+fn put_cents(sheet: &mut Sheet, row: usize, net: i128) {
+    let (debit, credit) = if net < 0 { (net.unsigned_abs() as u64, 0) } else { (0, net as u64) };
+    sheet.rows[row][FIGURES + DEBIT_CENTS] = debit;
+    sheet.rows[row][FIGURES + CREDIT_CENTS] = credit;
+}
+
+/// A withdrawal at fault twice: for the table or the list, for the owner or the number, for the range.
+pub fn withdraw_order(random: &mut Random, turn: usize) -> History {
+    let (nobody, absent, beyond) = match turn % 5 {
+        0 => (true, false, false),
+        1 => (false, true, false),
+        2 => (false, false, true),
+        3 => (true, false, true),
+        _ => (false, true, true),
+    };
+    let owner = random.pick(&OWNERS);
+    let mut sheet = mixed_sheet(random, owner, [2, 2, 1]);
+    sheet.number_plainly();
+    if beyond {
+        // Whatever is withdrawn, and whoever withdraws it.
+        for owner in OWNERS {
+            let net = random.pick(&[1, -1]) * (BOUND + 1_000 + random.draw() as i128 % BOUND);
+            let rows = sheet.rows_of(owner);
+            put_cents(&mut sheet, rows[0], 0);
+            put_cents(&mut sheet, rows[1], net);
+        }
+    }
+    let entry_number = if absent { 9 } else { 1 };
+    let whose = if nobody { stranger(random) } else { owner };
+    let (mut book, mut taken) = (sheet.lay(), sheet.lay_taken());
+    match turn / 5 % 3 {
+        0 => book[total(random.pick(&OWNERS), random.below(SIX))] ^= 1,
+        1 => taken[0] = places_there(taken.len()) as u64 + 1,
+        _ => {}
+    }
+    let call = Call::Withdraw { owner: whose, entry_number };
+    history(random, "withdraw order", (book, taken), Vec::new(), call)
+}
+
+/// Where the gaps of a book stand that is tidied up: nowhere, everywhere, first, in the middle, last, several, every second row, no row at all, before
+/// one row, a table too short for a row.
+pub const TIDYINGS: usize = 10;
+
+pub fn tidy(random: &mut Random, turn: usize) -> History {
+    let how = turn % TIDYINGS;
+    let rows = [random.between(2, 6), random.between(1, 5), random.between(3, 6), random.between(3, 6)];
+    let rows = [rows[0], rows[1], rows[2], rows[2], rows[2], 8, 2 * rows[3], 0, 2, 0][how];
+    let is_gap = |row: usize, random: &mut Random| match how {
+        1 => true,
+        2 => row == 0,
+        3 => row == rows / 2,
+        4 => row + 1 == rows,
+        5 => (2..5).contains(&row) || random.percent(20),
+        6 => row.is_multiple_of(2) == (rows > 8),
+        8 => row == 0,
+        _ => false,
+    };
+    let owners: Vec<u64> =
+        (0..rows).map(|row| if is_gap(row, random) { stranger(random) } else { random.pick(&OWNERS) }).collect();
+    let spare = random.below(3);
+    let mut sheet = Sheet::of(random, &owners, spare);
+    let zeros = random.percent(40);
+    for row in sheet.rows.iter_mut().filter(|row| !is_owner(row[OWNER]) && zeros) {
+        *row = [0; WIDTH];
+    }
+    let mut book = sheet.lay();
+    if how == TIDYINGS - 1 {
+        book.truncate(random.below(HEAD + WIDTH));
+    }
+    let mut history = history(random, "tidy", (book, sheet.lay_taken()), Vec::new(), Call::Tidy);
+    for row in sheet.rows.iter().filter(|row| is_owner(row[OWNER])) {
+        history.calls.push(Call::Find { owner: row[OWNER], entry_number: row[NUMBER] });
+    }
+    more_calls(random, &mut history, 3);
+    history.calls.push(Call::Tidy);
+    history
+}
+
+/// How a list claims more places than it has: by one; twice the claim seems to fit; its low half fits; 2^64 - 1; one in a list of none; its first number
+/// alone.
+pub const LIST_CLAIMS: usize = 6;
+
+/// The lengths of short lists.
+pub const SHORT_LIST: usize = 7;
+
+/// A list that claims more places than it has, put to each call that is lent it.
+pub fn list_claim(random: &mut Random, turn: usize) -> History {
+    let how = turn % LIST_CLAIMS;
+    let sheet = sound_sheet(random, (1, 5));
+    let mut taken = sheet.lay_taken();
+    let there = places_there(taken.len()) as u64;
+    match how {
+        4 => taken.truncate(2),
+        5 => taken.truncate(1),
+        _ => {}
+    }
+    taken[0] = match how {
+        0 => there + 1,
+        1 => taken[0] | 1 << 63,
+        2 => taken[0] | 1 << 32,
+        3 => u64::MAX,
+        4 => 1,
+        _ => 1 + random.draw() % 3,
+    };
+    let kind = WITH_LIST[turn / LIST_CLAIMS % WITH_LIST.len()];
+    let owner = caller(random);
+    kind_on(random, "list claim", kind, owner, &sheet, (sheet.lay(), taken))
+}
+
+/// Lists of every short length, sound and not, with places of either owner and of neither.
+pub fn short_list(random: &mut Random, turn: usize) -> History {
+    let (length, off) = (turn % SHORT_LIST, turn / SHORT_LIST % 2 == 1);
+    let kind = WITH_LIST[turn / SHORT_LIST / 2 % WITH_LIST.len()];
+    let sheet = sound_sheet(random, (1, 4));
+    let there = places_there(length);
+    let claimed = if off { there + 1 + random.below(2) } else { random.below(there + 1) };
+    let mut taken = vec![claimed as u64];
+    (0..SHORT_LIST).for_each(|_| taken.extend([caller(random), random.draw()]));
+    taken.truncate(length);
+    let owner = caller(random);
+    kind_on(random, "short list", kind, owner, &sheet, (sheet.lay(), taken))
+}
+
+/// Many calls on a book that no calls have made: gaps with anything in them, figures and a net position near their bounds, numbers that stand twice, a
+/// list that has other numbers than the rows.
+pub fn edges(random: &mut Random, _: usize) -> History {
+    let owner = random.pick(&OWNERS);
+    let rows = [random.between(1, 5), random.below(4), random.below(4)];
+    let mut sheet = mixed_sheet(random, owner, rows);
+    match random.below(4) {
+        0 => {
+            let (figure, total) = (random.below(SIX), u64::MAX - random.draw() % 1_000_000);
+            sheet.put_total(random, owner, figure, total);
+        }
+        1 => {
+            let net = random.pick(&[1, -1]) * (BOUND - random.draw() as i128 % 1_000_000);
+            sheet.put_net(random, owner, net);
+        }
+        2 => {
+            let net = random.pick(&[1, -1]) * (BOUND + random.draw() as i128 % 1_000_000);
+            sheet.put_net(random, owner, net);
+        }
+        _ => {}
+    }
+    let tables = (sheet.lay(), sheet.lay_taken());
+    let mut history = history(random, "edges", tables, Vec::new(), Call::Totals { owner });
+    let count = random.between(5, 25);
+    more_calls(random, &mut history, count);
+    history
 }
 
 /// Totals of none, one and several rows, and at the brim; beside rows of the other and of neither, or not.
@@ -553,7 +837,7 @@ pub fn totals(random: &mut Random, turn: usize) -> History {
     if own > 0 {
         sheet.put_total(random, owner, figure, u64::MAX);
     }
-    history(random, "totals", sheet.lay(), Vec::new(), Call::Totals { owner })
+    history(random, "totals", (sheet.lay(), sheet.lay_taken()), Vec::new(), Call::Totals { owner })
 }
 
 /// Net positions that a book may hold.
@@ -565,7 +849,7 @@ pub fn held(random: &mut Random, turn: usize) -> History {
     let own = random.between(1, 4);
     let mut sheet = mixed_sheet(random, owner, [own, 1, 1]);
     sheet.put_net(random, owner, net);
-    history(random, "held", sheet.lay(), Vec::new(), Call::Totals { owner })
+    history(random, "held", (sheet.lay(), sheet.lay_taken()), Vec::new(), Call::Totals { owner })
 }
 
 /// All pairs of refusals of which the first is given: BOOK, NOENTRY for the owner, the reader's, DUPLICATE, RANGE, FULL.
@@ -587,10 +871,19 @@ pub fn order(random: &mut Random, turn: usize) -> History {
     let wrong = |number| first == number || second == number;
     let owner = if wrong(NOENTRY) { stranger(random) } else { random.pick(&OWNERS) };
     let (rows, more) = (2 + OWNERS.len(), random.below(3));
-    let free = if wrong(FULL) { 0 } else { 4 };
+    // No free place, or no free row, which cannot be where one is of neither owner.
+    let no_place = wrong(FULL) && (!is_owner(owner) || random.percent(50));
+    let no_row = wrong(FULL) && !no_place;
+    let free = if no_row { 0 } else { 4 };
     let mut sheet = Sheet::any(random, rows + more, free);
     let row = OWNERS.len() + random.below(2);
     sheet.rows[row][OWNER] = owner;
+    for row in sheet.rows.iter_mut().filter(|row| no_row && !is_owner(row[OWNER])) {
+        row[OWNER] = random.pick(&OWNERS);
+    }
+    if no_place {
+        sheet.free_places.clear();
+    }
     if wrong(RANGE) {
         // Whatever is entered, and whoever enters it.
         for (row, owner) in OWNERS.into_iter().enumerate() {
@@ -606,17 +899,19 @@ pub fn order(random: &mut Random, turn: usize) -> History {
     };
     let ample = ample(random, &paper);
     let rows_lent = if wrong(ROOM) { random.pick(&short_tables(&paper)) } else { ample };
-    let file_number = if wrong(DUPLICATE) { sheet.rows[row][FILE_NUMBER] } else { sheet.fresh(random) };
-    let mut book = sheet.lay();
+    let file_number = if wrong(DUPLICATE) { sheet.taken[row][1] } else { sheet.fresh(random) };
+    let (mut book, mut taken) = (sheet.lay(), sheet.lay_taken());
     if wrong(BOOK) {
         let figure = total(random.pick(&OWNERS), random.below(SIX));
-        match random.below(2) {
+        match random.below(3) {
             0 => book[CLAIMED] = (rows + more + free) as u64 + 1,
-            _ => book[figure] = another(random, book[figure]),
+            1 => book[figure] = another(random, book[figure]),
+            // The places that are not there stay looked at, so that another refusal is due.
+            _ => taken[0] = places_there(taken.len()) as u64 + 1,
         }
     }
     let call = Call::Enter { paper: 0, file_number, owner, rows: rows_lent };
-    history(random, "order", book, vec![paper], call)
+    history(random, "order", (book, taken), vec![paper], call)
 }
 
 /// A book whose next entry number some row of the owner already has: the first row with it is found, before and after.
@@ -635,6 +930,8 @@ pub fn again(random: &mut Random, turn: usize) -> History {
     let next = book[last(owner)] + 1;
     let find = |entry_number| Call::Find { owner, entry_number };
     let enter = Call::Enter { paper: 0, file_number, owner, rows };
-    let calls = vec![find(next), enter, find(next), find(next + 1), Call::Totals { owner }, enter];
-    History { shape: "again", papers: vec![paper], book, changed: None, calls }
+    let withdraw = Call::Withdraw { owner, entry_number: next };
+    let mut calls = vec![find(next), enter, find(next), find(next + 1), Call::Totals { owner }, enter];
+    calls.extend([withdraw, find(next), withdraw, find(next), Call::Tidy, enter, Call::Totals { owner }]);
+    History { shape: "again", papers: vec![paper], book, taken: sheet.lay_taken(), changed: None, calls }
 }

@@ -1,5 +1,5 @@
-//! Cases worked out by hand from documents 01 and 02, points 34 to 40 and the layout of the book. Each is put to the book over a table and to the
-//! second opinion, and what they leave of book and row table is looked at number by number. A case of owner 1 is put for owner 2 as well, on the
+//! Cases worked out by hand from documents 01 and 02, points 34 to 41 and the layout of the book. Each is put to the book over a table and to the
+//! second opinion, and what they leave of book, list and row table is looked at number by number. A case of owner 1 is put for owner 2 as well, on the
 //! table with the two owners exchanged.
 //! With its length a record takes 84 bytes; a 61 takes 88, a 90 takes 89, a 52 without an image 143.
 
@@ -119,7 +119,7 @@ const STRANGE: [u64; 54] = [
 ];
 
 /// Both owners' books in one table of five rows: owner 1 entered the two letters under 7 around a letter without anything that owner 2 entered under
-/// 7 too; then a row of neither, with figures; the fifth row is free.
+/// 7 too; then a row of neither, with figures, which is a gap; the fifth row is not claimed.
 #[rustfmt::skip]
 const BOTH: [u64; 62] = [
     4, 2, 1, 2, 3, 2, 180, 7_540, 7_360, 1, 0, 0, 0, 0, 0, 0, 0,
@@ -156,18 +156,105 @@ fn exchanged(book: &[u64]) -> Vec<u64> {
     turned
 }
 
+/// A list of file numbers taken beside a book: those of its claimed rows with their owners, each once, and nine free places.
+fn list_beside(book: &[u64]) -> Vec<u64> {
+    let mut places: Vec<[u64; 2]> = Vec::new();
+    let claimed = book.first().copied().unwrap_or(0).min(9) as usize;
+    for row in book.get(17..).unwrap_or_default().chunks_exact(9).take(claimed) {
+        let place = [row[0], row[2]];
+        if [1, 2].contains(&row[0]) && !places.contains(&place) {
+            places.push(place);
+        }
+    }
+    [vec![places.len() as u64], places.concat(), vec![0; 18]].concat()
+}
+
+/// The list with one more place claimed, if there is one.
+fn with_place(taken: &[u64], owner: u64, file_number: u64) -> Vec<u64> {
+    let mut longer = taken.to_vec();
+    let start = 1 + 2 * taken[0] as usize;
+    (longer[0], longer[start], longer[start + 1]) = (taken[0] + 1, owner, file_number);
+    longer
+}
+
 // ---- both sides ----
 
-/// Enters a file for an owner on both sides with a row table of this length: the answer, the row table and the book that both give.
+/// Enters a file for an owner on both sides with a row table of this length, beside a list: the answer, the row table and the book that both give.
+/// The list has one place more where the file was entered, and is else as it was.
+#[track_caller]
+fn entering_beside(
+    taken: &[u64],
+    owner: u64,
+    file: &[u8],
+    number: u64,
+    rows: usize,
+    book: &[u64],
+) -> ([u64; 13], Vec<u64>, Vec<u64>) {
+    let paper = Paper::new(file.to_vec());
+    let (mut rows_left, mut book_left, mut list_left) = (vec![BEFORE; rows], book.to_vec(), taken.to_vec());
+    let answer = table::enter(&paper, number, owner, &mut rows_left, &mut book_left, &mut list_left);
+    let (mut rows_other, mut book_other, mut list_other) = (vec![BEFORE; rows], book.to_vec(), taken.to_vec());
+    let second = opinion::enter(&paper, number, owner, &mut rows_other, &mut book_other, &mut list_other);
+    assert_eq!(second, answer, "the second opinion");
+    assert_eq!((rows_other, book_other), (rows_left.clone(), book_left.clone()), "the second opinion");
+    let list = if answer[0] == 0 { with_place(taken, owner, number) } else { taken.to_vec() };
+    assert_eq!((&list_left, &list_other), (&list, &list), "the list");
+    (answer, rows_left, book_left)
+}
+
+/// The same beside the list that the book's own rows make.
 #[track_caller]
 fn entering_for(owner: u64, file: &[u8], number: u64, rows: usize, book: &[u64]) -> ([u64; 13], Vec<u64>, Vec<u64>) {
-    let paper = Paper::new(file.to_vec());
-    let (mut rows_left, mut book_left) = (vec![BEFORE; rows], book.to_vec());
-    let answer = table::enter(&paper, number, owner, &mut rows_left, &mut book_left);
-    let (mut rows_other, mut book_other) = (vec![BEFORE; rows], book.to_vec());
-    assert_eq!(opinion::enter(&paper, number, owner, &mut rows_other, &mut book_other), answer, "the second opinion");
-    assert_eq!((rows_other, book_other), (rows_left.clone(), book_left.clone()), "the second opinion");
-    (answer, rows_left, book_left)
+    entering_beside(&list_beside(book), owner, file, number, rows, book)
+}
+
+/// Withdraws on both sides: the number, and the book that is left.
+#[track_caller]
+fn withdrawing_beside(taken: &[u64], owner: u64, entry_number: u64, book: &[u64]) -> (u64, Vec<u64>) {
+    let (mut left, mut other) = (book.to_vec(), book.to_vec());
+    let number = table::withdraw(&mut left, taken, owner, entry_number);
+    assert_eq!(opinion::withdraw(&mut other, taken, owner, entry_number), number, "the second opinion");
+    assert_eq!(other, left, "the second opinion");
+    (number, left)
+}
+
+/// Withdraws for owner 1, and for owner 2 with the owners exchanged, beside the list that the book's own rows make.
+#[track_caller]
+fn withdrawing(entry_number: u64, book: &[u64]) -> (u64, Vec<u64>) {
+    let (number, left) = withdrawing_beside(&list_beside(book), 1, entry_number, book);
+    let turned = exchanged(book);
+    let as_two = withdrawing_beside(&list_beside(&turned), 2, entry_number, &turned);
+    assert_eq!(as_two, (number, exchanged(&left)), "owner 2");
+    (number, left)
+}
+
+/// A withdrawal that is answered with 0 and leaves this book.
+#[track_caller]
+fn withdraws(entry_number: u64, book: &[u64], left: &[u64]) {
+    assert_eq!(withdrawing(entry_number, book), (0, left.to_vec()));
+}
+
+/// A withdrawal that is refused, and changes nothing.
+#[track_caller]
+fn does_not_withdraw(entry_number: u64, book: &[u64], refusal: u64) {
+    assert_eq!(withdrawing(entry_number, book), (refusal, book.to_vec()));
+}
+
+/// A tidy-up on both sides, beside a list: the number, and the book that is left.
+#[track_caller]
+fn tidying_beside(taken: &[u64], book: &[u64]) -> (u64, Vec<u64>) {
+    let (mut left, mut other) = (book.to_vec(), book.to_vec());
+    let number = table::tidy(&mut left, taken);
+    assert_eq!(opinion::tidy(&mut other, taken), number, "the second opinion");
+    assert_eq!(other, left, "the second opinion");
+    (number, left)
+}
+
+/// A tidy-up that leaves this book, and the same once more.
+#[track_caller]
+fn tidies(book: &[u64], left: &[u64]) {
+    assert_eq!(tidying_beside(&list_beside(book), book), (0, left.to_vec()));
+    assert_eq!(tidying_beside(&[], left), (0, left.to_vec()), "once more");
 }
 
 /// The same for owner 1, and for owner 2 with the owners exchanged.
@@ -233,19 +320,22 @@ fn totals(book: &[u64], totals: [u64; 9]) {
     totals_for(2, &exchanged(book), totals);
 }
 
-/// All three calls refuse with BOOK, whatever they are asked, and whoever asks.
+/// All five calls refuse with BOOK, whatever they are asked, and whoever asks.
 #[track_caller]
 fn no_book(book: &[u64]) {
     for number in [0, 1, 5, 7, MOST] {
         finds(book, number, alone(BOOK));
+        does_not_withdraw(number, book, BOOK);
         refuses(&one_letter(), number, 28, book, BOOK);
     }
+    assert_eq!(tidying_beside(&list_beside(book), book), (BOOK, book.to_vec()));
     totals(book, alone(BOOK));
     refuses(&two_letters(), 7, 119, book, BOOK);
     refuses(&[], 8, 0, book, BOOK);
     for owner in [0, 2, 3, MOST] {
         finds_for(owner, book, 1, alone(BOOK));
         totals_for(owner, book, alone(BOOK));
+        assert_eq!(withdrawing_beside(&[], owner, 1, book), (BOOK, book.to_vec()));
         assert_eq!(entering_for(owner, &one_letter(), 8, 28, book).0, alone(BOOK));
     }
 }
@@ -255,6 +345,8 @@ fn no_book(book: &[u64]) {
 fn a_book(book: &[u64]) {
     assert_ne!(table::totals(book, 1)[0], BOOK);
     assert_ne!(table::find(book, 1, 1)[0], BOOK);
+    assert_ne!(withdrawing(1, book).0, BOOK);
+    assert_eq!(tidying_beside(&[], book).0, 0);
     assert_ne!(entering(&one_letter(), 4_000, 28, book).0[0], BOOK);
     totals(book, opinion::totals(book, 1));
     finds(book, 1, opinion::find(book, 1, 1));
@@ -547,8 +639,8 @@ fn the_first_row_with_the_number_is_found() {
 // ---- DUPLICATE ----
 
 #[test]
-fn a_file_number_in_any_claimed_row_is_taken() {
-    // 30 in the first row, 31 in the second and third; 32 in the one behind.
+fn a_file_number_that_the_list_has_is_taken() {
+    // The list beside it has 30 and 31; 32 stands in the row behind those claimed.
     for number in [30, 31] {
         refuses(&one_letter(), number, 28, &STRANGE, DUPLICATE);
     }
@@ -649,16 +741,26 @@ fn two_bureaus_in_one_book() {
     finds_for(2, &BOTH, 1, [0, 1, 7, 0, 0, 0, 0, 0, 0]);
     finds_for(1, &BOTH, 2, [0, 2, 7, 0, 0, 2, 1, 0, 540]);
     finds_for(2, &BOTH, 2, alone(NOENTRY));
-    // One row is free, for both.
-    refuses(&two_letters(), 9, 119, &BOTH, FULL);
+    // Two rows are free, for both: the gap, which is written over whole and used first, and the one behind.
+    let gap_used = |owner, number| [&BOTH[..44], &[owner, number, 9, 0, 0, 0, 0, 0, 0], &BOTH[53..]].concat();
     let (answer, _, left) = entering_for(2, &one_letter(), 9, 28, &BOTH);
     assert_eq!((answer[0], answer[12]), (0, 2));
-    assert_eq!(left, with(BOTH, &[(0, 5), (9, 2), (53, 2), (54, 2), (55, 9)]));
-    assert_eq!(entering_for(1, &one_letter(), 8, 28, &left).0, alone(FULL));
-    assert_eq!(entering_for(2, &one_letter(), 8, 28, &left).0, alone(FULL));
+    let mut wanted = gap_used(2, 2);
+    wanted[9] = 2;
+    assert_eq!(left, wanted);
+    assert_eq!(entering_for(1, &two_letters(), 8, 119, &left).0, alone(FULL));
+    assert_eq!(entering_for(2, &two_letters(), 8, 119, &left).0, alone(FULL));
+    let (answer, _, left) = entering_for(1, &one_letter(), 8, 28, &left);
+    assert_eq!((answer[0], answer[12]), (0, 3));
+    (wanted[0], wanted[1], wanted[53], wanted[54], wanted[55]) = (5, 3, 1, 3, 8);
+    assert_eq!(left, wanted);
+    assert_eq!(entering_for(1, &one_letter(), 10, 28, &left).0, alone(FULL));
+    assert_eq!(entering_for(2, &one_letter(), 10, 28, &left).0, alone(FULL));
     let (answer, _, left) = entering_for(1, &one_letter(), 9, 28, &BOTH);
     assert_eq!((answer[0], answer[12]), (0, 3));
-    assert_eq!(left, with(BOTH, &[(0, 5), (1, 3), (53, 1), (54, 3), (55, 9)]));
+    let mut wanted = gap_used(1, 3);
+    wanted[1] = 3;
+    assert_eq!(left, wanted);
 }
 
 /// The same file under the same number for both owners: numbers, totals and entries are alike.
@@ -762,14 +864,317 @@ fn the_brim_is_each_owners_own() {
     assert_eq!(entering_for(2, &one_letter(), 7, 28, &last).0[12], 1);
 }
 
-/// Claimed rows of neither owner are no entries and take their room.
+/// Claimed rows of neither owner are no entries, and are free.
 #[test]
-fn rows_of_neither_take_room() {
+fn rows_of_neither_are_gaps() {
     let zeros = with([0; 35], &[(0, 2)]);
     totals(&zeros, [0; 9]);
     [0, 1].into_iter().for_each(|number| finds_none(&zeros, number));
-    refuses(&one_letter(), 7, 28, &zeros, FULL);
-    assert_eq!(entering(&one_letter(), 0, 28, &with([0; 35], &[(0, 1)])).0[12], 1);
+    // Two gaps and no row behind them: two letters enter, and the rows claimed are still two.
+    enters_two(7, &zeros, 1, &TWO_ENTERED[..35]);
+    assert_eq!(entering(&one_letter(), 0, 28, &with([0; 35], &[(0, 1)])).2[0], 1);
+    for owner in [0, 3, MOST, 1 << 32 | 1] {
+        let gaps = with([0; 35], &[(0, 2), (17, owner), (20, 9), (26, owner), (34, MOST)]);
+        enters_two(7, &gaps, 1, &TWO_ENTERED[..35]);
+    }
+}
+
+// ---- withdrawals ----
+
+/// TWO_ENTERED without its first letter: 0 bundles, 0 debit items, 2 credit items, 1 view, 0 and 540 cents; the gap is zeros.
+#[rustfmt::skip]
+const FIRST_WITHDRAWN: [u64; 46] = [
+    2, 2, 0, 0, 2, 1, 0, 540, 540, 0, 0, 0, 0, 0, 0, 0, 0,
+    0, 0, 0, 0, 0, 0, 0, 0, 0,
+    1, 2, 7, 0, 0, 2, 1, 0, 540,
+    0, 0, 0, 0, 0, 0, 0, 0, 0,
+    0, 0,
+];
+
+/// The list of that book: 7 is owner 1's; there is room for three more.
+const SEVEN: [u64; 9] = [1, 1, 7, 0, 0, 0, 0, 0, 0];
+
+#[test]
+fn a_letter_is_withdrawn() {
+    withdraws(1, &TWO_ENTERED, &FIRST_WITHDRAWN);
+    finds_none(&FIRST_WITHDRAWN, 1);
+    finds(&FIRST_WITHDRAWN, 2, [0, 2, 7, 0, 0, 2, 1, 0, 540]);
+    totals(&FIRST_WITHDRAWN, [0, 1, 0, 0, 2, 1, 0, 540, 540]);
+    // Not a second time, and not what was never given, or is a file number, or 0.
+    [1, 0, 3, 7, MOST, 1 << 32 | 2].into_iter().for_each(|number| does_not_withdraw(number, &FIRST_WITHDRAWN, NOENTRY));
+    // The other letter too: nothing is left but the last number and the rows claimed.
+    let none = with([0; 46], &[(0, 2), (1, 2)]);
+    withdraws(2, &FIRST_WITHDRAWN, &none);
+    totals(&none, [0; 9]);
+    [0, 1, 2].into_iter().for_each(|number| does_not_withdraw(number, &none, NOENTRY));
+    // The second first.
+    let second = with(
+        TWO_ENTERED,
+        &[(4, 1), (5, 1), (7, 7_000), (8, 6_820), (26, 0), (27, 0), (28, 0), (31, 0), (32, 0), (34, 0)],
+    );
+    withdraws(2, &TWO_ENTERED, &second);
+    withdraws(1, &second, &none);
+}
+
+#[test]
+fn its_row_is_used_again_its_number_is_not_and_its_file_number_stays_taken() {
+    let enter = |file: &[u8], number, rows, book: &[u64]| entering_beside(&SEVEN, 1, file, number, rows, book);
+    assert_eq!(enter(&one_letter(), 7, 28, &FIRST_WITHDRAWN).0, alone(DUPLICATE));
+    let none = with([0; 46], &[(0, 2), (1, 2)]);
+    assert_eq!(enter(&one_letter(), 7, 28, &none).0, alone(DUPLICATE));
+    // One gap and one row behind: two letters enter as 3 and 4, the first of them in the gap.
+    let (answer, _, left) = enter(&two_letters(), 8, 119, &FIRST_WITHDRAWN);
+    assert_eq!((&answer[..12], answer[12]), (&READ_TWO[..], 3));
+    let head = [3, 4, 1, 2, 5, 3, 180, 8_080, 7_900, 0, 0, 0, 0, 0, 0, 0, 0];
+    let rows = [1, 3, 8, 1, 2, 1, 1, 180, 7_000, 1, 2, 7, 0, 0, 2, 1, 0, 540, 1, 4, 8, 0, 0, 2, 1, 0, 540];
+    assert_eq!(left, [&head[..], &rows, &[0, 0]].concat());
+    assert_eq!(entering_beside(&SEVEN, 1, &one_letter(), 9, 28, &left).0, alone(FULL));
+    // In an emptied book the rows claimed stay, and numbering goes on.
+    let (answer, _, left) = enter(&one_letter(), 8, 28, &none);
+    assert_eq!(answer[12], 3);
+    assert_eq!(left, with([0; 46], &[(0, 2), (1, 3), (17, 1), (18, 3), (19, 8)]));
+    // A book that is full, one that was full: 35 numbers have two rows.
+    assert_eq!(enter(&one_letter(), 8, 28, &TWO_ENTERED[..35]).0, alone(FULL));
+    let (answer, _, left) = enter(&one_letter(), 8, 28, &FIRST_WITHDRAWN[..35]);
+    assert_eq!((answer[12], left[0]), (3, 2));
+    assert_eq!(left[17..26], [1, 3, 8, 0, 0, 0, 0, 0, 0]);
+}
+
+#[test]
+fn withdrawals_are_each_owners_own() {
+    let list = list_beside(&BOTH);
+    // Both have an entry 1; only owner 1 has a 2.
+    let (number, left) = withdrawing_beside(&list, 2, 1, &BOTH);
+    assert_eq!((number, left), (0, with(BOTH, &[(26, 0), (27, 0), (28, 0)])));
+    assert_eq!(withdrawing_beside(&list, 2, 2, &BOTH), (NOENTRY, BOTH.to_vec()));
+    let (number, left) = withdrawing_beside(&list, 1, 2, &BOTH);
+    assert_eq!(number, 0);
+    let places = [(4, 1), (5, 1), (7, 7_000), (8, 6_820), (35, 0), (36, 0), (37, 0), (40, 0), (41, 0), (43, 0)];
+    assert_eq!(left, with(BOTH, &places));
+    // Row 4 is neither's, entry 3: nobody withdraws it, not even under the number that it has for an owner.
+    for owner in [0, 1, 2, 3, MOST, 1 << 32 | 1] {
+        assert_eq!(withdrawing_beside(&list, owner, 3, &BOTH), (NOENTRY, BOTH.to_vec()));
+    }
+}
+
+#[test]
+fn the_first_row_with_the_number_is_withdrawn() {
+    // 5 stands in the first and the third row of STRANGE: -10 cents net in the first, and 20 less 20 in the third.
+    let first = with(STRANGE, &[(2, 5), (3, 50), (4, 500), (5, 2), (6, 30), (7, 30), (8, 0)]);
+    let first = [&first[..17], &[0; 9], &first[26..]].concat();
+    withdraws(5, &STRANGE, &first);
+    finds(&first, 5, [0, 5, 31, 3, 30, 300, 1, 20, 20]);
+    let both = [&[3, 9, 2, 20, 200, 1, 10, 10, 0][..], &first[9..35], &[0; 9], &first[44..]].concat();
+    withdraws(5, &first, &both);
+    does_not_withdraw(5, &both, NOENTRY);
+    // 7 stands in the row that is not claimed.
+    does_not_withdraw(7, &STRANGE, NOENTRY);
+    // 0 and 2^64 - 1 are numbers like any other; in rows of zeros 0 is nobody's.
+    let others = with(STRANGE, &[(27, 0), (36, MOST)]);
+    assert_eq!(withdrawing(0, &others).1[26..35], [0; 9]);
+    assert_eq!(withdrawing(MOST, &others).1[35..44], [0; 9]);
+    does_not_withdraw(0, &FIRST_WITHDRAWN, NOENTRY);
+}
+
+#[test]
+fn short_tables_have_nothing_to_withdraw() {
+    for length in 0..26 {
+        let zeros = vec![0; length];
+        [0, 1, MOST].into_iter().for_each(|number| does_not_withdraw(number, &zeros, NOENTRY));
+        tidies(&zeros, &zeros);
+    }
+    for place in [1, 9, 17, 25] {
+        let odd = with([0; 30], &[(place, MOST)]);
+        (place + 1..26).for_each(|length| tidies(&odd[..length], &odd[..length]));
+    }
+}
+
+/// A book of three rows, two claimed: owner 1's entry 1 and its entry 2, each with these debit and credit cents; 2^63 and more may pass an i64.
+fn two_of((debit, credit): (u64, u64), (debit_too, credit_too): (u64, u64)) -> [u64; 44] {
+    let mut book = [0; 44];
+    (book[0], book[1], book[6], book[7]) = (2, 2, debit + debit_too, credit + credit_too);
+    book[8] = book[7].wrapping_sub(book[6]);
+    (book[17], book[18], book[24], book[25]) = (1, 1, debit, credit);
+    (book[26], book[27], book[33], book[34]) = (1, 2, debit_too, credit_too);
+    book
+}
+
+#[test]
+fn a_withdrawal_may_carry_the_net_position_to_its_bound_and_no_further() {
+    const TO: u64 = BOUND as u64;
+    // Without entry 1 the net is what entry 2 has.
+    for (first, second) in
+        [((1, 0), (0, TO)), ((0, 1), (TO, 0)), ((0, 5), (0, TO)), ((5, 0), (TO, 0)), ((0, 0), (0, TO))]
+    {
+        let (number, left) = withdrawing(1, &two_of(first, second));
+        assert_eq!(number, 0);
+        assert_eq!((left[6], left[7], left[8]), (second.0, second.1, second.1.wrapping_sub(second.0)));
+        assert_eq!(left[17..26], [0; 9]);
+    }
+    for (first, second) in [
+        ((1, 0), (0, TO + 1)),
+        ((0, 1), (TO + 1, 0)),
+        ((0, 5), (0, TO + 1)),
+        ((5, 0), (TO + 1, 0)),
+        ((0, 0), (0, TO + 1)),
+    ] {
+        does_not_withdraw(1, &two_of(first, second), RANGE);
+    }
+    // From the ends of an i64, and past them.
+    does_not_withdraw(1, &two_of((5, 0), (0, (1 << 63) + 4)), RANGE);
+    does_not_withdraw(1, &two_of((0, 5), ((1 << 63) + 5, 0)), RANGE);
+    // Without entry 1 it would be -(2^64 - 1), or 2^64 - 1, of which 64 bits leave 1 and -1.
+    does_not_withdraw(1, &two_of((0, MOST), (MOST, 0)), RANGE);
+    does_not_withdraw(1, &two_of((MOST, 0), (0, MOST)), RANGE);
+    // Credits and debits near 2^64 on both sides, and a small net.
+    let (number, left) = withdrawing(1, &two_of((1, 2), (MOST - 1, MOST - 2)));
+    assert_eq!((number, left[6], left[7], left[8]), (0, MOST - 1, MOST - 2, MOST));
+    // The other owner's does not matter.
+    let mut other = [&two_of((0, 1), (0, 2))[..35], &[2, 1, 8, 0, 0, 0, 0, 0, TO + 1]].concat();
+    (other[0], other[15], other[16]) = (3, TO + 1, TO + 1);
+    assert_eq!(withdrawing_beside(&[], 1, 1, &other).0, 0);
+    assert_eq!(withdrawing_beside(&[], 2, 1, &other).0, 0);
+}
+
+#[test]
+fn noentry_comes_before_range_and_book_before_both() {
+    let beyond = with_net(BOUND + 1);
+    // Whatever is asked for, the net would be beyond, but for entry 1.
+    [0, 2, 7, MOST].into_iter().for_each(|number| does_not_withdraw(number, &beyond, NOENTRY));
+    let (number, left) = withdrawing(1, &beyond);
+    assert_eq!((number, left[8]), (0, 0));
+    let out = two_of((0, 0), (0, BOUND as u64 + 1));
+    does_not_withdraw(1, &out, RANGE);
+    does_not_withdraw(3, &out, NOENTRY);
+    assert_eq!(withdrawing_beside(&[], 3, 1, &out), (NOENTRY, out.to_vec()));
+    assert_eq!(withdrawing_beside(&[], 2, 1, &out), (NOENTRY, out.to_vec()));
+    for list in [vec![1], vec![1, 5], vec![2, 1, 7, 0], vec![MOST, 1, 7]] {
+        for (owner, number) in [(1, 1), (1, 3), (2, 1), (3, 1), (0, 0)] {
+            assert_eq!(withdrawing_beside(&list, owner, number, &out), (BOOK, out.to_vec()));
+        }
+    }
+    no_book(&with(out, &[(8, 1)]));
+}
+
+// ---- tidy-ups ----
+
+#[test]
+fn a_tidy_up_closes_gaps() {
+    tidies(&[0; 46], &[0; 46]);
+    tidies(&TWO_ENTERED, &TWO_ENTERED);
+    // Owner 1's second entry moves up, zeros stand where it was, and one row is claimed.
+    let left = [&[1], &FIRST_WITHDRAWN[1..17], &FIRST_WITHDRAWN[26..35], &[0; 20]].concat();
+    tidies(&FIRST_WITHDRAWN, &left);
+    finds(&left, 2, [0, 2, 7, 0, 0, 2, 1, 0, 540]);
+    totals(&left, [0, 1, 0, 0, 2, 1, 0, 540, 540]);
+    assert_eq!(entering_beside(&SEVEN, 1, &one_letter(), 8, 28, &left).0[12], 3);
+    // The gap of BOTH is behind its entries, with anything in it: zeros afterwards.
+    tidies(&BOTH, &[&[3], &BOTH[1..44], &[0; 18]].concat());
+    // A book of nothing but gaps.
+    tidies(&[&[2][..], &[0; 16], &[3, 9, 9, 9, 9, 9, 9, 9, 9], &[0, 1, 1, 1, 1, 1, 1, 1, 1]].concat(), &[0; 35]);
+    tidies(&with([0; 46], &[(0, 2), (1, 2)]), &with([0; 46], &[(1, 2)]));
+}
+
+/// Six rows, five claimed: a gap with anything in it, owner 2's 4, a gap of zeros, owner 1's 9, owner 2's 1; the sixth row and the numbers behind it are
+/// anything, and stay so.
+#[test]
+fn order_numbers_and_figures_survive() {
+    let gap = [3, 9, 9, 9, 9, 9, 9, 9, 9];
+    let (one, two, three) = ([2, 4, 70, 1, 2, 3, 4, 5, 6], [1, 9, 71, 0, 1, 0, 1, 8, 0], [2, 1, 72, 6, 5, 4, 3, 2, 1]);
+    let behind = [1, 5, 5, 5, 5, 5, 5, 5, 5, 66, 67];
+    let parts = [9, 0, 1, 0, 1, 8, 0, held(-8), 4, 7, 7, 7, 7, 7, 7, 0];
+    let book = [&[5][..], &parts, &gap, &one, &[0; 9], &two, &three, &behind].concat();
+    let left = [&[3][..], &parts, &one, &two, &three, &[0; 18], &behind].concat();
+    assert_eq!(tidying_beside(&SEVEN, &book), (0, left.clone()));
+    for owner in [1, 2] {
+        for number in [1, 4, 5, 9] {
+            finds_for(owner, &left, number, table::find(&book, owner, number));
+        }
+        totals_for(owner, &left, table::totals(&book, owner));
+    }
+    // Without a tidy-up a file goes into the gaps, first the lower; after it, behind the entries.
+    let (answer, _, entered) = entering_beside(&SEVEN, 1, &two_letters(), 8, 119, &book);
+    assert_eq!((answer[12], entered[0]), (10, 5));
+    assert_eq!(entered[17..26], [1, 10, 8, 1, 2, 1, 1, 180, 7_000]);
+    assert_eq!(entered[35..44], [1, 11, 8, 0, 0, 2, 1, 0, 540]);
+    assert_eq!((&entered[26..35], &entered[44..]), (&book[26..35], &book[44..]));
+    let (answer, _, entered) = entering_beside(&SEVEN, 1, &two_letters(), 8, 119, &left);
+    assert_eq!((answer[12], entered[0]), (10, 5));
+    assert_eq!(entered[44..62], [1, 10, 8, 1, 2, 1, 1, 180, 7_000, 1, 11, 8, 0, 0, 2, 1, 0, 540]);
+    assert_eq!((&entered[17..44], &entered[62..]), (&left[17..44], &left[62..]));
+    assert_eq!(tidying_beside(&[2, 0, 0], &book), (BOOK, book));
+}
+
+// ---- the list of file numbers taken ----
+
+#[test]
+fn the_list_alone_decides_duplicate() {
+    let enter = |list: &[u64], owner, number| entering_beside(list, owner, &one_letter(), number, 28, &TWO_ENTERED).0;
+    // The rows have 7 for owner 1, and the list has nothing: 7 is free.
+    assert_eq!(enter(&[0, 0, 0], 1, 7)[12], 3);
+    // The list has 6 for owner 1, and no row has it.
+    assert_eq!(enter(&[1, 1, 6, 0, 0], 1, 6), alone(DUPLICATE));
+    assert_eq!(enter(&[1, 1, 6, 0, 0], 1, 7)[12], 3);
+    assert_eq!(enter(&[1, 1, 6, 0, 0], 2, 6)[12], 1);
+    // First, second, third of three; 0 and 2^64 - 1 are numbers like any other; nothing behind those claimed is looked at.
+    let three = [3, 1, 0, 2, MOST, 1, MOST, 1, 50, 2, 51];
+    for (owner, number, first) in [(1, 0, 0), (2, MOST, 0), (1, MOST, 0), (2, 0, 1), (1, 50, 3), (2, 51, 1), (1, 51, 3)]
+    {
+        let answer = enter(&three, owner, number);
+        assert_eq!((answer[0], answer[12]), (if first == 0 { DUPLICATE } else { 0 }, first));
+    }
+    // A place of neither owner takes nothing, for either; nor do numbers turned round, or a claim.
+    for nobody in [0, 3, MOST, 1 << 32 | 1, 1 << 63 | 2] {
+        let list = [2, nobody, 7, 6, 1, 0, 0];
+        assert_eq!(enter(&list, 1, 7)[12], 3);
+        assert_eq!(enter(&list, 2, 7)[12], 1);
+        assert_eq!((enter(&list, 1, 6)[12], enter(&list, 1, 2)[12]), (3, 3));
+    }
+}
+
+#[test]
+fn a_file_takes_one_place_however_many_letters_it_has() {
+    let (answer, _, _) = entering_beside(&[0, 9, 9], 1, &two_letters(), 7, 119, &[0; 46]);
+    assert_eq!(answer[12], 1);
+    for list in [vec![], vec![0], vec![0, 9], vec![1, 1, 8], vec![1, 2, 7, 9], vec![1, 0, 0], vec![2, 3, 7, MOST, MOST]]
+    {
+        assert_eq!(entering_beside(&list, 1, &two_letters(), 7, 119, &[0; 46]).0, alone(FULL));
+        assert_eq!(entering_beside(&list, 2, &one_letter(), 6, 28, &[0; 46]).0, alone(FULL));
+    }
+    // DUPLICATE and RANGE come first, and the reader.
+    assert_eq!(entering_beside(&[1, 1, 8], 1, &two_letters(), 8, 119, &[0; 46]).0, alone(DUPLICATE));
+    assert_eq!(entering_beside(&[], 1, &file_of(&[('1', 1)]), 7, 700, &with_net(BOUND)).0, alone(RANGE));
+    assert_eq!(entering_beside(&[1, 1, 8], 1, &[], 8, 0, &[0; 46]).0, alone(SIZE));
+    assert_eq!(entering_beside(&[1, 1, 8], 1, &two_letters(), 8, 118, &[0; 46]).0[..2], [ROOM, 17]);
+    assert_eq!(entering_beside(&[1, 1, 8], 0, &two_letters(), 8, 118, &[0; 46]).0, alone(NOENTRY));
+}
+
+#[test]
+fn more_places_claimed_than_there_are() {
+    let book = TWO_ENTERED;
+    let calls = |list: &[u64], refusal: bool| {
+        for owner in [0, 1, 2, 3, MOST] {
+            for (file, rows) in [(one_letter(), 28), (two_letters(), 0), (vec![], 0)] {
+                let answer = entering_beside(list, owner, &file, 7, rows, &book).0;
+                assert_eq!(answer == alone(BOOK), refusal, "{list:?}");
+            }
+            let (number, left) = withdrawing_beside(list, owner, 1, &book);
+            assert_eq!((number == BOOK, left == book), (refusal, number > 0));
+        }
+        assert_eq!(tidying_beside(list, &book), (if refusal { BOOK } else { 0 }, book.to_vec()));
+    };
+    // A list without its first number claims nothing. Places are whole pairs behind it.
+    for list in [vec![], vec![0], vec![0, 5], vec![1, 5, 5], vec![1, 5, 5, 5], vec![2, 5, 5, 5, 5], vec![0, MOST, MOST]]
+    {
+        calls(&list, false);
+    }
+    for list in [vec![1], vec![MOST], vec![1, 5], vec![2, 5, 5], vec![2, 5, 5, 5], vec![3, 5, 5, 5, 5]] {
+        calls(&list, true);
+    }
+    // Twice 2^63 is 0 but for 2^64; the low half fits; the sign.
+    for claimed in [1 << 63, 1 << 63 | 1, 1 << 32, 1 << 32 | 1, MOST, MOST - 1] {
+        calls(&[claimed, 5, 5, 5, 5], true);
+    }
 }
 
 // ---- the net position ----

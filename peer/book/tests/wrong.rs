@@ -101,8 +101,8 @@ enum Slip {
     FullBeforeRoom,
     RowsFilledWhenRefused,
     DuplicateBehind,
-    DuplicateInFirstRowOnly,
-    DuplicateInLastRowOnly,
+    DuplicateInFirstPlaceOnly,
+    DuplicateInLastPlaceOnly,
     DuplicateByLowHalf,
     DuplicateByHighHalf,
     DuplicateOfEntryNumber,
@@ -137,6 +137,83 @@ enum Slip {
     TotalsOfLastNumber,
     ReaderRefusesWithoutPlace,
     RefusalWithTotals,
+    // Request 10.
+    WithdrawnStillFound,
+    WithdrawnNumberGivenAgain,
+    WithdrawnFileNumberFreed,
+    WithdrawnFiguresLeft,
+    WithdrawLowersClaim,
+    WithdrawLowersClaimAtTheEnd,
+    WithdrawClosesTheGap,
+    TotalNotLowered(usize),
+    NetNotLowered,
+    NetRaised,
+    WithdrawsTheLast,
+    WithdrawsTheOthers,
+    WithdrawsNeithers,
+    WithdrawsBehind,
+    WithdrawsNobodys,
+    WithdrawsTheWholeFile,
+    WithdrawNoZero,
+    WithdrawRangeNotJudged,
+    WithdrawRangeWraps,
+    WithdrawRangeAtTheBound,
+    WithdrawRangeACentMore,
+    WithdrawRangeAboveAlone,
+    WithdrawRangeBelowAlone,
+    WithdrawRangeOnlyOutward,
+    WithdrawRangeOnlyFromWithin,
+    WithdrawRangeOfTheOther,
+    WithdrawRangeAdds,
+    WithdrawRangeBeforeNoentry,
+    WithdrawNoentryBeforeBook,
+    WithdrawRangeBeforeBook,
+    WithdrawRangeChanges,
+    GapsNotFree,
+    GapsUsedLast,
+    HighestGapFirst,
+    GapsUsedFromTheFirstOn,
+    GapNotOverwritten,
+    ClaimGrowsByLetters,
+    ClaimIsEntries,
+    RowsBehindBeforeGapsWhenFew,
+    TidyTurnsTheOrder,
+    TidyMovesTheLastIntoTheGap,
+    TidySortsByOwner,
+    TidySortsByNumber,
+    TidyLeavesOldNumbers,
+    TidyKeepsTheClaim,
+    TidyClosesTheFirstGapAlone,
+    TidyZeroesTheRest,
+    TidyNumbersAnew,
+    TidyDropsTheSecondOwners,
+    TidyKeepsGapsWithFigures,
+    TidyLowersTheLast,
+    TidyWithoutJudging,
+    ListNotJudgedEntering,
+    ListNotJudgedWithdrawing,
+    ListNotJudgedTidying,
+    ListClaimTwiceWraps,
+    ListClaimInLowHalf,
+    ListClaimSigned,
+    ListClaimToItsLast,
+    HalfAPlaceCounts,
+    ListOwnersJudged,
+    ListWithoutItsFirstNumberIsNoBook,
+    DuplicateByRows,
+    DuplicateByRowsToo,
+    DuplicateOfAPlaceTurned,
+    PlaceNotTaken,
+    PlaceForEachLetter,
+    PlaceOfNobody,
+    PlaceOverTheLast,
+    PlaceTakenWhenRefused,
+    PlacesNotJudged,
+    NoFreePlaceLeft,
+    PlacesForEachLetter,
+    PlacesBeforeDuplicate,
+    PlacesBeforeRange,
+    PlacesBeforeReader,
 }
 
 struct Wrong(Slip);
@@ -148,6 +225,11 @@ fn sum(slip: Slip, numbers: impl Iterator<Item = u64>) -> Option<u64> {
         Slip::SumsStopAtTheMost => Some(numbers.fold(0, u64::saturating_add)),
         _ => numbers.map(u128::from).sum::<u128>().try_into().ok(),
     }
+}
+
+/// The first refusal that is due.
+fn first_of<const COUNT: usize>(order: [(u64, bool); COUNT]) -> Option<u64> {
+    order.into_iter().find(|(_, due)| *due).map(|(number, _)| number)
 }
 
 impl Wrong {
@@ -322,35 +404,99 @@ impl Wrong {
             && last_is_right
     }
 
-    fn is_duplicate(&self, book: &[u64], owner: u64, file_number: u64) -> bool {
-        let claimed = self.claimed(book);
-        let rows = match self.0 {
-            Slip::DuplicateBehind => 0..self.there(book),
-            Slip::DuplicateInFirstRowOnly => 0..claimed.min(1),
-            Slip::DuplicateInLastRowOnly => claimed.saturating_sub(1)..claimed,
-            _ => 0..claimed,
+    /// The places of the list, those claimed or all.
+    fn places<'a>(&self, taken: &'a [u64], all: bool) -> Vec<&'a [u64]> {
+        let claimed = if all { usize::MAX } else { places_claimed(taken) as usize };
+        taken.get(PLACES..).unwrap_or_default().chunks_exact(PLACE).take(claimed).collect()
+    }
+
+    fn list_is_right(&self, taken: &[u64]) -> bool {
+        let (claimed, there) = (places_claimed(taken), places_there(taken.len()) as u64);
+        match self.0 {
+            Slip::ListClaimTwiceWraps => claimed.wrapping_mul(2) <= 2 * there,
+            Slip::ListClaimInLowHalf => claimed % (1 << 32) <= there,
+            Slip::ListClaimSigned => claimed as i64 <= there as i64,
+            Slip::ListClaimToItsLast => claimed <= there + 1,
+            Slip::HalfAPlaceCounts => claimed <= taken.len() as u64 / 2,
+            Slip::ListOwnersJudged => {
+                claimed <= there && self.places(taken, false).iter().all(|place| is_owner(place[0]))
+            }
+            Slip::ListWithoutItsFirstNumberIsNoBook => !taken.is_empty() && claimed <= there,
+            _ => claimed <= there,
+        }
+    }
+
+    fn is_duplicate(&self, book: &[u64], taken: &[u64], owner: u64, file_number: u64) -> bool {
+        let places = self.places(taken, self.is(Slip::DuplicateBehind));
+        let looked_at = match self.0 {
+            Slip::DuplicateInFirstPlaceOnly => &places[..places.len().min(1)],
+            Slip::DuplicateInLastPlaceOnly => &places[places.len().saturating_sub(1)..],
+            Slip::DuplicateByRows => &[],
+            _ => &places[..],
         };
-        rows.into_iter().any(|row| {
-            let found = self.cell(book, row, FILE_NUMBER);
-            let own = self.is_own(book, row, owner);
-            let whose = self.cell(book, row, OWNER);
+        let by_rows = matches!(self.0, Slip::DuplicateByRows | Slip::DuplicateByRowsToo | Slip::DuplicateOfEntryNumber);
+        let column = if self.is(Slip::DuplicateOfEntryNumber) { NUMBER } else { FILE_NUMBER };
+        let has = |row: u64| self.is_own(book, row, owner) && self.cell(book, row, column) == file_number;
+        if by_rows && (0..self.claimed(book)).any(has) {
+            return true;
+        }
+        looked_at.iter().any(|place| {
+            let (whose, found) = (place[0], place[1]);
+            let own = whose == owner;
             match self.0 {
                 Slip::DuplicateOverBoth => found == file_number && is_owner(whose),
                 Slip::DuplicateOfTheOther => found == file_number && whose != owner && is_owner(whose),
                 Slip::DuplicateOfNeither => found == file_number && (own || !is_owner(whose)),
                 Slip::DuplicateByLowHalf => own && found % (1 << 32) == file_number % (1 << 32),
                 Slip::DuplicateByHighHalf => own && found >> 32 == file_number >> 32 && found >> 32 > 0,
-                Slip::DuplicateOfEntryNumber => own && self.cell(book, row, NUMBER) == file_number,
+                Slip::DuplicateOfAPlaceTurned => own && found == file_number || found == owner && whose == file_number,
                 Slip::ZeroIsNoFileNumber => own && found == file_number && file_number > 0,
                 _ => own && found == file_number,
             }
         })
     }
 
+    /// The rows that may be written, in the order of the slip.
+    fn free_rows(&self, book: &[u64]) -> Vec<u64> {
+        let (claimed, there) = (self.claimed(book), self.there(book));
+        let mut gaps: Vec<u64> = (0..claimed).filter(|row| !is_owner(self.cell(book, *row, OWNER))).collect();
+        let behind = claimed..there;
+        match self.0 {
+            Slip::GapsNotFree => behind.collect(),
+            Slip::GapsUsedLast => behind.chain(gaps).collect(),
+            Slip::HighestGapFirst => gaps.into_iter().rev().chain(behind).collect(),
+            // The first gap, and the rows that follow it.
+            Slip::GapsUsedFromTheFirstOn if !gaps.is_empty() => {
+                let first = gaps.remove(0);
+                let rest: Vec<u64> = (first + 1..there).collect();
+                [first].into_iter().chain(rest).take(gaps.len() + 1 + behind.count()).collect()
+            }
+            _ => gaps.into_iter().chain(behind).collect(),
+        }
+    }
+
+    /// Whether the list has no place for the file.
+    fn is_full_of_places(&self, paper: &Paper, taken: &[u64]) -> bool {
+        let free = places_there(taken.len()) as u64 - places_claimed(taken).min(places_there(taken.len()) as u64);
+        match self.0 {
+            Slip::PlacesNotJudged => false,
+            Slip::NoFreePlaceLeft => free <= 1,
+            Slip::PlacesForEachLetter => free < paper.letters.len() as u64,
+            Slip::HalfAPlaceCounts => taken.len() as u64 / 2 == places_claimed(taken),
+            _ => free == 0,
+        }
+    }
+
     fn is_full(&self, paper: &Paper, owner: u64, book: &[u64]) -> bool {
         let most = u128::from(u64::MAX);
         let letters = paper.letters.len() as u64;
-        let free = self.there(book) - self.claimed(book);
+        let free = match self.0 {
+            // Gaps are used only where there is no row behind.
+            Slip::RowsBehindBeforeGapsWhenFew if self.there(book) > self.claimed(book) => {
+                self.there(book) - self.claimed(book)
+            }
+            _ => self.free_rows(book).len() as u64,
+        };
         let rows = match self.0 {
             Slip::NoFreeRowLeft => letters >= free,
             Slip::RowsNotJudged => free == 0,
@@ -377,15 +523,20 @@ impl Wrong {
     }
 
     /// The refusal of the book's own that entering gives, by the order of the slip, or the reader's.
-    fn refusal(&self, paper: &Paper, file_number: u64, owner: u64, rows: usize, book: &[u64]) -> Option<u64> {
+    fn refusal(&self, paper: &Paper, file_number: u64, owner: u64, lent: &Lent) -> Option<u64> {
+        let (rows, book, taken) = (lent.rows.len(), &*lent.book, &*lent.taken);
         let read = paper.reading.with_rows(rows / 7).number as u64;
         let like = self.taken_for(owner).unwrap_or(1);
-        let no_book = (BOOK, !self.is_book(book, owner));
+        let list_is_right = self.is(Slip::ListNotJudgedEntering) || self.list_is_right(taken);
+        let no_book = (BOOK, !self.is_book(book, owner) || !list_is_right);
         let nobody = (NOENTRY, self.taken_for(owner).is_none() && !self.is(Slip::OwnerNotJudged));
         let by_reader = (read, read > 0 && read != ROOM);
         let for_room = (read, read == ROOM);
-        let duplicate = (DUPLICATE, self.is_duplicate(book, self.taken_for(owner).unwrap_or(owner), file_number));
-        let full = (FULL, (read == ROOM || read == ACCEPTED) && self.is_full(paper, like, book));
+        let whose = self.taken_for(owner).unwrap_or(owner);
+        let duplicate = (DUPLICATE, self.is_duplicate(book, taken, whose, file_number));
+        let no_place = self.is_full_of_places(paper, taken);
+        let places = (FULL, no_place);
+        let full = (FULL, (read == ROOM || read == ACCEPTED) && (no_place || self.is_full(paper, like, book)));
         let range = (RANGE, self.is_out_of_range(paper, like, book));
         let order = match self.0 {
             Slip::ReaderBeforeBook => [by_reader, no_book, nobody, for_room, duplicate, range, full],
@@ -401,9 +552,18 @@ impl Wrong {
             Slip::RangeBeforeRoom => [no_book, nobody, by_reader, range, for_room, duplicate, full],
             Slip::RangeBeforeDuplicate => [no_book, nobody, by_reader, for_room, range, duplicate, full],
             Slip::RangeAfterFull => [no_book, nobody, by_reader, for_room, duplicate, full, range],
+            Slip::PlacesBeforeDuplicate => {
+                return first_of([no_book, nobody, by_reader, for_room, places, duplicate, range, full]);
+            }
+            Slip::PlacesBeforeRange => {
+                return first_of([no_book, nobody, by_reader, for_room, duplicate, places, range, full]);
+            }
+            Slip::PlacesBeforeReader => {
+                return first_of([no_book, nobody, places, by_reader, for_room, duplicate, range, full]);
+            }
             _ => [no_book, nobody, by_reader, for_room, duplicate, range, full],
         };
-        order.into_iter().find(|(_, due)| *due).map(|(number, _)| number)
+        first_of(order)
     }
 
     /// What a letter's row gets, by the slip.
@@ -474,22 +634,203 @@ impl Wrong {
     fn set_down(&self, paper: &Paper, file_number: u64, owner: u64, book: &mut [u64]) {
         self.spoil(book);
         let (mut next, mut claimed) = (self.first_number(owner, book), book[CLAIMED]);
-        for at in 0..paper.letters.len() {
-            let start = self.head_length() + WIDTH * claimed as usize;
+        let free = self.free_rows(book);
+        for (at, free_row) in (0..paper.letters.len()).zip(free) {
+            let start = self.head_length() + WIDTH * free_row as usize;
             let Some(row) = book.get_mut(start..start + WIDTH) else { break };
             let whose = self.owner_written(owner, row[OWNER]);
             row[..FIGURES].copy_from_slice(&[whose, next, file_number]);
-            row[FIGURES..].copy_from_slice(&self.figures(paper, at));
-            (next, claimed) = (next.wrapping_add(1), claimed + 1);
-            self.add(owner, &self.figures(paper, at), book);
-            self.add_net(owner, &self.figures(paper, at), at == 0, book);
+            let figures = self.figures(paper, at);
+            for (figure, number) in figures.into_iter().enumerate() {
+                // A slip: what is nothing is not written.
+                if number > 0 || !self.is(Slip::GapNotOverwritten) {
+                    row[FIGURES + figure] = number;
+                }
+            }
+            next = next.wrapping_add(1);
+            claimed = claimed.max(free_row + 1);
+            self.add(owner, &figures, book);
+            self.add_net(owner, &figures, at == 0, book);
         }
         let moved = [self.last_at(owner), self.last_at(other(owner))];
         let count = if self.is(Slip::OthersLastMoved) { 2 } else { 1 };
         if !self.is(Slip::LastNotKept) {
             moved[..count].iter().for_each(|place| book[*place] = next.wrapping_sub(1));
         }
-        book[CLAIMED] = if self.is(Slip::ClaimNotKept) { book[CLAIMED] } else { claimed };
+        book[CLAIMED] = match self.0 {
+            Slip::ClaimNotKept => book[CLAIMED],
+            Slip::ClaimGrowsByLetters => (book[CLAIMED] + paper.letters.len() as u64).min(self.there(book)),
+            Slip::ClaimIsEntries => (0..claimed).filter(|row| is_owner(self.cell(book, *row, OWNER))).count() as u64,
+            _ => claimed,
+        };
+    }
+
+    fn take_down(&self, paper: &Paper, file_number: u64, owner: u64, taken: &mut [u64]) {
+        let count = if self.is(Slip::PlaceForEachLetter) { paper.letters.len() } else { 1 };
+        for _ in 0..count {
+            let over_the_last = u64::from(self.is(Slip::PlaceOverTheLast)).min(places_claimed(taken));
+            let start = place_start((places_claimed(taken) - over_the_last) as usize);
+            let Some(place) = taken.get_mut(start..start + PLACE) else { return };
+            match self.0 {
+                Slip::PlaceNotTaken => return,
+                Slip::PlaceOfNobody => place[1] = file_number,
+                _ => place.copy_from_slice(&[owner, file_number]),
+            }
+            taken[0] += 1 - over_the_last;
+        }
+    }
+
+    /// The row that a withdrawal takes, by the slip.
+    fn row_withdrawn(&self, book: &[u64], owner: u64, entry_number: u64) -> Option<u64> {
+        let rows = 0..if self.is(Slip::WithdrawsBehind) { self.there(book) } else { self.claimed(book) };
+        let has = |row: &u64| {
+            let (number, whose) = (self.cell(book, *row, NUMBER), self.cell(book, *row, OWNER));
+            let whose_is_right = match self.0 {
+                Slip::WithdrawsTheOthers => is_owner(whose),
+                Slip::WithdrawsNeithers => whose == owner || !is_owner(whose),
+                _ => self.is_own(book, *row, owner),
+            };
+            whose_is_right && number == entry_number && (number > 0 || !self.is(Slip::WithdrawNoZero))
+        };
+        match self.0 {
+            Slip::WithdrawsTheLast => rows.rev().find(has),
+            _ => rows.into_iter().find(has),
+        }
+    }
+
+    /// Whether a withdrawal would carry the net position too far, by the slip; without an entry it takes nothing away.
+    fn is_withdrawal_out_of_range(&self, book: &[u64], owner: u64, row: Option<u64>) -> bool {
+        let cents = |figure: usize| row.map_or(0, |row| i128::from(self.cell(book, row, FIGURES + figure)));
+        let own = cents(CREDIT_CENTS) - cents(DEBIT_CENTS);
+        let before = match self.0 {
+            Slip::WithdrawRangeOfTheOther => self.net(book, other(owner)),
+            _ => self.net(book, owner),
+        };
+        let after = before - own;
+        match self.0 {
+            Slip::WithdrawRangeNotJudged => false,
+            Slip::WithdrawRangeWraps => !in_range(i128::from(after as i64)),
+            Slip::WithdrawRangeAtTheBound => after.abs() >= BOUND,
+            Slip::WithdrawRangeACentMore => after.abs() > BOUND + 1,
+            Slip::WithdrawRangeAboveAlone => after > BOUND,
+            Slip::WithdrawRangeBelowAlone => after < -BOUND,
+            Slip::WithdrawRangeOnlyOutward => !in_range(after) && after.abs() > before.abs(),
+            Slip::WithdrawRangeOnlyFromWithin => !in_range(after) && in_range(before),
+            Slip::WithdrawRangeAdds => !in_range(before + own),
+            _ => !in_range(after),
+        }
+    }
+
+    /// The figures of a row leave the owner's part of the head.
+    fn lower(&self, owner: u64, row: u64, book: &mut [u64]) {
+        let figures: Vec<u64> = (0..SIX).map(|figure| self.cell(book, row, FIGURES + figure)).collect();
+        for figure in (0..SIX).filter(|figure| !self.is(Slip::TotalNotLowered(*figure))) {
+            let place = self.total_at(owner, figure);
+            book[place] = book[place].wrapping_sub(figures[figure]);
+        }
+        let (debit, credit) = (figures[DEBIT_CENTS], figures[CREDIT_CENTS]);
+        let place = self.net_at(owner);
+        book[place] = match self.0 {
+            Slip::NetNotLowered => book[place],
+            Slip::NetRaised => book[place].wrapping_add(credit).wrapping_sub(debit),
+            _ => book[place].wrapping_sub(credit).wrapping_add(debit),
+        };
+    }
+
+    /// What is left of a row that is withdrawn.
+    fn clear(&self, row: u64, book: &mut [u64]) {
+        let start = self.head_length() + WIDTH * row as usize;
+        match self.0 {
+            Slip::WithdrawnStillFound => book[start + FIGURES..start + WIDTH].fill(0),
+            Slip::WithdrawnFiguresLeft => book[start + OWNER] = 0,
+            _ => book[start..start + WIDTH].fill(0),
+        }
+    }
+
+    fn take_out(&self, owner: u64, row: u64, lent: &mut Lent) {
+        let book = &mut *lent.book;
+        let (number, file_number) = (self.cell(book, row, NUMBER), self.cell(book, row, FILE_NUMBER));
+        let rows: Vec<u64> = match self.0 {
+            Slip::WithdrawsTheWholeFile => {
+                let its =
+                    |row: &u64| self.is_own(book, *row, owner) && self.cell(book, *row, FILE_NUMBER) == file_number;
+                (0..self.claimed(book)).filter(its).collect()
+            }
+            _ => vec![row],
+        };
+        for row in rows {
+            self.lower(owner, row, book);
+            self.clear(row, book);
+        }
+        let claimed = book[CLAIMED];
+        match self.0 {
+            Slip::WithdrawLowersClaim => book[CLAIMED] -= 1,
+            Slip::WithdrawLowersClaimAtTheEnd if row + 1 == claimed => book[CLAIMED] -= 1,
+            Slip::WithdrawClosesTheGap => self.close(book),
+            Slip::WithdrawnNumberGivenAgain if book[self.last_at(owner)] == number => book[self.last_at(owner)] -= 1,
+            Slip::WithdrawnFileNumberFreed => {
+                let its = |place: &&mut [u64]| **place == [owner, file_number];
+                let mut places = lent.taken[PLACES..].chunks_exact_mut(PLACE);
+                if let Some(place) = places.find(its) {
+                    place.fill(0);
+                }
+            }
+            _ => {}
+        }
+    }
+
+    /// Closes the gaps, by the slip.
+    fn close(&self, book: &mut [u64]) {
+        let claimed = self.claimed(book) as usize;
+        let rows: Vec<Vec<u64>> =
+            (0..claimed).map(|row| (0..WIDTH).map(|column| self.cell(book, row as u64, column)).collect()).collect();
+        let figures = |row: &[u64]| row[FIGURES..].iter().any(|figure| *figure > 0);
+        let stays = |row: &Vec<u64>| match self.0 {
+            Slip::TidyDropsTheSecondOwners => row[OWNER] == 1,
+            Slip::TidyKeepsGapsWithFigures => is_owner(row[OWNER]) || figures(row),
+            _ => is_owner(row[OWNER]),
+        };
+        let mut kept: Vec<Vec<u64>> = rows.iter().filter(|row| stays(row)).cloned().collect();
+        match self.0 {
+            Slip::TidyTurnsTheOrder => kept.reverse(),
+            Slip::TidySortsByOwner => kept.sort_by_key(|row| row[OWNER]),
+            Slip::TidySortsByNumber => kept.sort_by_key(|row| row[NUMBER]),
+            Slip::TidyNumbersAnew => (1..).zip(&mut kept).for_each(|(number, row)| row[NUMBER] = number),
+            Slip::TidyMovesTheLastIntoTheGap => {
+                kept = rows.clone();
+                while let Some(gap) = kept.iter().position(|row| !is_owner(row[OWNER])) {
+                    kept.swap_remove(gap);
+                }
+            }
+            Slip::TidyClosesTheFirstGapAlone => {
+                kept = rows.clone();
+                if let Some(gap) = kept.iter().position(|row| !is_owner(row[OWNER])) {
+                    kept.remove(gap);
+                }
+            }
+            _ => {}
+        }
+        let count = kept.len();
+        let zeros = match self.0 {
+            Slip::TidyLeavesOldNumbers => count,
+            Slip::TidyZeroesTheRest => self.there(book) as usize,
+            _ => claimed,
+        };
+        kept.resize(zeros.max(count), vec![0; WIDTH]);
+        let start = self.head_length();
+        for (place, number) in (start..book.len()).zip(kept.concat()) {
+            book[place] = number;
+        }
+        if claimed > 0 && !self.is(Slip::TidyKeepsTheClaim) {
+            book[CLAIMED] = count as u64;
+        }
+        if self.is(Slip::TidyLowersTheLast) && claimed > 0 {
+            for owner in OWNERS {
+                let own = (0..count as u64).filter(|row| self.is_own(book, *row, owner));
+                let most = own.map(|row| self.cell(book, row, NUMBER)).max().unwrap_or(0);
+                book[self.last_at(owner)] = most.min(book[self.last_at(owner)]);
+            }
+        }
     }
 
     fn refused_entering(&self, number: u64, paper: &Paper, file_number: u64, owner: u64, lent: Lent) -> Outcome {
@@ -504,6 +845,9 @@ impl Wrong {
             paper.reading.fill(lent.rows);
         }
         let there = self.there(lent.book) > 0;
+        if self.is(Slip::PlaceTakenWhenRefused) && number == FULL {
+            self.take_down(paper, file_number, owner, lent.taken);
+        }
         match self.0 {
             Slip::FullWritesWhatFits if number == FULL && there => self.set_down(paper, file_number, owner, lent.book),
             Slip::FullMovesLast if number == FULL && lent.book.len() > last(owner) => {
@@ -533,13 +877,14 @@ impl Wrong {
 impl Side for Wrong {
     fn enter(&self, paper: &Paper, file_number: u64, owner: u64, lent: Lent) -> Result<Outcome, String> {
         let whose = self.taken_for(owner).unwrap_or(1);
-        if let Some(number) = self.refusal(paper, file_number, owner, lent.rows.len(), lent.book) {
+        if let Some(number) = self.refusal(paper, file_number, owner, &lent) {
             return Ok(self.refused_entering(number, paper, file_number, whose, lent));
         }
         let mut answer = [0; ENTER_ANSWER];
         answer[..12].copy_from_slice(&paper.reading.fill(lent.rows).listed());
         answer[12] = lent.book[self.last_at(whose)].wrapping_add(1);
         self.set_down(paper, file_number, whose, lent.book);
+        self.take_down(paper, file_number, whose, lent.taken);
         if self.is(Slip::FirstIsLast) {
             answer[12] = lent.book[self.last_at(whose)];
         }
@@ -595,6 +940,40 @@ impl Side for Wrong {
         });
         Ok(Outcome::of(&answer))
     }
+
+    fn withdraw(&self, owner: u64, entry_number: u64, mut lent: Lent) -> Result<Outcome, String> {
+        let book = &*lent.book;
+        let judged = !self.is(Slip::WithdrawsNobodys);
+        let nobody = self.taken_for(owner).is_none() && judged;
+        let whose = self.taken_for(owner).unwrap_or(1);
+        let row = self.row_withdrawn(book, whose, entry_number);
+        let list_is_right = self.is(Slip::ListNotJudgedWithdrawing) || self.list_is_right(lent.taken);
+        let no_book = (BOOK, !self.is_book(book, owner) || !list_is_right);
+        let absent = (NOENTRY, nobody || row.is_none());
+        let range = (RANGE, self.is_withdrawal_out_of_range(book, whose, row));
+        let number = match self.0 {
+            Slip::WithdrawNoentryBeforeBook => first_of([absent, no_book, range]),
+            Slip::OwnerBeforeBook => first_of([(NOENTRY, nobody), no_book, absent, range]),
+            Slip::WithdrawRangeBeforeNoentry => first_of([no_book, (NOENTRY, nobody), range, absent]),
+            Slip::WithdrawRangeBeforeBook => first_of([(RANGE, range.1 && !absent.1), no_book, absent, range]),
+            _ => first_of([no_book, absent, range]),
+        };
+        let changes = number.is_none() || self.is(Slip::WithdrawRangeChanges) && number == Some(RANGE);
+        if let Some(row) = row.filter(|_| changes) {
+            self.take_out(whose, row, &mut lent);
+        }
+        Ok(Outcome::bare(number.unwrap_or(0)))
+    }
+
+    fn tidy(&self, lent: Lent) -> Result<Outcome, String> {
+        let list_is_right = self.is(Slip::ListNotJudgedTidying) || self.list_is_right(lent.taken);
+        let is_book = self.is_book(lent.book, 1) && list_is_right;
+        if !is_book && !(self.is(Slip::TidyWithoutJudging) && self.claim_fits(lent.book)) {
+            return Ok(Outcome::bare(BOOK));
+        }
+        self.close(lent.book);
+        Ok(Outcome::bare(0))
+    }
 }
 
 /// The first history on which a wrong book shows, of so many.
@@ -612,7 +991,7 @@ fn the_frame_is_right() {
 }
 
 /// Wrong books by which an owner learns what the other did.
-const NOT_APART: [Slip; 10] = [
+const NOT_APART: [Slip; 14] = [
     Slip::NumbersForBoth,
     Slip::NumbersAboveBoth,
     Slip::OthersLastMoved,
@@ -623,6 +1002,10 @@ const NOT_APART: [Slip; 10] = [
     Slip::DuplicateOverBoth,
     Slip::FindsTheOthers,
     Slip::FindStopsAtTheOthers,
+    Slip::GapsNotFree,
+    Slip::RowsBehindBeforeGapsWhenFew,
+    Slip::WithdrawsTheOthers,
+    Slip::TidyDropsTheSecondOwners,
 ];
 
 /// The first pair of histories of which a wrong book alone tells its owner unlike things.
@@ -719,8 +1102,8 @@ fn every_wrong_book_shows() {
         FullBeforeRoom,
         RowsFilledWhenRefused,
         DuplicateBehind,
-        DuplicateInFirstRowOnly,
-        DuplicateInLastRowOnly,
+        DuplicateInFirstPlaceOnly,
+        DuplicateInLastPlaceOnly,
         DuplicateByLowHalf,
         DuplicateByHighHalf,
         DuplicateOfEntryNumber,
@@ -753,10 +1136,81 @@ fn every_wrong_book_shows() {
         TotalsOfLastNumber,
         ReaderRefusesWithoutPlace,
         RefusalWithTotals,
+        WithdrawnStillFound,
+        WithdrawnNumberGivenAgain,
+        WithdrawnFileNumberFreed,
+        WithdrawnFiguresLeft,
+        WithdrawLowersClaim,
+        WithdrawLowersClaimAtTheEnd,
+        WithdrawClosesTheGap,
+        NetNotLowered,
+        NetRaised,
+        WithdrawsTheLast,
+        WithdrawsNeithers,
+        WithdrawsBehind,
+        WithdrawsNobodys,
+        WithdrawsTheWholeFile,
+        WithdrawNoZero,
+        WithdrawRangeNotJudged,
+        WithdrawRangeWraps,
+        WithdrawRangeAtTheBound,
+        WithdrawRangeACentMore,
+        WithdrawRangeAboveAlone,
+        WithdrawRangeBelowAlone,
+        WithdrawRangeOnlyOutward,
+        WithdrawRangeOnlyFromWithin,
+        WithdrawRangeOfTheOther,
+        WithdrawRangeAdds,
+        WithdrawRangeBeforeNoentry,
+        WithdrawNoentryBeforeBook,
+        WithdrawRangeBeforeBook,
+        WithdrawRangeChanges,
+        GapsUsedLast,
+        HighestGapFirst,
+        GapsUsedFromTheFirstOn,
+        GapNotOverwritten,
+        ClaimGrowsByLetters,
+        ClaimIsEntries,
+        TidyTurnsTheOrder,
+        TidyMovesTheLastIntoTheGap,
+        TidySortsByOwner,
+        TidySortsByNumber,
+        TidyLeavesOldNumbers,
+        TidyKeepsTheClaim,
+        TidyClosesTheFirstGapAlone,
+        TidyZeroesTheRest,
+        TidyNumbersAnew,
+        TidyKeepsGapsWithFigures,
+        TidyLowersTheLast,
+        TidyWithoutJudging,
+        ListNotJudgedEntering,
+        ListNotJudgedWithdrawing,
+        ListNotJudgedTidying,
+        ListClaimTwiceWraps,
+        ListClaimInLowHalf,
+        ListClaimSigned,
+        ListClaimToItsLast,
+        HalfAPlaceCounts,
+        ListOwnersJudged,
+        ListWithoutItsFirstNumberIsNoBook,
+        DuplicateByRows,
+        DuplicateByRowsToo,
+        DuplicateOfAPlaceTurned,
+        PlaceNotTaken,
+        PlaceForEachLetter,
+        PlaceOfNobody,
+        PlaceOverTheLast,
+        PlaceTakenWhenRefused,
+        PlacesNotJudged,
+        NoFreePlaceLeft,
+        PlacesForEachLetter,
+        PlacesBeforeDuplicate,
+        PlacesBeforeRange,
+        PlacesBeforeReader,
     ];
     slips.extend(NOT_APART);
     for figure in 0..SIX {
-        slips.extend([TotalPasses(figure), TotalsNotKept(figure)]);
+        slips.extend([TotalPasses(figure), TotalsNotKept(figure), TotalNotLowered(figure)]);
         slips.extend(OWNERS.map(|owner| TotalLeftOut(owner, figure)));
     }
     let unseen: Vec<Slip> = slips.into_iter().filter(|slip| shows_at(*slip, 3_000).is_none()).collect();

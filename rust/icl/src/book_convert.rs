@@ -7,7 +7,7 @@ use x9180::Book;
 
 use crate::args::Args;
 use crate::book_file::{self, MOST_BYTES, VERSION};
-use crate::book_words::{faulty, free_rows, missing, owner, shown, told};
+use crate::book_words::{faulty, free, missing, owner, shown, told};
 use crate::durable::Watched;
 use crate::output::{self, trouble};
 use crate::screen::{print, with_clock};
@@ -24,7 +24,7 @@ pub fn run(args: Args) -> Result<u8, Stop> {
     let bytes = old.bytes(MOST_BYTES).map_err(|error| trouble(old_path, &error))?;
     let (version, numbers) = book_file::older_in(&bytes).map_err(|fault| faulty(old_path, fault))?;
     let book = book_of(old_path, version, numbers, named)?;
-    let (entries, free) = (entries(old_path, &book)?, free_rows(old_path, &book)?);
+    let (entries, free) = (entries(old_path, &book)?, free(old_path, &book)?);
     old.create_alike(folder, name, &book_file::bytes_of(&book)).map_err(|error| trouble(new_path, &error))?;
     let (old_name, new_name) = (shown(old_path), shown(new_path));
     print(&format!(
@@ -33,7 +33,7 @@ pub fn run(args: Args) -> Result<u8, Stop> {
     Ok(DONE)
 }
 
-/// The book of today with the entries of an older one. Those of version 1 have no owner yet, all others have.
+/// The book of today with the entries of an older one, and the list of their file numbers. Those of version 1 have no owner yet, all others have.
 fn book_of(old_path: &Path, version: u64, numbers: Vec<u64>, named: Option<Owner>) -> Result<Book, Stop> {
     let name = shown(old_path);
     let book = match (version, named) {
@@ -48,10 +48,8 @@ fn book_of(old_path: &Path, version: u64, numbers: Vec<u64>, named: Option<Owner
                 format!("{name} is of version {version}, whose entries have owners: --owner is for version 1 alone");
             return Err(Stop::Usage(words));
         }
-        (_, None) => {
-            let book = Book::with_nets(numbers);
-            book.free_rows().map(|_| book)
-        }
+        (2, None) => checked(Book::with_nets(numbers)),
+        (_, None) => checked(Book::with_list(numbers)),
     };
     book.map_err(|refused| told(old_path, &refused))
 }
@@ -60,7 +58,11 @@ fn book_of(old_path: &Path, version: u64, numbers: Vec<u64>, named: Option<Owner
 fn given_to(owner: Owner, numbers: Vec<u64>) -> Result<Book, Refused> {
     let book = Book::given_to(Owner::ONE, numbers);
     book.totals(owner)?;
-    Ok(Book::given_to(owner, book.into_memory()))
+    Ok(Book::given_to(owner, book.into_memory().0))
+}
+
+fn checked(book: Book) -> Result<Book, Refused> {
+    book.check().map(|()| book)
 }
 
 /// How many entries each owner has.

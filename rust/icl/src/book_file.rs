@@ -7,7 +7,10 @@ use x9180::Book;
 const EVERY_VERSION: &[u8] = b"icl day book, version ";
 
 /// The version of the files that are written here; the first is 1. It ends the first line.
-pub const VERSION: u64 = 3;
+pub const VERSION: u64 = 4;
+
+/// The first version with a list of the file numbers taken.
+const WITH_LIST: u64 = 4;
 
 /// The bytes of the first line, while the version is of one digit.
 const FIRST_LINE: usize = EVERY_VERSION.len() + 2;
@@ -18,8 +21,15 @@ const NUMBER: usize = 8;
 /// The most rows of a book that stands in a file.
 pub const MOST_ROWS: u64 = 1_000_000;
 
-/// The most bytes of such a file: first line, two counts, the numbers, the check sum.
-pub const MOST_BYTES: usize = FIRST_LINE + (Book::numbers_for(MOST_ROWS as usize) + 3) * NUMBER;
+/// The most places for file numbers of such a book.
+pub const MOST_PLACES: u64 = 1_000_000;
+
+/// The most numbers of its table, and of its list.
+const MOST_NUMBERS: [usize; 2] =
+    [Book::numbers_for(MOST_ROWS as usize), Book::numbers_for_places(MOST_PLACES as usize)];
+
+/// The most bytes of such a file: first line, four counts, the numbers, the check sum.
+pub const MOST_BYTES: usize = FIRST_LINE + (4 + MOST_NUMBERS[0] + MOST_NUMBERS[1] + 1) * NUMBER;
 
 /// Why a file holds no book.
 #[derive(Debug, PartialEq, Eq)]
@@ -34,49 +44,57 @@ pub enum Fault {
     NoMemory,
 }
 
-/// The bytes of the file: the first line, how many numbers the book has, how many of them follow, these, and the check sum of all that. The zeros at the
-/// end, which free rows are, are left out.
+/// The bytes of the file: the first line; how many numbers the book's table has and how many of them follow, and the same of its list of file numbers taken;
+/// these numbers; and the check sum of all that. The zeros at the end of either, which free rows and places are, are left out.
 pub fn bytes_of(book: &Book) -> Vec<u8> {
-    let numbers = book.numbers();
-    let stored = numbers.iter().rposition(|number| *number != 0).map_or(0, |last| last + 1);
-    let mut bytes = Vec::with_capacity(FIRST_LINE + (stored + 3) * NUMBER);
+    let (table, list) = (book.numbers(), book.taken());
+    let [of_table, of_list] = [table, list].map(without_zeros);
+    let counts = [table.len(), of_table.len(), list.len(), of_list.len()].map(|count| count as u64);
+    let mut bytes = Vec::with_capacity(FIRST_LINE + (counts.len() + of_table.len() + of_list.len() + 1) * NUMBER);
     bytes.extend_from_slice(EVERY_VERSION);
     bytes.extend(format!("{VERSION}\n").bytes());
-    let counts = [numbers.len() as u64, stored as u64];
-    counts.iter().chain(numbers.iter().take(stored)).for_each(|number| bytes.extend(number.to_le_bytes()));
+    counts.iter().chain(of_table).chain(of_list).for_each(|number| bytes.extend(number.to_le_bytes()));
     let sum = check_sum(&bytes);
     bytes.extend(sum.to_le_bytes());
     bytes
 }
 
+/// All but the zeros at the end.
+fn without_zeros(numbers: &[u64]) -> &[u64] {
+    let stored = numbers.iter().rposition(|number| *number != 0).map_or(0, |last| last + 1);
+    numbers.get(..stored).unwrap_or_default()
+}
+
 /// The book that stands in these bytes, for the library to judge.
 pub fn book_in(bytes: &[u8]) -> Result<Book, Fault> {
-    match table_in(bytes)? {
-        (VERSION, numbers) => Ok(Book::over(numbers)),
-        (older, _) => Err(Fault::Older(older)),
+    match arrays_in(bytes)? {
+        (VERSION, table, list) => Ok(Book::over(table, list)),
+        (older, ..) => Err(Fault::Older(older)),
     }
 }
 
-/// The version and the numbers of an older book.
+/// The version and the table of an older book.
 pub fn older_in(bytes: &[u8]) -> Result<(u64, Vec<u64>), Fault> {
-    match table_in(bytes)? {
-        (VERSION, _) => Err(Fault::OfToday),
-        older => Ok(older),
+    match arrays_in(bytes)? {
+        (VERSION, ..) => Err(Fault::OfToday),
+        (older, table, _) => Ok((older, table)),
     }
 }
 
-/// The version of the file in these bytes, and the numbers of its table.
-fn table_in(bytes: &[u8]) -> Result<(u64, Vec<u64>), Fault> {
+/// The version of the file in these bytes, and the numbers of its table and its list; before there were lists, of none.
+fn arrays_in(bytes: &[u8]) -> Result<(u64, Vec<u64>, Vec<u64>), Fault> {
     let (version, numbers) = first_line(bytes)?;
     if bytes.len() > MOST_BYTES {
         return Err(Fault::Damaged(format!("it is longer than {MOST_BYTES} bytes, and no day book is")));
     }
-    let (counts, rest) = numbers.split_first_chunk::<{ 2 * NUMBER }>().ok_or_else(|| cut_off(bytes))?;
+    let arrays = if version < WITH_LIST { 1 } else { 2 };
+    let (counts, rest) = numbers.split_at_checked(arrays * 2 * NUMBER).ok_or_else(|| cut_off(bytes))?;
     let (stored, sum) = rest.split_last_chunk::<NUMBER>().ok_or_else(|| cut_off(bytes))?;
     let mut counts = numbers_in(counts);
-    let (length, count) = (counts.next().unwrap_or(0), counts.next().unwrap_or(0));
-    if count.checked_mul(NUMBER as u64) != Some(stored.len() as u64) {
-        let words = format!("it has {} bytes, which is not what its counts ask for: {count} numbers", bytes.len());
+    let [length, count, list_length, list_count] = std::array::from_fn(|_| counts.next().unwrap_or(0));
+    let both = u128::from(count) + u128::from(list_count);
+    if both * NUMBER as u128 != stored.len() as u128 {
+        let words = format!("it has {} bytes, which is not what its counts ask for: {both} numbers", bytes.len());
         return Err(Fault::Damaged(words));
     }
     let (stated, found) = (u64::from_le_bytes(*sum), check_sum(bytes.get(..bytes.len() - NUMBER).unwrap_or_default()));
@@ -84,18 +102,19 @@ fn table_in(bytes: &[u8]) -> Result<(u64, Vec<u64>), Fault> {
         let words = format!("its check sum is wrong: {stated:016x} stands there, and its bytes come to {found:016x}");
         return Err(Fault::Damaged(words));
     }
-    Ok((version, with_zeros(stored, length)?))
+    let (of_table, of_list) = stored.split_at_checked(count as usize * NUMBER).ok_or_else(|| cut_off(bytes))?;
+    let table = with_zeros(of_table, length, MOST_NUMBERS[0], "table of a day book")?;
+    Ok((version, table, with_zeros(of_list, list_length, MOST_NUMBERS[1], "list of file numbers")?))
 }
 
-/// A table of so many numbers, of which all but these first ones are zeros.
-fn with_zeros(stored: &[u8], length: u64) -> Result<Vec<u64>, Fault> {
-    let most = Book::numbers_for(MOST_ROWS as usize);
+/// So many numbers, of which all but these first ones are zeros.
+fn with_zeros(stored: &[u8], length: u64, most: usize, what: &str) -> Result<Vec<u64>, Fault> {
     let Some(length) = usize::try_from(length).ok().filter(|length| *length <= most) else {
-        return Err(Fault::Damaged(format!("it tells of {length} numbers, and no day book has more than {most}")));
+        return Err(Fault::Damaged(format!("it tells of {length} numbers, and no {what} has more than {most}")));
     };
     if stored.len() / NUMBER > length {
         let count = stored.len() / NUMBER;
-        return Err(Fault::Damaged(format!("it tells of {length} numbers, and {count} stand in it")));
+        return Err(Fault::Damaged(format!("it tells of {length} numbers of a {what}, and {count} stand in it")));
     }
     let mut numbers = Vec::new();
     numbers.try_reserve_exact(length).map_err(|_| Fault::NoMemory)?;
@@ -171,17 +190,13 @@ mod tests {
         }
     }
 
-    /// A book of two rows with an entry in the first.
-    fn small() -> Vec<u64> {
+    /// A book of two rows and three places with an entry in the first of each.
+    fn small() -> Book {
         let file =
             std::fs::read(concat!(env!("CARGO_MANIFEST_DIR"), "/../../peer/samples/sound-11-credits.x9")).unwrap();
-        let mut book = Book::with_rows(2).unwrap();
+        let mut book = Book::with_rows_and_places(2, 3).unwrap();
         book.enter(&file, 7, Owner::TWO).unwrap();
-        book.into_memory()
-    }
-
-    fn bytes_of_numbers(numbers: &[u64]) -> Vec<u8> {
-        bytes_of(&Book::over(numbers.to_vec()))
+        book
     }
 
     /// The check value that is published for this check sum, CRC-64/XZ, and that of no bytes.
@@ -191,41 +206,57 @@ mod tests {
         assert_eq!(check_sum(b""), 0);
     }
 
-    /// An empty book of one row has 26 numbers, all zeros. The check sum was worked out by another program (xz).
+    /// An empty book of one row and two places has 26 numbers and 5, all zeros. The check sum was worked out by another program (xz).
     #[test]
     fn the_bytes_of_an_empty_book() {
-        let book = Book::with_rows(1).unwrap();
+        let book = Book::with_rows_and_places(1, 2).unwrap();
         let expected = [
-            b"icl day book, version 3\n".as_slice(),
+            b"icl day book, version 4\n".as_slice(),
             &[26, 0, 0, 0, 0, 0, 0, 0, 0, 0, 0, 0, 0, 0, 0, 0],
-            &0xf10c_5684_c8ad_adf6_u64.to_le_bytes(),
+            &[5, 0, 0, 0, 0, 0, 0, 0, 0, 0, 0, 0, 0, 0, 0, 0],
+            &0x8c55_467d_7859_9b66_u64.to_le_bytes(),
         ];
         assert_eq!(bytes_of(&book), expected.concat());
     }
 
     #[test]
     fn what_is_written_is_read() {
-        let tables =
-            [vec![], vec![0], vec![0; 500], vec![u64::MAX; 70], [vec![0; 30], vec![1], vec![0; 30]].concat(), small()];
-        for numbers in tables {
-            let bytes = bytes_of_numbers(&numbers);
-            assert_eq!(book_in(&bytes).unwrap().numbers(), numbers);
-            let stored = numbers.iter().rposition(|number| *number != 0).map_or(0, |last| last + 1);
-            assert_eq!(bytes.len(), 24 + 8 * (3 + stored));
+        let arrays = || {
+            let between = [vec![0; 30], vec![1], vec![0; 30]].concat();
+            [
+                vec![],
+                vec![0],
+                vec![0; 500],
+                vec![u64::MAX; 70],
+                between,
+                small().into_memory().0,
+                small().into_memory().1,
+            ]
+        };
+        let stored = |numbers: &[u64]| numbers.iter().rposition(|number| *number != 0).map_or(0, |last| last + 1);
+        for table in arrays() {
+            for list in arrays() {
+                let bytes = bytes_of(&Book::over(table.clone(), list.clone()));
+                let book = book_in(&bytes).unwrap();
+                assert_eq!((book.numbers(), book.taken()), (&table[..], &list[..]));
+                assert_eq!(bytes.len(), 24 + 8 * (5 + stored(&table) + stored(&list)));
+            }
         }
     }
 
-    /// Whole, but of an older version, as their check sums say too.
+    /// Whole, but of an older version, as their check sums say too: of a table alone.
     #[test]
     fn older_books() {
-        let now = bytes_of_numbers(&small());
+        let (now, table) = (bytes_of(&small()), small().into_memory().0);
         assert_eq!(older_in(&now), Err(Fault::OfToday));
         for version in 1..VERSION {
             let line = format!("icl day book, version {version}\n");
-            let mut older = [line.as_bytes(), &now[24..now.len() - 8]].concat();
+            let numbers = [[35, 26].as_slice(), &table[..26]].concat();
+            let mut older =
+                [line.as_bytes(), &numbers.iter().flat_map(|number| number.to_le_bytes()).collect::<Vec<_>>()].concat();
             older.extend(check_sum(&older).to_le_bytes());
             assert_eq!(book_in(&older).unwrap_err(), Fault::Older(version));
-            assert_eq!(older_in(&older), Ok((version, small())));
+            assert_eq!(older_in(&older), Ok((version, table.clone())));
             older[100] ^= 1;
             assert!(damage(&older).starts_with("its check sum is wrong"));
             assert!(matches!(older_in(&older), Err(Fault::Damaged(_))));
@@ -235,7 +266,7 @@ mod tests {
     /// Each byte changed to each other value, each cut, and bytes added at either end or taken out.
     #[test]
     fn every_damage_is_seen() {
-        let sound = bytes_of_numbers(&small());
+        let sound = bytes_of(&small());
         assert!(book_in(&sound).is_ok());
         let mut changed = sound.clone();
         for at in 0..sound.len() {
@@ -254,40 +285,50 @@ mod tests {
 
     #[test]
     fn words_of_damage() {
-        let sound = bytes_of_numbers(&small());
+        let sound = bytes_of(&small());
         assert_eq!(damage(b""), "the file is empty");
-        let first_line = "it does not begin with the line \"icl day book, version 3\"";
-        for begin in ["icl", "icl day book, version 3", "icl day book, version \n", "ICL day book, version 3\n", "\n"] {
+        let first_line = "it does not begin with the line \"icl day book, version 4\"";
+        for begin in ["icl", "icl day book, version 4", "icl day book, version \n", "ICL day book, version 4\n", "\n"] {
             assert_eq!(damage(begin.as_bytes()), first_line, "{begin}");
         }
         for (line, version) in
-            [("4\n", "4"), ("10\n", "10"), ("0", "0"), ("03", "03"), ("4294967296 of\n", "4294967296")]
+            [("5\n", "5"), ("10\n", "10"), ("0", "0"), ("04", "04"), ("4294967296 of\n", "4294967296")]
         {
-            let words = format!("it says that it is of version {version}, and this icl reads version 3");
+            let words = format!("it says that it is of version {version}, and this icl reads version 4");
             assert_eq!(damage(format!("icl day book, version {line}").as_bytes()), words);
         }
         assert_eq!(damage(&sound[..24]), "it ends after 24 bytes, before its numbers do");
-        assert_eq!(damage(&sound[..47]), "it ends after 47 bytes, before its numbers do");
-        // A head of 17 numbers and the row's 9: 24 + 8 x 29 bytes.
-        assert_eq!(damage(&sound[..48]), "it has 48 bytes, which is not what its counts ask for: 26 numbers");
-        assert_eq!(damage(&sound[..255]), "it has 255 bytes, which is not what its counts ask for: 26 numbers");
+        assert_eq!(damage(&sound[..63]), "it ends after 63 bytes, before its numbers do");
+        // A head of 17 numbers and the row's 9, the count of the list and the place's 2: 24 + 8 x (5 + 29) bytes.
+        assert_eq!(sound.len(), 296);
+        assert_eq!(damage(&sound[..64]), "it has 64 bytes, which is not what its counts ask for: 29 numbers");
+        assert_eq!(damage(&sound[..295]), "it has 295 bytes, which is not what its counts ask for: 29 numbers");
         let mut changed = sound.clone();
         changed[100] ^= 1;
         let stated = u64::from_le_bytes(*sound.last_chunk().unwrap());
         let begin = format!("its check sum is wrong: {stated:016x} stands there, and its bytes come to ");
         assert!(damage(&changed).starts_with(&begin), "{}", damage(&changed));
         // Counts that no file of ours has, with a check sum that is right.
+        let table = "no table of a day book has more than 9000017";
+        let list = "no list of file numbers has more than 2000001";
         for (counts, words) in [
-            ([0, 1], "it tells of 0 numbers, and 1 stand in it"),
-            ([9_000_018, 1], "it tells of 9000018 numbers, and no day book has more than 9000017"),
-            ([u64::MAX, 1], "it tells of 18446744073709551615 numbers, and no day book has more than 9000017"),
+            ([0, 1, 9, 0], "it tells of 0 numbers of a table of a day book, and 1 stand in it".to_string()),
+            ([9, 0, 0, 1], "it tells of 0 numbers of a list of file numbers, and 1 stand in it".to_string()),
+            ([9_000_018, 1, 9, 0], format!("it tells of 9000018 numbers, and {table}")),
+            ([u64::MAX, 1, 9, 0], format!("it tells of 18446744073709551615 numbers, and {table}")),
+            ([9, 0, 2_000_002, 1], format!("it tells of 2000002 numbers, and {list}")),
+            (
+                [9, u64::MAX, 9, 2],
+                "it has 72 bytes, which is not what its counts ask for: 18446744073709551617 numbers".to_string(),
+            ),
         ] {
-            let numbers = [counts[0], counts[1], 5].map(u64::to_le_bytes).concat();
-            let mut bytes = [b"icl day book, version 3\n".as_slice(), &numbers].concat();
+            let [length, count, list_length, list_count] = counts;
+            let numbers = [length, count, list_length, list_count, 5].map(u64::to_le_bytes).concat();
+            let mut bytes = [b"icl day book, version 4\n".as_slice(), &numbers].concat();
             bytes.extend(check_sum(&bytes).to_le_bytes());
             assert_eq!(damage(&bytes), words);
         }
-        let long = [b"icl day book, version 3\n".as_slice(), &vec![0; MOST_BYTES]].concat();
-        assert_eq!(damage(&long), "it is longer than 72000184 bytes, and no day book is");
+        let long = [b"icl day book, version 4\n".as_slice(), &vec![0; MOST_BYTES]].concat();
+        assert_eq!(damage(&long), "it is longer than 88000208 bytes, and no day book is");
     }
 }

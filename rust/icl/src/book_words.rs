@@ -25,9 +25,12 @@ pub fn shown(book_path: &Path) -> String {
     words::name(book_path.as_os_str())
 }
 
-pub fn free_rows(book_path: &Path, book: &Book) -> Result<String, Stop> {
-    let free = book.free_rows().map_err(|refused| told(book_path, &refused))?;
-    Ok(format!("free rows: {} of {}", grouped(free), grouped(book.capacity())))
+/// The rows and places that are free.
+pub fn free(book_path: &Path, book: &Book) -> Result<String, Stop> {
+    let rows = book.free_rows().map_err(|refused| told(book_path, &refused))?;
+    let places = book.free_places().map_err(|refused| told(book_path, &refused))?;
+    let lines = [("rows", rows, book.capacity()), ("places", places, book.places())];
+    Ok(lines.map(|(what, free, all)| format!("free {what}: {} of {}", grouped(free), grouped(all))).join("\n"))
 }
 
 /// The line for a refusal by the book.
@@ -35,17 +38,27 @@ pub fn told(book_path: &Path, refused: &Refused) -> Stop {
     Stop::Message(REFUSED, format!("{}: {}: {refused}", shown(book_path), refused.line()))
 }
 
-/// The line for a file that was not entered, and, for want of rows, how more are had.
+/// The line for a file that was not entered, and, for want of rows or places, how more are had.
 pub fn not_entered(book_path: &Path, file: &OsStr, bytes: &[u8], book: &Book, refused: &Refused) -> Stop {
-    match refused {
-        Refused::File(refusal) => input::refused(file, bytes, refusal),
-        Refused::Full(Some(Want::Rows { letters, free })) => {
-            let (name, least) = (shown(book_path), (book.capacity() - free).saturating_add(*letters));
-            let hint = format!("icl book grow {name} --rows N makes room, N being {least} or more");
-            Stop::Message(REFUSED, format!("{name}: {}: {refused}; {hint}", refused.line()))
-        }
-        _ => told(book_path, refused),
+    if let Refused::File(refusal) = refused {
+        return input::refused(file, bytes, refusal);
     }
+    let rows = match refused {
+        Refused::Full(Some(Want::Rows { letters, free })) => {
+            Some(("--rows", (book.capacity() - free).saturating_add(*letters)))
+        }
+        Refused::Full(Some(Want::Places { .. })) => None,
+        _ => return told(book_path, refused),
+    };
+    let places = (book.free_places() == Ok(0)).then(|| ("--places", book.places().saturating_add(1)));
+    let (mut options, mut least) = (String::new(), Vec::new());
+    for ((option, count), letter) in rows.into_iter().chain(places).zip(["N", "M"]) {
+        options.push_str(&format!(" {option} {letter}"));
+        least.push(format!("{letter} being {count} or more"));
+    }
+    let (name, least) = (shown(book_path), least.join(" and "));
+    let hint = format!("icl book grow {name}{options} makes room, {least}");
+    Stop::Message(REFUSED, format!("{name}: {}: {refused}; {hint}", refused.line()))
 }
 
 /// The line for a file that holds no book of today.
@@ -67,7 +80,8 @@ pub fn faulty(book_path: &Path, fault: Fault) -> Stop {
 fn outdated(version: u64) -> String {
     let lacks = match version {
         1 => "whose entries have no owner",
-        _ => "which has no net positions",
+        2 => "which has no net positions",
+        _ => "which has no list of the file numbers taken",
     };
     format!("it is of version {version}, {lacks}, and this icl keeps version {VERSION}")
 }

@@ -357,6 +357,8 @@ mod tests {
         assert_eq!(run(&["book", "new", &book]), CREATED);
         assert_eq!(run(&["book", "enter", &book, &file, "--number", "1", "--owner", "1"]), CHANGED);
         assert_eq!(run(&["book", "grow", &book, "--rows", "20000"]), CHANGED);
+        assert_eq!(run(&["book", "withdraw", &book, "2", "--owner", "1"]), CHANGED);
+        assert_eq!(run(&["book", "tidy", &book]), CHANGED);
         for words in [vec!["show", &book, "1"], vec!["totals", &book], vec!["list", &book]] {
             assert_eq!(run(&[&["book"], &words[..], &["--owner", "1"]].concat()), "");
         }
@@ -369,17 +371,30 @@ mod tests {
     /// A process that ends at any point leaves the old book or the new one, and the next goes on from there.
     #[test]
     fn the_old_or_the_new_at_every_point() {
-        let folder = Folder::new("points");
+        let second = sample("samples/credits-with-pictures.x9");
+        old_or_new("entered", &["enter", "BOOK", &second, "--number", "2", "--owner", "2"]);
+        old_or_new("withdrawn", &["withdraw", "BOOK", "2", "--owner", "1"]);
+        old_or_new("tidied", &["tidy", "BOOK"]);
+    }
+
+    /// The same of one command, on a book with a gap.
+    fn old_or_new(test: &str, command: &[&str]) {
+        let folder = Folder::new(&format!("points-{test}"));
         let (book, fine) = (folder.path("day.book"), folder.path("fine.book"));
-        let [first, second] =
-            ["two-letters", "credits"].map(|name| sample(&format!("samples/{name}-with-pictures.x9")));
+        let first = sample("samples/two-letters-with-pictures.x9");
+        let on = |book: &str| -> Vec<String> {
+            let words = command.iter().map(|word| if *word == "BOOK" { book } else { word });
+            ["book"].into_iter().chain(words).map(str::to_string).collect()
+        };
         run(&["book", "new", &fine]);
         run(&["book", "enter", &fine, &first, "--number", "1", "--owner", "1"]);
+        run(&["book", "withdraw", &fine, "1", "--owner", "1"]);
         let old = fs::read(&fine).unwrap();
-        run(&["book", "enter", &fine, &second, "--number", "2", "--owner", "2"]);
+        run(&on(&fine).iter().map(String::as_str).collect::<Vec<_>>());
         let new = fs::read(&fine).unwrap();
         assert_ne!(old, new);
-        let words = ["book", "enter", &book, &second, "--number", "2", "--owner", "2"];
+        let words = on(&book);
+        let words: Vec<&str> = words.iter().map(String::as_str).collect();
         let mut left = Vec::new();
         for point in 1.. {
             fs::write(&book, &old).unwrap();

@@ -16,12 +16,14 @@ use:
   icl tags --tiff IMAGE...
   icl draft [--force] FILE -o DIR
   icl write [--force] DIR -o FILE
-  icl book new BOOK [--rows N]
+  icl book new BOOK [--rows N] [--places N]
   icl book enter BOOK FILE --number N --owner 1|2
+  icl book withdraw BOOK ENTRY --owner 1|2
+  icl book tidy BOOK
   icl book show BOOK ENTRY --owner 1|2
   icl book list [--csv | --json] BOOK --owner 1|2
   icl book totals BOOK --owner 1|2
-  icl book grow BOOK --rows N
+  icl book grow BOOK [--rows N] [--places N]
   icl book convert OLD NEW [--owner 1|2]
   icl COMMAND --help
   icl --version
@@ -158,36 +160,44 @@ letter.json is not what is asked.
 ";
 
 const BOOK: &str = "\
-icl book new BOOK [--rows N]                       makes an empty day book
+icl book new BOOK [--rows N] [--places N]          makes an empty day book
 icl book enter BOOK FILE --number N --owner 1|2    enters the cash letters of an accepted file
+icl book withdraw BOOK ENTRY --owner 1|2           takes one entry out again
+icl book tidy BOOK                                 closes the gaps that withdrawals left
 icl book show BOOK ENTRY --owner 1|2               shows one entry
 icl book list [--csv | --json] BOOK --owner 1|2    lists all entries of an owner
 icl book totals BOOK --owner 1|2                   shows what they come to, and the net position
-icl book grow BOOK --rows N                        gives the book more rows
+icl book grow BOOK [--rows N] [--places N]         gives the book more rows, or places for file numbers
 icl book convert OLD NEW [--owner 1|2]             writes a book of an older version anew
 
 BOOK is a file of its own (docs/BOOK-FILE.md), which icl book new makes and nothing overwrites; enter makes none.
 Each cash letter of FILE becomes an entry, with the next entry number, and keeps its own bundles, views, debits and
-credits for good, whatever is entered later. A refusal leaves the book as it was.
+credits until it is withdrawn, whatever is entered later. A refusal leaves the book as it was.
 Two bureaus may share a book. Each entry has an owner, and entry numbers, counted from 1, file numbers and totals are
-each owner's own; the free rows are for both.
+each owner's own; the free rows and places are for both.
+withdraw asks nothing and prints the entry that it took out, which nothing brings back: a new entry of the letter gets
+a new entry number, and a new file number, since the file number stays taken. Its row is free for the next file. tidy
+makes the file smaller; it frees no rows, since gaps are used first, and entries keep number, figures and order.
+list shows the entries that are in the book, by their entry numbers.
   --owner N   whose entries, 1 or 2
   --number N  the number that FILE is known by, of your own choosing; each owner may enter it once. FILE may be -
-  --rows N    for how many cash letters there is room, 10,000 unless told otherwise and 1,000,000 at most; grow
-              takes the new number of rows in all and leaves everything else as it is
+  --rows N    for how many cash letters there is room at a time, 10,000 unless told otherwise and 1,000,000 at
+              most; grow takes the new number of rows in all and leaves everything else as it is
+  --places N  for how many file numbers there is room, withdrawn or not, as many as rows unless told otherwise
+              and 1,000,000 at most; grow takes the new number of places in all
   --csv       comma separated, with a first line of column names, amounts in cents
   --json      an array of objects, one on a line, amounts in cents
-Two may enter at once: the second waits for the first. The book is written beside its place, made safe on the
-disk and then renamed, so that after a crash at any instant it is as it was before or with all of FILE entered.
+Two may change it at once: the second waits for the first. The book is written beside its place, made safe on the
+disk and then renamed, so that after a crash at any instant it is as it was before or wholly changed.
 The net position of an owner is its credits minus its debits, below zero when debits exceed.
 A book of an older version is refused: convert writes it anew as NEW and leaves OLD as it is; NEW must not be there
 yet. The entries of a book of version 1 have no owner, and are all given to the one that --owner names.
 
 Refusals are told on standard error: those of icl check FILE, and with record, field and offset 0
-  12 DUPLICATE   the owner has entered the file number already
-  13 FULL        there are more cash letters than free rows (icl book grow helps), or a running total or an
-                 entry number would pass 64 bits
-  15 NOENTRY     the owner has no such entry, or is neither 1 nor 2
+  12 DUPLICATE   the owner has entered the file number already, be it withdrawn or not
+  13 FULL        there are more cash letters than free rows, or no free place for the file number (icl book grow
+                 helps), or a running total or an entry number would pass 64 bits
+  15 NOENTRY     the owner has no such entry, or has withdrawn it, or is neither 1 nor 2
   16 RANGE       the owner's net position would lie beyond 10,000,000,000,000,000.00 either side
   20 BOOK        BOOK is damaged, no day book, or of another version; it is then never written to
 Exit status: 0 done, 1 refused, 2 something could not be read or written, or there is no file BOOK.

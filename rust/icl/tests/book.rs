@@ -43,6 +43,12 @@ fn new(folder: &Folder, rows: u64) -> String {
     book
 }
 
+/// What the book says of free rows and places.
+fn free(book: &str) -> String {
+    let (_, output, _) = run(&format!("book totals {book} --owner 1"));
+    output.split_inclusive('\n').skip(2).collect()
+}
+
 /// Runs a command that is to leave the book as it was.
 fn unchanged(book: &str, words: &str) -> (i32, String, String) {
     let before = fs::read(book).unwrap();
@@ -55,7 +61,7 @@ fn unchanged(book: &str, words: &str) -> (i32, String, String) {
 fn two_days() {
     let folder = Folder::new("book");
     let book = folder.path("day.book");
-    let written = format!("an empty day book of 10,000 rows written to {book}\n");
+    let written = format!("an empty day book of 10,000 rows and 10,000 places for file numbers written to {book}\n");
     assert_eq!(run(&format!("book new {book}")), done(written));
     let entered = |first: u64, number: u64, letters: [&str; 2]| {
         let line = |entry: u64, letter: &str| format!("  entry {entry} of owner 1, file number {number}: {letter}\n");
@@ -77,7 +83,8 @@ fn two_days() {
     assert_eq!(run(&format!("book show {book} 3 --owner 1")), done(shown));
     // 47557 debit cents twice and 47807, 164364 credit cents.
     let totals =
-        "6 entries of owner 1: 9 bundles, 30 views, 13 debits of 1,429.21, 6 credits of 1,643.64\nnet position: +214.43\nfree rows: 9,994 of 10,000\n";
+        "6 entries of owner 1: 9 bundles, 30 views, 13 debits of 1,429.21, 6 credits of 1,643.64\nnet position: +214.43\n\
+         free rows: 9,994 of 10,000\nfree places: 9,997 of 10,000\n";
     assert_eq!(run(&format!("book totals {book} --owner 1")), done(totals));
     assert_eq!(folder.names(""), ["day.book"]);
 }
@@ -91,7 +98,8 @@ fn lists() {
     assert_eq!(run(&format!("book list {book} --owner 1")), done(table));
     assert_eq!(run(&format!("book list --csv {book} --owner 1")), done(columns));
     assert_eq!(run(&format!("book list {book} --json --owner 1")), done("[]\n"));
-    let totals = "0 entries of owner 1: 0 bundles, 0 views, 0 debits of 0.00, 0 credits of 0.00\nnet position: 0.00\nfree rows: 50 of 50\n";
+    let totals = "0 entries of owner 1: 0 bundles, 0 views, 0 debits of 0.00, 0 credits of 0.00\nnet position: 0.00\n\
+                  free rows: 50 of 50\nfree places: 50 of 50\n";
     assert_eq!(run(&format!("book totals {book} --owner 1")), done(totals));
 
     let many = folder.with("many.x9", &many_checks());
@@ -145,7 +153,7 @@ fn two_owners() {
     let of_two =
         "2 entries of owner 2: 3 bundles, 8 views, 4 debits of 475.57, 0 credits of 0.00\nnet position: -475.57\n";
     for (owner, totals) in [(1, of_one), (2, of_two)] {
-        let totals = format!("{totals}free rows: 1 of 5\n");
+        let totals = format!("{totals}free rows: 1 of 5\nfree places: 3 of 5\n");
         assert_eq!(run(&format!("book totals {book} --owner {owner}")), done(totals));
     }
     let columns = "owner,entry,file_number,bundles,debit_items,credit_items,views,debit,credit\n";
@@ -176,6 +184,7 @@ fn other_owners() {
             format!("enter {book} {PICTURED} --number 1"),
             format!("enter {book} peer/samples/damaged-02-check-digit.x9 --number 1"),
             format!("enter {book} {large} --number 1"),
+            format!("withdraw {book} 1"),
             format!("show {book} 1"),
             format!("list {book}"),
             format!("list --json {book}"),
@@ -223,13 +232,13 @@ fn net_positions_out_of_bounds() {
     let with = |name: &str, debit: u64| {
         let head = [1, 0, 0, 0, 0, 0, 0, 0, 0, 1, 1, 1, 0, 0, debit, 0, below_zero(debit)];
         let row = [2, 1, 7, 1, 1, 0, 0, debit, 0];
-        folder.with(name, &book_file(3, 35, &[head.as_slice(), &row].concat()))
+        folder.with(name, &book_file(35, &[head.as_slice(), &row].concat(), 7, &[1, 2, 7]))
     };
     let checks = "peer/samples/sound-2-checks.x9";
     let book = with("there.book", BOUND - 350);
     assert_eq!(run(&format!("book enter {book} {checks} --number 8 --owner 2")).0, 0);
     let totals = "2 entries of owner 2: 2 bundles, 0 views, 3 debits of 10,000,000,000,000,000.00, 0 credits of 0.00\n\
-                  net position: -10,000,000,000,000,000.00\nfree rows: 0 of 2\n";
+                  net position: -10,000,000,000,000,000.00\nfree rows: 0 of 2\nfree places: 1 of 3\n";
     assert_eq!(run(&format!("book totals {book} --owner 2")), done(totals));
     let book = with("beyond.book", BOUND - 349);
     let words = "RANGE: the net position would lie beyond 1000000000000000000 cents either side; \
@@ -281,7 +290,7 @@ fn growing() {
         assert_eq!(unchanged(&book, &format!("book grow {book} --rows {rows}")), expected);
     }
     let before = fs::read(&book).unwrap();
-    assert_eq!(run(&format!("book grow {book} --rows 4")), done("free rows: 2 of 4\n"));
+    assert_eq!(run(&format!("book grow {book} --rows 4")), done("free rows: 2 of 4\nfree places: 1 of 2\n"));
     assert_eq!(run(&format!("book list --csv {book} --owner 1")), list);
     // Of the bytes none but the count of numbers, which was 17 + 2 x 9 = 35 and is 53, and the check sum.
     let after = fs::read(&book).unwrap();
@@ -289,24 +298,45 @@ fn growing() {
     assert_eq!((before[24], after[24], after.len()), (35, 53, before.len()));
     assert_eq!((&after[..24], &after[25..end]), (&before[..24], &before[25..end]));
     assert_eq!(run(&format!("book enter {book} {CREDITED} --number 8 --owner 1")).0, 0);
-    assert_eq!(run(&format!("book totals {book} --owner 1")).1.lines().last(), Some("free rows: 0 of 4"));
+    assert_eq!(free(&book), "free rows: 0 of 4\nfree places: 0 of 2\n");
+    // The list by itself.
+    let expected = trouble(format!("{book} has 2 places already, and none are taken away (icl --help tells more)"));
+    assert_eq!(unchanged(&book, &format!("book grow {book} --places 2")), expected);
+    assert_eq!(unchanged(&book, &format!("book grow {book} --rows 5 --places 2")), expected);
+    let expected = trouble("--rows N or --places N is missing (icl --help tells more)");
+    assert_eq!(unchanged(&book, &format!("book grow {book}")), expected);
+    let list = run(&format!("book list --csv {book} --owner 1"));
+    assert_eq!(run(&format!("book grow {book} --places 3")), done("free rows: 0 of 4\nfree places: 1 of 3\n"));
+    assert_eq!(run(&format!("book grow {book} --places 9 --rows 5")), done("free rows: 1 of 5\nfree places: 7 of 9\n"));
+    assert_eq!(run(&format!("book list --csv {book} --owner 1")), list);
 }
 
-/// The most rows that a book may have, and one more.
+/// The most rows and places that a book may have, and one more.
 #[test]
-fn numbers_of_rows() {
+fn numbers_of_rows_and_places() {
     let folder = Folder::new("rows");
     let book = folder.path("day.book");
-    for rows in ["0", "1000001", "18446744073709551615"] {
-        let expected = trouble("--rows is a number from 1 to 1,000,000 (icl --help tells more)");
-        assert_eq!(run(&format!("book new {book} --rows {rows}")), expected);
+    for option in ["--rows", "--places"] {
+        for count in ["0", "1000001", "18446744073709551615"] {
+            let expected = trouble(format!("{option} is a number from 1 to 1,000,000 (icl --help tells more)"));
+            assert_eq!(run(&format!("book new {book} {option} {count}")), expected);
+        }
+        let noun = option.trim_start_matches('-');
+        let expected =
+            trouble(format!("many is no number of {noun}: a decimal number is needed (icl --help tells more)"));
+        assert_eq!(run(&format!("book new {book} {option} many")), expected);
     }
     assert_eq!(folder.names(""), [""; 0]);
-    let written = format!("an empty day book of 1,000,000 rows written to {book}\n");
+    let written =
+        format!("an empty day book of 1,000,000 rows and 1,000,000 places for file numbers written to {book}\n");
     assert_eq!(run(&format!("book new {book} --rows 1000000")), done(written));
-    assert_eq!(fs::metadata(&book).unwrap().len(), 48);
+    assert_eq!(fs::metadata(&book).unwrap().len(), 64);
     assert_eq!(run(&format!("book enter {book} {PICTURED} --number 1 --owner 1")).0, 0);
-    assert_eq!(run(&format!("book totals {book} --owner 1")).1.lines().last(), Some("free rows: 999,998 of 1,000,000"));
+    assert_eq!(free(&book), "free rows: 999,998 of 1,000,000\nfree places: 999,999 of 1,000,000\n");
+    let other = folder.path("other.book");
+    let written = format!("an empty day book of 1 row and 7 places for file numbers written to {other}\n");
+    assert_eq!(run(&format!("book new {other} --places 7 --rows 1")), done(written));
+    assert_eq!(fs::read(&other).unwrap(), book_file(26, &[], 15, &[]));
 }
 
 #[test]
@@ -344,6 +374,8 @@ fn books_that_are_not_there() {
         let expected = trouble(format!("{path}: {words}"));
         for words in [
             "enter BOOK samples/two-letters-with-pictures.x9 --number 1 --owner 1",
+            "withdraw BOOK 1 --owner 1",
+            "tidy BOOK",
             "show BOOK 1 --owner 1",
             "list BOOK --owner 2",
             "totals BOOK --owner 1",
@@ -371,7 +403,10 @@ fn a_link_to_a_book() {
     assert_eq!(run(&format!("book enter {link} {PICTURED} --number 1 --owner 1")).0, 0);
     assert_eq!(run(&format!("book grow {link} --rows 6")).0, 0);
     assert!(fs::symlink_metadata(&link).unwrap().is_symlink());
-    assert_eq!(run(&format!("book totals {book} --owner 1")).1.lines().last(), Some("free rows: 4 of 6"));
+    assert_eq!(run(&format!("book withdraw {link} 1 --owner 1")).0, 0);
+    assert_eq!(run(&format!("book tidy {link}")).0, 0);
+    assert!(fs::symlink_metadata(&link).unwrap().is_symlink());
+    assert_eq!(free(&book), "free rows: 5 of 6\nfree places: 4 of 5\n");
     assert_eq!(folder.names("below"), ["link"]);
 }
 
@@ -381,8 +416,8 @@ fn a_link_to_a_book() {
 fn a_write_that_fails() {
     let folder = Folder::new("book-limit");
     let book = new(&folder, 1_000);
-    // A thousand letters without detail, of 9 numbers each, the last six of them zeros, which are left out: 24 + 8 x (3 + 17 + 8994) bytes, more than
-    // the 32 or 64 KiB that are allowed. (Fewer would stop an emulator too.)
+    // A thousand letters without detail, of 9 numbers each, the last six of them zeros, which are left out, and a place: 24 + 8 x (5 + 17 + 8994 + 3)
+    // bytes, more than the 32 or 64 KiB that are allowed. (Fewer would stop an emulator too.)
     let letter = vec![letter_header('N'), letter_control(0, 0, 0, 0)];
     let file =
         file(&[vec![file_header()], vec![letter; 1_000].concat(), vec![file_control(1_000, 2_002, 0, 0)]].concat());
@@ -396,7 +431,7 @@ fn a_write_that_fails() {
     assert_eq!(fs::read(&book).unwrap(), before);
     assert_eq!(folder.names(""), ["day.book", "letters.x9"]);
     assert_eq!(run(&words).0, 0);
-    assert_eq!(fs::metadata(&book).unwrap().len(), 72_136);
+    assert_eq!(fs::metadata(&book).unwrap().len(), 72_176);
 }
 
 /// A book that is marked read-only stays as it is, though its folder could be written. Root may write all, so that root tries it as nobody.

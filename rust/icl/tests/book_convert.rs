@@ -5,7 +5,7 @@ mod common;
 use std::fs;
 use std::os::unix::fs::PermissionsExt;
 
-use common::{below_zero, book_file, check_sum, run, Folder};
+use common::{below_zero, book_file, check_sum, older_file, run, Folder};
 
 const PICTURED: &str = "samples/two-letters-with-pictures.x9";
 const CREDITED: &str = "samples/credits-with-pictures.x9";
@@ -17,22 +17,34 @@ const ROWS: [[u64; 9]; 2] = [[1, 1, 7, 2, 3, 0, 6, 16_557, 0], [1, 2, 7, 1, 1, 0
 
 /// A book of version 1 with five rows, two of which are claimed.
 fn version_1() -> Vec<u8> {
-    book_file(1, 17 + 5 * 9, &[HEAD.as_slice(), &ROWS.concat()].concat())
+    older_file(1, 17 + 5 * 9, &[HEAD.as_slice(), &ROWS.concat()].concat())
 }
 
 /// A book of version 2 with five rows, three of which are claimed: those rows as owner 2's, and a letter of two checks of owner 1's between them. In the
 /// places of the nets stands what may stand there.
 fn version_2() -> Vec<u8> {
     let head = [3, 4, 1, 2, 0, 0, 350, 0, 99, 2, 3, 4, 0, 8, 47_557, 0, u64::MAX];
-    let rows = [of_owner(2, ROWS[0]), [1, 4, 7, 1, 2, 0, 0, 350, 0], of_owner(2, ROWS[1])];
-    book_file(2, 62, &[head.as_slice(), &rows.concat()].concat())
+    older_file(2, 62, &[head.as_slice(), &rows_of_both()].concat())
 }
 
-/// What becomes of it: the same with nets.
-fn version_2_anew() -> Vec<u8> {
+fn rows_of_both() -> Vec<u64> {
+    [of_owner(2, ROWS[0]), [1, 4, 7, 1, 2, 0, 0, 350, 0], of_owner(2, ROWS[1])].concat()
+}
+
+/// The same with nets.
+fn numbers_with_nets() -> Vec<u64> {
     let head = [3, 4, 1, 2, 0, 0, 350, 0, below_zero(350), 2, 3, 4, 0, 8, 47_557, 0, below_zero(47_557)];
-    let rows = [of_owner(2, ROWS[0]), [1, 4, 7, 1, 2, 0, 0, 350, 0], of_owner(2, ROWS[1])];
-    book_file(3, 62, &[head.as_slice(), &rows.concat()].concat())
+    [head.as_slice(), &rows_of_both()].concat()
+}
+
+/// A book of version 3 is that.
+fn version_3() -> Vec<u8> {
+    older_file(3, 62, &numbers_with_nets())
+}
+
+/// What becomes of either: the file number of each owner is taken once, in the order of the rows, and there are as many places as rows.
+fn with_owners_anew() -> Vec<u8> {
+    book_file(62, &numbers_with_nets(), 11, &[2, 2, 7, 1, 7])
 }
 
 fn of_owner(owner: u64, mut row: [u64; 9]) -> [u64; 9] {
@@ -58,19 +70,25 @@ fn older_books_are_refused() {
     let folder = Folder::new("older");
     let book = folder.path("day.book");
     let first = format!(
-        "it is of version 1, whose entries have no owner, and this icl keeps version 3; icl book convert {book} NEW --owner N \
+        "it is of version 1, whose entries have no owner, and this icl keeps version 4; icl book convert {book} NEW --owner N \
          writes it anew as NEW, with all its entries given to owner N, which is 1 or 2"
     );
     let second = format!(
-        "it is of version 2, which has no net positions, and this icl keeps version 3; icl book convert {book} NEW \
+        "it is of version 2, which has no net positions, and this icl keeps version 4; icl book convert {book} NEW \
          writes it anew as NEW"
     );
-    for (bytes, words) in [(version_1(), first), (version_2(), second)] {
+    let third = format!(
+        "it is of version 3, which has no list of the file numbers taken, and this icl keeps version 4; \
+         icl book convert {book} NEW writes it anew as NEW"
+    );
+    for (bytes, words) in [(version_1(), first), (version_2(), second), (version_3(), third)] {
         fs::write(&book, &bytes).unwrap();
         let expected = refused(format!("{book}: refused 20 record 0 field 0 offset 0: BOOK: {words}"));
         for command in [
             format!("enter {book} {PICTURED} --number 9 --owner 1"),
             format!("enter {book} peer/samples/damaged-02-check-digit.x9 --number 9 --owner 3"),
+            format!("withdraw {book} 1 --owner 1"),
+            format!("tidy {book}"),
             format!("grow {book} --rows 9"),
             format!("show {book} 1 --owner 1"),
             format!("list {book} --owner 2"),
@@ -93,7 +111,8 @@ fn all_entries_to_one_owner() {
         let entries =
             if owner == 1 { "2 entries of owner 1, 0 entries of" } else { "0 entries of owner 1, 2 entries of" };
         let written = format!(
-            "{new}, version 3, written from {old}, version 1, which stays as it is\n{entries} owner 2\nfree rows: 3 of 5\n"
+            "{new}, version 4, written from {old}, version 1, which stays as it is\n{entries} owner 2\n\
+             free rows: 3 of 5\nfree places: 4 of 5\n"
         );
         assert_eq!(run(&format!("book convert {old} {new} --owner {owner}")), done(written));
         assert_eq!(fs::read(&old).unwrap(), version_1());
@@ -102,14 +121,14 @@ fn all_entries_to_one_owner() {
         head[block..block + 7].copy_from_slice(&HEAD[1..8]);
         (head[0], head[block + 7]) = (2, below_zero(47_557));
         let rows = ROWS.map(|row| of_owner(owner, row)).concat();
-        assert_eq!(fs::read(&new).unwrap(), book_file(3, 62, &[head.as_slice(), &rows].concat()));
+        assert_eq!(fs::read(&new).unwrap(), book_file(62, &[head.as_slice(), &rows].concat(), 11, &[1, owner, 7]));
         assert_eq!(run(&format!("book new {grown} --rows 5")).0, 0);
         assert_eq!(run(&format!("book enter {grown} {PICTURED} --number 7 --owner {owner}")).0, 0);
         assert_eq!(fs::read(&new).unwrap(), fs::read(&grown).unwrap());
         // The entries, and none of the other owner.
         let totals = format!(
             "2 entries of owner {owner}: 3 bundles, 8 views, 4 debits of 475.57, 0 credits of 0.00\n\
-             net position: -475.57\nfree rows: 3 of 5\n"
+             net position: -475.57\nfree rows: 3 of 5\nfree places: 4 of 5\n"
         );
         assert_eq!(run(&format!("book totals {new} --owner {owner}")), done(totals));
         assert_eq!(run(&format!("book list {new} --json --owner {other}")), done("[]\n"));
@@ -125,20 +144,28 @@ fn all_entries_to_one_owner() {
 /// A book with owners gets what it lacks, and each owner goes on where it was.
 #[test]
 fn owners_keep_their_entries() {
-    let folder = Folder::new("owners-keep");
-    let (old, new) = (folder.with("old.book", &version_2()), folder.path("new.book"));
-    let written = format!(
-        "{new}, version 3, written from {old}, version 2, which stays as it is\n\
-         1 entry of owner 1, 2 entries of owner 2\nfree rows: 2 of 5\n"
-    );
-    assert_eq!(run(&format!("book convert {old} {new}")), done(written));
-    assert_eq!(fs::read(&old).unwrap(), version_2());
-    assert_eq!(fs::read(&new).unwrap(), version_2_anew());
-    let entered = run(&format!("book enter {new} {CREDITED} --number 8 --owner 1"));
-    assert!(entered.1.starts_with(&format!("2 cash letters entered into {new} for owner 1\n  entry 5 of owner 1, ")));
-    // 1643.64 - 478.07 - 3.50, and -475.57.
-    for (owner, net) in [(1, "net position: +1,162.07"), (2, "net position: -475.57")] {
-        assert_eq!(run(&format!("book totals {new} --owner {owner}")).1.lines().nth(1), Some(net));
+    for (version, bytes) in [(2, version_2()), (3, version_3())] {
+        let folder = Folder::new(&format!("owners-keep-{version}"));
+        let (old, new) = (folder.with("old.book", &bytes), folder.path("new.book"));
+        let written = format!(
+            "{new}, version 4, written from {old}, version {version}, which stays as it is\n\
+             1 entry of owner 1, 2 entries of owner 2\nfree rows: 2 of 5\nfree places: 3 of 5\n"
+        );
+        assert_eq!(run(&format!("book convert {old} {new}")), done(written));
+        assert_eq!(fs::read(&old).unwrap(), bytes);
+        assert_eq!(fs::read(&new).unwrap(), with_owners_anew());
+        // What was taken is taken.
+        for owner in [1, 2] {
+            assert!(run(&format!("book enter {new} {CREDITED} --number 7 --owner {owner}")).2.contains("DUPLICATE"));
+        }
+        let entered = run(&format!("book enter {new} {CREDITED} --number 8 --owner 1"));
+        let begin = format!("2 cash letters entered into {new} for owner 1\n  entry 5 of owner 1, ");
+        assert!(entered.1.starts_with(&begin));
+        // 1643.64 - 478.07 - 3.50, and -475.57.
+        for (owner, net) in [(1, "net position: +1,162.07"), (2, "net position: -475.57")] {
+            assert_eq!(run(&format!("book totals {new} --owner {owner}")).1.lines().nth(1), Some(net));
+        }
+        assert_eq!(run(&format!("book withdraw {new} 1 --owner 2")).0, 0);
     }
 }
 
@@ -150,6 +177,7 @@ fn owners_that_are_named_or_not() {
     for (bytes, option, words) in [
         (version_1(), "", "version 1, whose entries have no owner: --owner N is missing, N being 1 or 2"),
         (version_2(), " --owner 1", "version 2, whose entries have owners: --owner is for version 1 alone"),
+        (version_3(), " --owner 2", "version 3, whose entries have owners: --owner is for version 1 alone"),
     ] {
         fs::write(&old, &bytes).unwrap();
         let expected = trouble(format!("{old} is of {words} (icl --help tells more)"));
@@ -169,24 +197,36 @@ fn all_sorts_of_older_books() {
         assert_eq!((status, complaint.as_str()), (0, ""), "{name}");
         (output.lines().skip(1).collect::<Vec<_>>().join("; "), fs::read(new).unwrap())
     };
-    let told =
-        |entries: u64, free: &str| format!("0 entries of owner 1, {entries} entries of owner 2; free rows: {free}");
-    for version in [1, 2] {
-        let free = convert(&format!("free-{version}"), &book_file(version, 17 + 9 * 10_000, &[]));
-        assert_eq!(free, (told(0, "10,000 of 10,000"), book_file(3, 90_017, &[])));
-        // No number at all: it gets its head, and still has no rows.
-        let bare = convert(&format!("bare-{version}"), &book_file(version, 0, &[]));
-        assert_eq!(bare, (told(0, "0 of 0"), book_file(3, 17, &[])));
+    let told = |entries: u64, rows: &str, places: &str| {
+        let entries = format!("0 entries of owner 1, {entries} entries of owner 2");
+        format!("{entries}; free rows: {rows}; free places: {places}")
+    };
+    for version in [1, 2, 3] {
+        let free = convert(&format!("free-{version}"), &older_file(version, 17 + 9 * 10_000, &[]));
+        let empty = book_file(90_017, &[], 20_001, &[]);
+        assert_eq!(free, (told(0, "10,000 of 10,000", "10,000 of 10,000"), empty));
+        // No number at all: before version 3 it gets its head, and still has no rows.
+        let bare = convert(&format!("bare-{version}"), &older_file(version, 0, &[]));
+        let head = if version < 3 { 17 } else { 0 };
+        assert_eq!(bare, (told(0, "0 of 0", "0 of 0"), book_file(head, &[], 1, &[])));
     }
     let one = [HEAD.as_slice(), &ROWS.concat()].concat();
     let head = [[2].as_slice(), &[0; 8], &HEAD[1..8], &[below_zero(47_557)]].concat();
     let moved = [head, ROWS.map(|row| of_owner(2, row)).concat()].concat();
-    let expected = (told(2, "0 of 2"), book_file(3, 35, &moved));
-    assert_eq!(convert("full", &book_file(1, 35, &one)), expected);
+    let expected = (told(2, "0 of 2", "1 of 2"), book_file(35, &moved, 5, &[1, 2, 7]));
+    assert_eq!(convert("full", &older_file(1, 35, &one)), expected);
     let mut other = one.clone();
     (8..17).for_each(|place| other[place] = 99);
     (other[17], other[26]) = (0, u64::MAX);
-    assert_eq!(convert("other", &book_file(1, 35, &other)), expected);
+    assert_eq!(convert("other", &older_file(1, 35, &other)), expected);
+    // Each entry of a file of its own, and one file number of three entries; a row of no one takes none.
+    let row = |owner: u64, entry: u64, file_number: u64| [owner, entry, file_number, 0, 0, 0, 0, 0, 0];
+    let rows = [row(2, 1, 5), row(2, 2, 0), row(3, 1, 9), row(2, 3, 5), row(2, 4, u64::MAX), row(2, 5, 5)];
+    let mut head = [0; 17];
+    (head[0], head[9]) = (6, 5);
+    let numbers = [head.as_slice(), &rows.concat()].concat();
+    let expected = (told(5, "1 of 6", "3 of 6"), book_file(71, &numbers, 13, &[3, 2, 5, 2, 0, 2, u64::MAX]));
+    assert_eq!(convert("several", &older_file(3, 71, &numbers)), expected);
 }
 
 /// What is damaged, what is of today, and what is no book: nothing is written.
@@ -208,16 +248,16 @@ fn what_is_not_converted() {
     let with = |version: u64, place: usize, number: u64| {
         let mut numbers = numbers.clone();
         numbers[place] = number;
-        book_file(version, 62, &numbers)
+        older_file(version, 62, &numbers)
     };
-    for (version, option) in [(1, " --owner 1"), (1, " --owner 2"), (1, " --owner 3"), (2, "")] {
-        let sound = book_file(version, 62, &numbers);
+    for (version, option) in [(1, " --owner 1"), (1, " --owner 2"), (1, " --owner 3"), (2, ""), (3, "")] {
+        let sound = older_file(version, 62, &numbers);
         let mut changed = sound.clone();
         changed[60] ^= 4;
         let (stated, found) = (check_sum(&sound[..sound.len() - 8]), check_sum(&changed[..sound.len() - 8]));
         let sums = format!("its check sum is wrong: {stated:016x} stands there, and its bytes come to {found:016x}");
         assert_eq!(convert(b"", option), damaged("the file is empty"));
-        let first_line = "it does not begin with the line \"icl day book, version 3\"";
+        let first_line = "it does not begin with the line \"icl day book, version 4\"";
         assert_eq!(convert(b"anything", option), damaged(first_line));
         assert_eq!(convert(&sound[..24], option), damaged("it ends after 24 bytes, before its numbers do"));
         assert_eq!(convert(&changed, option), damaged(&sums));
@@ -225,11 +265,14 @@ fn what_is_not_converted() {
         assert_eq!(convert(&with(version, 0, 6), option), damaged("rows claimed: 6; rows there: 5"));
         let total = "running total of debit cents of owner 1: 47558; its rows come to: 47557";
         assert_eq!(convert(&with(version, 6, 47_558), option), damaged(total));
-        let later = "it says that it is of version 4, and this icl reads version 3";
-        assert_eq!(convert(&with(4, 0, 2), option), damaged(later));
-        let now = format!("{old} is of version 3 already, and needs no conversion (icl --help tells more)");
-        assert_eq!(convert(&with(3, 0, 2), option), trouble(now));
+        let later = "it says that it is of version 5, and this icl reads version 4";
+        assert_eq!(convert(&with(5, 0, 2), option), damaged(later));
+        let now = format!("{old} is of version 4 already, and needs no conversion (icl --help tells more)");
+        assert_eq!(convert(&book_file(62, &numbers, 11, &[1, 1, 7]), option), trouble(now));
     }
+    // Of version 3 the net positions are asked for too.
+    let net = "net position of owner 1 in cents: 5; its rows come to: -47557";
+    assert_eq!(convert(&with(3, 8, 5), ""), damaged(net));
     // An owner that is none, after BOOK.
     let words = "NOENTRY: the day book has no such entry; owner 3; a day book has owners 1 and 2";
     assert_eq!(convert(&version_1(), " --owner 3"), line(15, words));
@@ -240,8 +283,8 @@ fn what_is_not_converted() {
     let rich = [head.as_slice(), &row, &row].concat();
     let net =
         "net position of owner 1 in cents: -2; its rows come to: 18446744073709551614, which no net position holds";
-    assert_eq!(convert(&book_file(2, 35, &rich), ""), damaged(net));
-    assert_eq!(convert(&book_file(1, 35, &rich), " --owner 2"), damaged(net));
+    assert_eq!(convert(&older_file(2, 35, &rich), ""), damaged(net));
+    assert_eq!(convert(&older_file(1, 35, &rich), " --owner 2"), damaged(net));
 }
 
 #[test]

@@ -9,9 +9,13 @@ use common::{book_file, check_sum, read, run, Folder};
 const FILE: &str = "peer/samples/sound-11-credits.x9";
 
 /// The commands that take a book.
-const COMMANDS: [&str; 7] = [
+const COMMANDS: [&str; 11] = [
     "enter BOOK peer/samples/sound-2-checks.x9 --number 9 --owner 1",
+    "withdraw BOOK 1 --owner 1",
+    "withdraw BOOK 9 --owner 3",
+    "tidy BOOK",
     "grow BOOK --rows 9",
+    "grow BOOK --places 9",
     "show BOOK 1 --owner 2",
     "list BOOK --owner 1",
     "list BOOK --csv --owner 2",
@@ -19,13 +23,13 @@ const COMMANDS: [&str; 7] = [
     "totals BOOK --owner 3",
 ];
 
-/// A sound book with one entry in two rows, of 24 + 8 x 29 bytes.
+/// A sound book with one entry in two rows and one file number in two places, of 24 + 8 x (5 + 26 + 3) bytes.
 fn sound(folder: &Folder) -> Vec<u8> {
     let book = folder.path("sound.book");
     assert_eq!(run(&format!("book new {book} --rows 2")).0, 0);
     assert_eq!(run(&format!("book enter {book} {FILE} --number 7 --owner 1")).0, 0);
     let bytes = fs::read(&book).unwrap();
-    assert_eq!(bytes.len(), 256);
+    assert_eq!(bytes.len(), 296);
     bytes
 }
 
@@ -58,10 +62,10 @@ fn each_byte_changed() {
     assert_eq!(folder.names(""), ["damaged.book", "sound.book"]);
 }
 
-/// A file whose check sum is right, with other numbers in the table.
+/// A file whose check sum is right, with other numbers in the table, or, from 26 on, in the list behind it.
 fn with_numbers(sound: &[u8], changes: &[(usize, u64)]) -> Vec<u8> {
     let mut bytes = sound[..sound.len() - 8].to_vec();
-    changes.iter().for_each(|(place, number)| bytes[40 + 8 * place..][..8].copy_from_slice(&number.to_le_bytes()));
+    changes.iter().for_each(|(place, number)| bytes[56 + 8 * place..][..8].copy_from_slice(&number.to_le_bytes()));
     let sum = check_sum(&bytes);
     bytes.extend(sum.to_le_bytes());
     bytes
@@ -72,21 +76,21 @@ fn each_kind_of_damage() {
     let folder = Folder::new("kinds");
     let sound = sound(&folder);
     assert_eq!(with_numbers(&sound, &[]), sound);
-    let first_line = "it does not begin with the line \"icl day book, version 3\"";
-    let later = [b"icl day book, version 4\n", &sound[24..]].concat();
-    let other_sum = [&sound[..248], &[0; 8]].concat();
-    let sum = check_sum(&sound[..248]);
+    let first_line = "it does not begin with the line \"icl day book, version 4\"";
+    let later = [b"icl day book, version 5\n", &sound[24..]].concat();
+    let other_sum = [&sound[..288], &[0; 8]].concat();
+    let sum = check_sum(&sound[..288]);
     let kinds = [
         (vec![], "the file is empty".to_string()),
-        (vec![0; 256], first_line.to_string()),
+        (vec![0; 296], first_line.to_string()),
         (read("README.md"), first_line.to_string()),
         (read(FILE), first_line.to_string()),
-        (later, "it says that it is of version 4, and this icl reads version 3".to_string()),
+        (later, "it says that it is of version 5, and this icl reads version 4".to_string()),
         (sound[..24].to_vec(), "it ends after 24 bytes, before its numbers do".to_string()),
-        (sound[..255].to_vec(), "it has 255 bytes, which is not what its counts ask for: 26 numbers".to_string()),
+        (sound[..295].to_vec(), "it has 295 bytes, which is not what its counts ask for: 29 numbers".to_string()),
         (
             [&sound[..], b"\n"].concat(),
-            "it has 257 bytes, which is not what its counts ask for: 26 numbers".to_string(),
+            "it has 297 bytes, which is not what its counts ask for: 29 numbers".to_string(),
         ),
         (other_sum, format!("its check sum is wrong: 0000000000000000 stands there, and its bytes come to {sum:016x}")),
         // Here the library judges. The letter has one bundle, 40005 debit cents and 112352 credit cents.
@@ -106,6 +110,9 @@ fn each_kind_of_damage() {
             with_numbers(&sound, &[(15, 5)]),
             "running total of credit cents of owner 2: 5; its rows come to: 0".to_string(),
         ),
+        (with_numbers(&sound, &[(26, 3)]), "places claimed for file numbers: 3; places there: 2".to_string()),
+        // Of both, the table is told.
+        (with_numbers(&sound, &[(26, u64::MAX), (0, 3)]), "rows claimed: 3; rows there: 2".to_string()),
     ];
     for (bytes, expected) in &kinds {
         for command in COMMANDS {
@@ -124,15 +131,23 @@ fn each_kind_of_damage() {
     }
 }
 
-/// What the library does not look at, here behind the rows claimed, may stand in a sound file: it is kept.
+/// What the library does not look at, here behind the rows and the places claimed, may stand in a sound file: it is kept.
 #[test]
 fn numbers_that_are_not_looked_at() {
     let folder = Folder::new("other-numbers");
     let behind: Vec<u64> = (1..=20).collect();
     let numbers = [[0; 17].as_slice(), &behind].concat();
-    let book = folder.with("other.book", &book_file(3, 37, &numbers));
+    let list = [0, 1, 7, 2, 8];
+    let book = folder.with("other.book", &book_file(37, &numbers, 6, &list));
+    assert_eq!(
+        run(&format!("book tidy {book}")).1,
+        format!("0 gaps closed in {book}\nfree rows: 2 of 2\nfree places: 2 of 2\n")
+    );
+    assert_eq!(fs::read(&book).unwrap(), book_file(37, &numbers, 6, &list));
     assert_eq!(run(&format!("book grow {book} --rows 3")).0, 0);
-    assert_eq!(fs::read(&book).unwrap(), book_file(3, 44, &numbers));
+    assert_eq!(fs::read(&book).unwrap(), book_file(44, &numbers, 6, &list));
+    assert_eq!(run(&format!("book grow {book} --places 3")).0, 0);
+    assert_eq!(fs::read(&book).unwrap(), book_file(44, &numbers, 7, &list));
     assert_eq!(run(&format!("book list {book} --json --owner 1")).1, "[]\n");
 }
 
@@ -140,12 +155,12 @@ fn numbers_that_are_not_looked_at() {
 #[test]
 fn a_file_too_long() {
     let folder = Folder::new("long");
-    let book = folder.with("long.book", b"icl day book, version 3\n");
+    let book = folder.with("long.book", b"icl day book, version 4\n");
     fs::File::options().write(true).open(&book).unwrap().set_len(300 << 20).unwrap();
     for command in ["list BOOK --owner 1", "enter BOOK peer/samples/sound-2-checks.x9 --number 1 --owner 1"] {
         let (status, _, complaint) = run(&format!("book {}", command.replace("BOOK", &book)));
         assert_eq!(status, 1);
-        assert!(complaint.ends_with("; it is longer than 72000184 bytes, and no day book is\n"), "{complaint}");
+        assert!(complaint.ends_with("; it is longer than 88000208 bytes, and no day book is\n"), "{complaint}");
     }
     assert_eq!(fs::metadata(&book).unwrap().len(), 300 << 20);
 }

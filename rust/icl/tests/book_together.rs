@@ -1,4 +1,5 @@
-//! Several at one day book at once, and some that are killed: no entry is lost, none is there twice, and the book is always whole.
+//! Several at one day book at once, and some that are killed: no entry is lost, none is there twice, none that was withdrawn comes back, and the book is
+//! always whole.
 
 mod common;
 
@@ -92,7 +93,8 @@ fn four_at_once() {
         assert_eq!(numbers, expected);
         // Eight files of one letter and eight of two.
         let sums = "32 bundles, 64 views, 48 debits of 3,832.56, 0 credits of 0.00";
-        let totals = format!("24 entries of owner {owner}: {sums}\nnet position: -3,832.56\nfree rows: 12 of 60\n");
+        let free = "free rows: 12 of 60\nfree places: 28 of 60\n";
+        let totals = format!("24 entries of owner {owner}: {sums}\nnet position: -3,832.56\n{free}");
         assert_eq!(run(&format!("book totals {book} --owner {owner}")), (0, totals, String::new()));
     }
     assert_eq!(folder.names(""), ["day.book"]);
@@ -129,10 +131,63 @@ fn one_new_book() {
         });
         assert!(both == [0, 2] || both == [2, 0], "{both:?}");
         let rows = if both[0] == 0 { 3 } else { 4 };
-        let free = format!("free rows: {rows} of {rows}");
+        let free = format!("free places: {rows} of {rows}");
         assert_eq!(run(&format!("book totals {book} --owner 1")).1.lines().last(), Some(free.as_str()));
     }
     assert_eq!(folder.names("").len(), 6);
+}
+
+/// Three withdraw what a fourth enters, and a fifth closes gaps: what was told is so, and no number is given twice.
+#[test]
+fn entered_withdrawn_and_tidied_at_once() {
+    let folder = Folder::new("withdrawn-together");
+    let book = folder.path("day.book");
+    assert_eq!(run(&format!("book new {book} --rows 12 --places 40")).0, 0);
+    for number in 0..6 {
+        assert_eq!(enter(&book, 2 * number + 1, 1).0, 0);
+    }
+    // Entries 1 to 6 of one letter each go, one of them for each of three, while six files of one letter come.
+    std::thread::scope(|scope| {
+        for worker in 0..3 {
+            let book = &book;
+            scope.spawn(move || {
+                for turn in 0..2 {
+                    let (status, output, complaint) =
+                        run(&format!("book withdraw {book} {} --owner 1", 1 + worker + 3 * turn));
+                    assert_eq!((status, complaint.as_str()), (0, ""));
+                    assert!(output.contains(&format!("\n  entry {} of owner 1, ", 1 + worker + 3 * turn)), "{output}");
+                }
+            });
+        }
+        scope.spawn(|| (0..6).for_each(|number| assert_eq!(enter(&book, 2 * number + 101, 1).0, 0)));
+        scope.spawn(|| (0..4).for_each(|_| assert_eq!(run(&format!("book tidy {book}")).0, 0)));
+    });
+    let lines = run(&format!("book list --csv {book} --owner 1")).1;
+    let expected: Vec<String> =
+        (0..6).map(|number| format!("1,{},{},{}", number + 7, 2 * number + 101, ONE.1[0])).collect();
+    assert_eq!(lines.lines().skip(1).collect::<Vec<_>>(), expected);
+    let totals = "6 entries of owner 1: 6 bundles, 0 views, 12 debits of 21.00, 0 credits of 0.00\n\
+                  net position: -21.00\nfree rows: 6 of 12\nfree places: 28 of 40\n";
+    assert_eq!(run(&format!("book totals {book} --owner 1")).1, totals);
+    assert_eq!(folder.names(""), ["day.book"]);
+}
+
+/// Two that withdraw the same entry: one of them does.
+#[test]
+fn one_entry_for_two() {
+    let folder = Folder::new("one-entry");
+    let book = folder.path("day.book");
+    assert_eq!(run(&format!("book new {book}")).0, 0);
+    for number in 0..4 {
+        assert_eq!(enter(&book, 2 * number + 1, 2).0, 0);
+        let words = format!("book withdraw {book} {} --owner 2", number + 1);
+        let both = std::thread::scope(|scope| {
+            let both = [0, 1].map(|_| scope.spawn(|| run(&words).0));
+            both.map(|one| one.join().unwrap())
+        });
+        assert!(both == [0, 1] || both == [1, 0], "{both:?}");
+    }
+    assert_eq!(entries(&book, 2).len(), 0);
 }
 
 /// Killed after any delay: the book is the old one or the new one, and what was told is there.
@@ -169,4 +224,44 @@ fn killed_at_any_instant() {
     }
     assert_eq!(entries(&book, 2).len(), 31);
     assert!(ended > 0 && unended > 0, "{ended} ended, {unended} did not");
+}
+
+/// Killed while it withdraws or tidies up: the book is the old one or the new one, byte for byte, and what was told is so.
+#[test]
+fn killed_while_withdrawing_or_tidying_up() {
+    let folder = Folder::new("killed-withdrawing");
+    let (book, fine) = (folder.path("day.book"), folder.path("fine.book"));
+    assert_eq!(run(&format!("book new {fine}")).0, 0);
+    for number in 1..=12 {
+        assert_eq!(enter(&fine, number, 1 + number % 2).0, 0);
+    }
+    assert_eq!(run(&format!("book withdraw {fine} 3 --owner 2")).0, 0);
+    let (with_a_gap, mut random) = (fs::read(&fine).unwrap(), Random::new(67));
+    for command in ["withdraw BOOK 2 --owner 1", "tidy BOOK"] {
+        let command = format!("book {command}");
+        let words = command.replace("BOOK", &fine);
+        let started = Instant::now();
+        assert_eq!(run(&words).0, 0);
+        let mut longest = started.elapsed().as_micros() as usize;
+        let changed = fs::read(&fine).unwrap();
+        fs::write(&fine, &with_a_gap).unwrap();
+        assert_ne!(changed, with_a_gap);
+        let (mut ended, mut unended) = (0, 0);
+        for turn in 0..20 {
+            fs::write(&book, &with_a_gap).unwrap();
+            let words = command.replace("BOOK", &book);
+            let mut child = icl(words.split(' ')).stdout(Stdio::piped()).stderr(Stdio::null()).spawn().unwrap();
+            std::thread::sleep(Duration::from_micros(random.below(longest) as u64));
+            child.kill().unwrap();
+            let told = !child.wait_with_output().unwrap().stdout.is_empty();
+            let found = fs::read(&book).unwrap();
+            assert!(found == changed || (found == with_a_gap && !told), "{command}, {turn}");
+            // The next one finds its way past what was left behind.
+            assert_eq!(run(&format!("book tidy {book}")).0, 0);
+            assert_eq!(folder.names(""), ["day.book", "fine.book"], "{command}, {turn}");
+            (ended, unended) = (ended + usize::from(found == changed), unended + usize::from(found == with_a_gap));
+            longest = if ended < unended { longest + longest / 8 } else { longest };
+        }
+        assert!(ended > 0 && unended > 0, "{command}: {ended} ended, {unended} did not");
+    }
 }

@@ -25,13 +25,19 @@ use crate::refusal::{Number, Refusal};
 /// assert_eq!((refused.number().0, refused.number().name()), (13, "FULL"));
 /// assert_eq!(refused.to_string(), "FULL: the day book has no room for the file; cash letters: 2; free rows: 1");
 /// assert_eq!(book.find(Owner::TWO, 1), Err(Refused::NoEntry { owner: Owner::TWO, entry_number: 1, last: 0 }));
+///
+/// book.enter(&std::fs::read("../../peer/samples/sound-2-checks.x9")?, 7, Owner::TWO)?;
+/// book.withdraw(Owner::TWO, 1)?;
+/// let refused = book.enter(&file, 7, Owner::TWO).unwrap_err();
+/// let words = "DUPLICATE: the file number has been entered already; file number 7 of owner 2; no entry has it any more, and it stays taken";
+/// assert_eq!(refused.to_string(), words);
 /// # Ok(())
 /// # }
 /// ```
 #[derive(Clone, Debug, PartialEq, Eq)]
 #[non_exhaustive]
 pub enum Refused {
-    /// `BOOK`: the table is no book.
+    /// `BOOK`: the table is no book, or the list of file numbers taken is none.
     Book(Option<Wrong>),
     /// `DUPLICATE`: the owner has entered the file number before.
     Duplicate {
@@ -39,7 +45,7 @@ pub enum Refused {
         owner: Owner,
         /// The file number.
         file_number: u64,
-        /// How many of its entries have it.
+        /// How many of its entries have it now; none where they have been withdrawn.
         entries: u64,
         /// The number of the first of them.
         first: Option<u64>,
@@ -70,7 +76,7 @@ pub enum Refused {
     File(Refusal),
 }
 
-/// What is wrong with a table that is no book.
+/// What is wrong with a table that is no book, or with a list that is none.
 #[derive(Clone, Copy, Debug, PartialEq, Eq)]
 #[non_exhaustive]
 pub enum Wrong {
@@ -101,6 +107,13 @@ pub enum Wrong {
         /// The credit cents of its rows minus their debit cents.
         rows: i128,
     },
+    /// The list of file numbers taken claims more places than it has.
+    Places {
+        /// The places that it claims.
+        claimed: u64,
+        /// The places that it has.
+        capacity: u64,
+    },
 }
 
 /// What a book lacks for a file.
@@ -113,6 +126,11 @@ pub enum Want {
         letters: u64,
         /// The free rows.
         free: u64,
+    },
+    /// A place in the list of file numbers taken, which has none free: a longer list would have them.
+    Places {
+        /// The places of the list.
+        capacity: u64,
     },
     /// Entry numbers: the last one would pass 64 bits.
     EntryNumbers {
@@ -162,15 +180,21 @@ impl Refused {
         match self {
             Refused::Book(wrong) => wrong.iter().flat_map(Wrong::lines).collect(),
             Refused::Duplicate { owner, file_number, entries, first } => {
-                let entries = first.map(|first| format!("entries with it: {entries}, the first of them entry {first}"));
-                [format!("file number {file_number} of {owner}")].into_iter().chain(entries).collect()
+                let entries = match first {
+                    Some(first) => format!("entries with it: {entries}, the first of them entry {first}"),
+                    None => "no entry has it any more, and it stays taken".to_string(),
+                };
+                vec![format!("file number {file_number} of {owner}"), entries]
             }
             Refused::Full(want) => want.iter().flat_map(Want::lines).collect(),
             Refused::Range { owner, net, then } => {
                 vec![position(*owner, *net), format!("it would be: {then}")]
             }
             Refused::NoEntry { owner, entry_number, last } => {
-                vec![format!("entry number {entry_number} of {owner}"), format!("last entry number given: {last}")]
+                let gone = (1..=*last).contains(entry_number).then(|| "this one was withdrawn".to_string());
+                let words =
+                    [format!("entry number {entry_number} of {owner}"), format!("last entry number given: {last}")];
+                words.into_iter().chain(gone).collect()
             }
             Refused::NoOwner(owner) => vec![owner.to_string(), "a day book has owners 1 and 2".to_string()],
             Refused::File(_) => Vec::new(),
@@ -191,6 +215,9 @@ impl Wrong {
                 let past = if i64::try_from(*rows).is_ok() { "" } else { ", which no net position holds" };
                 vec![position(*owner, *net), format!("its rows come to: {rows}{past}")]
             }
+            Wrong::Places { claimed, capacity } => {
+                vec![format!("places claimed for file numbers: {claimed}"), format!("places there: {capacity}")]
+            }
         }
     }
 }
@@ -200,6 +227,9 @@ impl Want {
         let past = |more: u64| format!("with {more} more it would pass 64 bits");
         match self {
             Want::Rows { letters, free } => vec![format!("cash letters: {letters}"), format!("free rows: {free}")],
+            Want::Places { capacity } => {
+                vec![format!("places for file numbers: {capacity}, none of them free")]
+            }
             Want::EntryNumbers { owner, letters, last } => {
                 vec![format!("last entry number given to {owner}: {last}"), past(*letters)]
             }
@@ -260,9 +290,17 @@ mod tests {
             ),
             (
                 Refused::Duplicate { owner: Owner::TWO, file_number: 7, entries: 0, first: None },
-                "DUPLICATE: the file number has been entered already; file number 7 of owner 2",
+                "DUPLICATE: the file number has been entered already; file number 7 of owner 2; no entry has it any more, and it stays taken",
             ),
             (Refused::Full(None), "FULL: the day book has no room for the file"),
+            (
+                Refused::Full(Some(Want::Places { capacity: 3 })),
+                "FULL: the day book has no room for the file; places for file numbers: 3, none of them free",
+            ),
+            (
+                Refused::Book(Some(Wrong::Places { claimed: 4, capacity: 3 })),
+                "BOOK: the day book is not sound; places claimed for file numbers: 4; places there: 3",
+            ),
             (
                 Refused::Full(Some(most)),
                 "FULL: the day book has no room for the file; last entry number given to owner 1: 18446744073709551614; with 2 more it would pass 64 bits",
@@ -288,6 +326,14 @@ mod tests {
             (
                 Refused::NoEntry { owner: Owner::TWO, entry_number: 9, last: 4 },
                 "NOENTRY: the day book has no such entry; entry number 9 of owner 2; last entry number given: 4",
+            ),
+            (
+                Refused::NoEntry { owner: Owner::ONE, entry_number: 4, last: 4 },
+                "NOENTRY: the day book has no such entry; entry number 4 of owner 1; last entry number given: 4; this one was withdrawn",
+            ),
+            (
+                Refused::NoEntry { owner: Owner::ONE, entry_number: 0, last: 4 },
+                "NOENTRY: the day book has no such entry; entry number 0 of owner 1; last entry number given: 4",
             ),
             (
                 Refused::NoOwner(Owner(3)),

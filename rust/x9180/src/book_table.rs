@@ -62,8 +62,19 @@ impl<'t> Table<'t> {
 
     /// The rows of an owner among those claimed, as far as they are there.
     pub fn rows_of(self, owner: Owner) -> impl Iterator<Item = BookRow> + 't {
+        self.rows().filter(move |row| row.owner == owner)
+    }
+
+    /// The rows of both owners among those claimed, as far as they are there. Any other is a gap.
+    pub fn rows(self) -> impl Iterator<Item = BookRow> + 't {
         let rows = self.0.get(HEAD..).unwrap_or_default().chunks_exact(ROW).take(count(self.claimed()));
-        rows.filter_map(|row| row.first_chunk().copied().map(BookRow::of)).filter(move |row| row.owner == owner)
+        let rows = rows.filter_map(|row| row.first_chunk().copied().map(BookRow::of));
+        rows.filter(|row| Owner::BOTH.contains(&row.owner))
+    }
+
+    /// The rows that are no one's: gaps, and those behind the rows claimed.
+    pub fn free(self) -> u64 {
+        self.capacity().saturating_sub(self.rows().count() as u64)
     }
 
     /// A number of the head. One that a short table lacks counts as 0.
@@ -136,7 +147,7 @@ mod tests {
         let mut numbers: Vec<u64> = (100..155).collect();
         (numbers[0], numbers[17], numbers[26], numbers[35], numbers[44]) = (3, 2, 1, 2, 2);
         let table = Table(&numbers);
-        assert_eq!((table.capacity(), table.claimed()), (4, 3));
+        assert_eq!((table.capacity(), table.claimed(), table.free()), (4, 3, 1));
         assert_eq!((table.last(Owner::ONE), table.last(Owner::TWO)), (101, 109));
         assert_eq!(table.totals(Owner::ONE), Figures::of([102, 103, 104, 105, 106, 107]));
         assert_eq!(table.totals(Owner::TWO), Figures::of([110, 111, 112, 113, 114, 115]));
@@ -148,6 +159,14 @@ mod tests {
         let third = (136, 137, Figures::of([138, 139, 140, 141, 142, 143]));
         assert_eq!(rows(Owner::TWO), [(118, 119, Figures::of([120, 121, 122, 123, 124, 125])), third]);
         assert!(rows(Owner(3)).is_empty());
+        // A gap between two rows.
+        numbers[26] = 3;
+        let table = Table(&numbers);
+        assert_eq!((table.capacity(), table.claimed(), table.free()), (4, 3, 2));
+        assert_eq!(
+            table.rows().map(|row| (row.owner, row.entry_number)).collect::<Vec<_>>(),
+            [118, 136].map(|n| (Owner::TWO, n))
+        );
     }
 
     #[test]

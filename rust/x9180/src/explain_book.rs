@@ -1,10 +1,25 @@
 //! The cause of a refusal by a day book. The proved library says that the table is no book, or that the file has no room in it; this module looks at the
-//! table to say why. It decides nothing.
+//! table, and at the list of file numbers taken, to say why. It decides nothing.
 
 use crate::book_refusal::{Refused, Want, Wrong};
 use crate::book_table::Table;
 use crate::figures::{Figure, Figures};
 use crate::owner::Owner;
+use crate::taken::List;
+
+/// Of a table that is no book, or a list that is none.
+pub(crate) fn no_book_or_list(table: Table<'_>, list: List<'_>) -> Refused {
+    match no_book(table) {
+        Refused::Book(None) => no_list(list),
+        refused => refused,
+    }
+}
+
+/// Of a list that is none.
+pub(crate) fn no_list(list: List<'_>) -> Refused {
+    let (claimed, capacity) = (list.claimed(), list.capacity());
+    Refused::Book((claimed > capacity).then_some(Wrong::Places { claimed, capacity }))
+}
 
 /// Of a table that is no book.
 pub(crate) fn no_book(table: Table<'_>) -> Refused {
@@ -46,7 +61,7 @@ pub(crate) fn no_entry(table: Table<'_>, owner: Owner, entry_number: u64) -> Ref
     }
 }
 
-/// Of a file number that the owner has entered.
+/// Of a file number that the owner has entered, and the entries that have it now.
 pub(crate) fn duplicate(table: Table<'_>, owner: Owner, file_number: u64) -> Refused {
     let mut same = table.rows_of(owner).filter(|row| row.file_number == file_number).map(|row| row.entry_number);
     let first = same.next();
@@ -54,10 +69,13 @@ pub(crate) fn duplicate(table: Table<'_>, owner: Owner, file_number: u64) -> Ref
 }
 
 /// Of a file with so many cash letters that come to these figures.
-pub(crate) fn full(table: Table<'_>, owner: Owner, letters: u64, figures: Figures) -> Refused {
-    let free = table.capacity().saturating_sub(table.claimed());
+pub(crate) fn full(table: Table<'_>, list: List<'_>, owner: Owner, letters: u64, figures: Figures) -> Refused {
+    let free = table.free();
     if letters > free {
         return Refused::Full(Some(Want::Rows { letters, free }));
+    }
+    if list.claimed() >= list.capacity() {
+        return Refused::Full(Some(Want::Places { capacity: list.capacity() }));
     }
     let last = table.last(owner);
     if last.checked_add(letters).is_none() {

@@ -28,8 +28,19 @@ extern "C" {
         table_len: usize,
         book: *mut u64,
         book_len: usize,
+        taken: *mut u64,
+        taken_len: usize,
         answer: *mut u64,
     ) -> u64;
+    fn x9_book_withdraw(
+        book: *mut u64,
+        book_len: usize,
+        taken: *const u64,
+        taken_len: usize,
+        owner: u64,
+        entry_number: u64,
+    ) -> u64;
+    fn x9_book_tidy(book: *mut u64, book_len: usize, taken: *const u64, taken_len: usize) -> u64;
     fn x9_book_find(book: *const u64, book_len: usize, owner: u64, entry_number: u64, found: *mut u64) -> u64;
     fn x9_book_totals(book: *const u64, book_len: usize, owner: u64, totals: *mut u64) -> u64;
 }
@@ -99,12 +110,20 @@ pub(crate) fn tiff(image: &[u8]) -> [u64; 2] {
     answer
 }
 
-/// Reads a file into rows, enters its cash letters into a book for the owner of this number, and gives the thirteen numbers of the answer.
-pub(crate) fn book_enter(file: &[u8], file_number: u64, owner: u64, rows: &mut [Row], book: &mut [u64]) -> [u64; 13] {
+/// Reads a file into rows, enters its cash letters into a book and its file number into the list for the owner of this number, and gives the thirteen
+/// numbers of the answer.
+pub(crate) fn book_enter(
+    file: &[u8],
+    file_number: u64,
+    owner: u64,
+    rows: &mut [Row],
+    book: &mut [u64],
+    taken: &mut [u64],
+) -> [u64; 13] {
     let mut answer = [0; 13];
     let numbers = rows.len() * Row::NUMBERS;
-    // SAFETY: as in `read`; the book's pointer goes with its own length, and its exclusive borrow keeps it apart from the file and the rows. The
-    // answer has the thirteen numbers that the call fills.
+    // SAFETY: as in `read`; the pointers of book and list go with their own lengths, and the exclusive borrows keep them apart from the file, the rows and
+    // each other. The answer has the thirteen numbers that the call fills.
     unsafe {
         x9_book_enter(
             file.as_ptr(),
@@ -115,10 +134,24 @@ pub(crate) fn book_enter(file: &[u8], file_number: u64, owner: u64, rows: &mut [
             numbers,
             book.as_mut_ptr(),
             book.len(),
+            taken.as_mut_ptr(),
+            taken.len(),
             answer.as_mut_ptr(),
         )
     };
     answer
+}
+
+/// Withdraws an entry of an owner from a book, with the list of the file numbers taken, and gives the number of the answer.
+pub(crate) fn book_withdraw(book: &mut [u64], taken: &[u64], owner: u64, entry_number: u64) -> u64 {
+    // SAFETY: the pointers of book and list go with their own lengths, and the exclusive borrow keeps the book apart from the list.
+    unsafe { x9_book_withdraw(book.as_mut_ptr(), book.len(), taken.as_ptr(), taken.len(), owner, entry_number) }
+}
+
+/// Closes the gaps of a book, with the list of the file numbers taken, and gives the number of the answer.
+pub(crate) fn book_tidy(book: &mut [u64], taken: &[u64]) -> u64 {
+    // SAFETY: as in `book_withdraw`.
+    unsafe { x9_book_tidy(book.as_mut_ptr(), book.len(), taken.as_ptr(), taken.len()) }
 }
 
 /// Finds an entry of an owner in a book and gives the nine numbers of the answer.

@@ -52,6 +52,7 @@
 //     book → explain_book → book_refusal → owner
 //     book → explain_book → book_table → figures
 //     book → explain_book → book_table → owner
+//     book → explain_book → taken → owner
 //     book → explain → more_bytes → refusal
 //     book → reading → row
 //     book → ffi → row
@@ -92,6 +93,7 @@ mod shown;
 mod sums;
 mod tag;
 mod tag_fault;
+mod taken;
 mod value;
 
 pub use book::Book;

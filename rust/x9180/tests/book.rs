@@ -1,48 +1,12 @@
-//! The day book (requests 6, 8 and 9): worked out by hand, and beside a plain list of entries for each owner, whose figures come from the independent
-//! reader.
+//! The day book (requests 6, 8 and 9), worked out by hand. `book_withdrawal.rs` has what is withdrawn, `book_history.rs` whole histories.
 
-use peer_reader::copy::to_ebcdic;
-use peer_reader::descent;
+mod day_book;
+
+use day_book::*;
 use peer_reader::plain::*;
 use peer_reader::random::Random;
-use x9180::book::{Figure, Figures, Owner, Refused, Want, Wrong};
+use x9180::book::{Figure, Owner, Refused, Want, Wrong};
 use x9180::{read, Book, Number};
-
-fn folder(name: &str) -> std::path::PathBuf {
-    std::path::Path::new(env!("CARGO_MANIFEST_DIR")).join("../..").join(name)
-}
-
-fn sample(name: &str) -> Vec<u8> {
-    std::fs::read(folder(name)).unwrap()
-}
-
-const PICTURED: &str = "samples/two-letters-with-pictures.x9";
-const CREDITED: &str = "samples/credits-with-pictures.x9";
-
-/// An entry, or the totals with the number of entries, as numbers: number, file number, bundles, debit items, credit items, views, debit cents, credit
-/// cents.
-type Line = [u64; 8];
-
-/// The cash letters of the two samples, as `peer/reader/src/pictures.rs` and `icl/tests/common/pictured_credits.rs` describe them.
-const PICTURED_LETTERS: [[u64; 6]; 2] = [[2, 3, 0, 6, 16_557, 0], [1, 1, 0, 2, 31_000, 0]];
-const CREDITED_LETTERS: [[u64; 6]; 2] = [[2, 4, 4, 10, 16_807, 33_364], [1, 1, 2, 4, 31_000, 131_000]];
-
-fn numbers(figures: Figures) -> [u64; 6] {
-    Figure::ALL.map(|figure| figures.get(figure))
-}
-
-/// A number below zero in two's complement.
-fn below_zero(number: u64) -> u64 {
-    u64::MAX - number + 1
-}
-
-fn line(number: u64, file_number: u64, [a, b, c, d, e, f]: [u64; 6]) -> Line {
-    [number, file_number, a, b, c, d, e, f]
-}
-
-fn entries<Memory: AsRef<[u64]>>(book: &Book<Memory>, owner: Owner) -> Vec<Line> {
-    book.entries(owner).unwrap().map(|entry| line(entry.number, entry.file_number, numbers(entry.figures))).collect()
-}
 
 #[test]
 fn two_files_of_one_owner() {
@@ -71,9 +35,10 @@ fn two_files_of_one_owner() {
         assert_eq!((totals.entries, numbers(totals.figures)), (4, [6, 9, 6, 22, 95_364, 164_364]));
         assert_eq!(totals.net, 69_000);
         assert_eq!((book.capacity(), book.free_rows()), (5, Ok(1)));
+        assert_eq!((book.places(), book.free_places()), (5, Ok(3)));
         // A letter of its own in the fifth row.
         assert_eq!(book.enter(&sample("peer/samples/sound-2-checks.x9"), 1, owner).unwrap().numbers(), 5..=5);
-        assert_eq!(book.free_rows(), Ok(0));
+        assert_eq!((book.free_rows(), book.free_places()), (Ok(0), Ok(2)));
     }
 }
 
@@ -117,6 +82,7 @@ fn two_owners() {
         [vec![1, 3, 8], checks.to_vec()].concat(),
     ];
     assert_eq!(book.numbers(), [head.to_vec(), rows.concat()].concat());
+    assert_eq!(book.taken(), [3, 1, 7, 2, 7, 1, 8, 0, 0, 0, 0]);
 }
 
 /// An owner other than the two is NOENTRY in every call, straight after BOOK.
@@ -135,16 +101,18 @@ fn other_owners() {
         for file in [sample(PICTURED), sample("peer/samples/damaged-02-check-digit.x9"), vec![]] {
             assert_eq!(book.enter(&file, 7, owner), Err(refused.clone()));
         }
+        assert_eq!(book.withdraw(owner, 1), Err(refused.clone()));
         assert_eq!(book.find(owner, 1), Err(refused.clone()));
         assert_eq!(book.totals(owner), Err(refused.clone()));
         assert_eq!(book.entries(owner).err(), Some(refused));
     }
     assert_eq!(book.numbers(), before);
-    let mut table = before;
+    let (mut table, taken) = book.into_memory();
     table[0] = 4;
-    let mut wrong = Book::over(table);
+    let mut wrong = Book::over(table, taken);
     let rows = Refused::Book(Some(Wrong::Rows { claimed: 4, capacity: 3 }));
     assert_eq!(wrong.enter(&[], 7, Owner(3)), Err(rows.clone()));
+    assert_eq!(wrong.withdraw(Owner(3), 1), Err(rows.clone()));
     assert_eq!(wrong.find(Owner(3), 1), Err(rows.clone()));
     assert_eq!(wrong.totals(Owner(3)), Err(rows));
 }
@@ -160,11 +128,12 @@ fn books_without_owners() {
         let mut grown = Book::with_rows(3).unwrap();
         grown.enter(&sample(PICTURED), 9, owner).unwrap();
         let mut given = Book::given_to(owner, old.clone());
-        assert_eq!(given.numbers(), grown.numbers());
-        // A book of request 8 is that with anything in the places of the nets.
+        assert_eq!(given.clone().into_memory(), grown.clone().into_memory());
+        // A book of request 9 is that without a list, and one of request 8 that with anything in the places of the nets.
         let mut table = grown.numbers().to_vec();
+        assert_eq!(Book::with_list(table.clone()).into_memory(), grown.clone().into_memory());
         (table[8], table[16]) = (5, u64::MAX);
-        assert_eq!(Book::with_nets(table).numbers(), grown.numbers());
+        assert_eq!(Book::with_nets(table).into_memory(), grown.into_memory());
         assert_eq!(entries(&given, other), [[0; 8]; 0]);
         let checks = sample("peer/samples/sound-2-checks.x9");
         assert_eq!(given.enter(&checks, 9, owner).unwrap_err().number(), Number::DUPLICATE);
@@ -183,19 +152,28 @@ fn lent_and_owned_memory() {
     let rows = [[1, 1, 9, 2, 3, 0, 6, 16_557, 0], [1, 2, 9, 1, 1, 0, 2, 31_000, 0]];
     assert_eq!(owned.numbers(), [head.as_slice(), &rows.concat()].concat());
 
-    let mut memory = [0; Book::numbers_for(2) + 4];
-    let mut lent = Book::over(&mut memory[..]);
+    assert_eq!(owned.taken(), [1, 1, 9, 0, 0]);
+
+    // Of any lengths, and not of the same: numbers behind the last whole row or place are left alone.
+    let (mut memory, mut taken) = ([0; Book::numbers_for(2) + 4], [0; Book::numbers_for_places(3) + 1]);
+    let mut lent = Book::over(&mut memory[..], &mut taken[..]);
     lent.enter(&file, 9, Owner::ONE).unwrap();
     assert_eq!(lent.numbers()[..35], *owned.numbers());
+    assert_eq!(lent.taken(), [1, 1, 9, 0, 0, 0, 0, 0]);
+    assert_eq!((lent.capacity(), lent.places(), lent.free_places()), (2, 3, Ok(2)));
     assert_eq!(entries(&lent, Owner::ONE), entries(&owned, Owner::ONE));
     assert_eq!(memory[35..], [0; 4]);
 
-    let looked_at = Book::over(&memory[..]);
+    let looked_at = Book::over(&memory[..], &taken[..]);
     assert_eq!((looked_at.capacity(), looked_at.find(Owner::ONE, 2)), (2, owned.find(Owner::ONE, 2)));
-    let mut in_array = Book::over(memory);
-    assert_eq!(in_array.enter(&file, 9, Owner::ONE).unwrap_err().number(), Number::DUPLICATE);
-    assert_eq!(in_array.into_memory(), memory);
+    let mut in_arrays = Book::over(memory, taken);
+    assert_eq!(in_arrays.enter(&file, 9, Owner::ONE).unwrap_err().number(), Number::DUPLICATE);
+    assert_eq!(in_arrays.into_memory(), (memory, taken));
+    // To withdraw and to tidy up, the list is looked at only.
+    let mut half = Book::over(&mut memory[..], &taken[..]);
+    assert_eq!((half.withdraw(Owner::ONE, 1).is_ok(), half.tidy()), (true, Ok(1)));
     assert!(Book::with_rows(usize::MAX).is_err());
+    assert!(Book::with_rows_and_places(1, usize::MAX).is_err());
 }
 
 /// A larger book is the same book.
@@ -208,13 +186,18 @@ fn growing() {
     let refused = book.enter(&credited, 2, Owner::TWO).unwrap_err();
     assert_eq!(refused, Refused::Full(Some(Want::Rows { letters: 2, free: 1 })));
     for fewer in [0, 1, 3] {
-        book.grow_to(fewer).unwrap();
-        assert_eq!(book.numbers(), before.numbers());
+        book.grow_to(fewer, fewer).unwrap();
+        assert_eq!(book.clone().into_memory(), before.clone().into_memory());
     }
-    assert!(book.grow_to(usize::MAX).is_err());
-    assert_eq!(book.numbers(), before.numbers());
-    book.grow_to(4).unwrap();
+    for (rows, places) in [(usize::MAX, 4), (4, usize::MAX)] {
+        assert!(book.grow_to(rows, places).is_err());
+        assert_eq!(book.clone().into_memory(), before.clone().into_memory());
+    }
+    book.grow_to(4, 0).unwrap();
+    assert_eq!((book.numbers(), book.taken()), (&[before.numbers(), &[0; 9]].concat()[..], before.taken()));
+    book.grow_to(0, 5).unwrap();
     assert_eq!(book.numbers(), [before.numbers(), &[0; 9]].concat());
+    assert_eq!(book.taken(), [before.taken(), &[0; 4]].concat());
     assert_eq!(book.enter(&credited, 2, Owner::TWO).unwrap().numbers(), 3..=4);
     assert_eq!(entries(&book, Owner::TWO)[..2], entries(&before, Owner::TWO));
 }
@@ -227,9 +210,9 @@ fn refusals_in_their_order() {
     let mut book = Book::with_rows(2).unwrap();
     book.enter(&pictured, 7, owner).unwrap();
     let mut refused = |file: &[u8], file_number| {
-        let before = book.numbers().to_vec();
+        let before = book.clone().into_memory();
         let refused = book.enter(file, file_number, owner).unwrap_err();
-        assert_eq!(book.numbers(), before);
+        assert_eq!(book.clone().into_memory(), before);
         refused
     };
     // The reader's own before DUPLICATE, DUPLICATE before FULL.
@@ -241,12 +224,14 @@ fn refusals_in_their_order() {
         assert_eq!(book.find(owner, entry_number), Err(Refused::NoEntry { owner, entry_number, last: 2 }));
     }
     // BOOK before all of them, whoever asks.
-    let mut table = book.into_memory();
+    let (mut table, taken) = book.into_memory();
     table[14] += 1;
-    let mut wrong = Book::over(table);
+    let mut wrong = Book::over(table, taken);
     let total = Wrong::Total { owner, figure: Figure::DebitCents, total: 47_558, rows: 47_557 };
     for asking in Owner::BOTH {
         assert_eq!(wrong.enter(&damaged, 7, asking), Err(Refused::Book(Some(total))));
+        assert_eq!(wrong.withdraw(asking, 9), Err(Refused::Book(Some(total))));
+        assert_eq!(wrong.tidy(), Err(Refused::Book(Some(total))));
         assert_eq!(wrong.find(asking, 9), Err(Refused::Book(Some(total))));
         assert_eq!(wrong.totals(asking), Err(Refused::Book(Some(total))));
         assert_eq!(wrong.free_rows(), Err(Refused::Book(Some(total))));
@@ -290,7 +275,7 @@ fn tables_that_are_no_books() {
         let changed = |changes: &[(usize, u64)]| {
             let mut table = sound.numbers().to_vec();
             changes.iter().for_each(|(place, number)| table[*place] = *number);
-            Book::over(table).totals(owner)
+            Book::over(table, vec![]).totals(owner)
         };
         let total = |owner, figure, total, rows| Err(Refused::Book(Some(Wrong::Total { owner, figure, total, rows })));
         for claimed in [4, u64::MAX] {
@@ -323,25 +308,27 @@ fn tables_that_are_no_books() {
     }
 }
 
-/// A claimed row of neither owner counts for none, whatever stands in it.
+/// A claimed row of neither owner is a gap, whatever stands in it: it counts for none, and is free.
 #[test]
 fn rows_of_no_one() {
     let mut book = Book::with_rows(3).unwrap();
     book.enter(&sample("peer/samples/sound-2-checks.x9"), 5, Owner::TWO).unwrap();
-    let mut table = book.numbers().to_vec();
+    let (mut table, taken) = book.clone().into_memory();
     table[0] = 2;
     table[26..35].copy_from_slice(&[3, 1, 5, 9, 9, 9, 9, u64::MAX, u64::MAX]);
-    let mut other = Book::over(table);
+    let mut other = Book::over(table, taken);
     for owner in Owner::BOTH {
         assert_eq!(other.totals(owner), book.totals(owner));
         assert_eq!(entries(&other, owner), entries(&book, owner));
     }
     assert_eq!(other.find(Owner::ONE, 1), Err(Refused::NoEntry { owner: Owner::ONE, entry_number: 1, last: 0 }));
     assert_eq!(other.find(Owner(3), 1), Err(Refused::NoOwner(Owner(3))));
-    // It is claimed, so that one row is free.
-    assert_eq!(other.free_rows(), Ok(1));
-    let refused = other.enter(&sample(PICTURED), 5, Owner::ONE).unwrap_err();
-    assert_eq!(refused, Refused::Full(Some(Want::Rows { letters: 2, free: 1 })));
+    // Two letters go into it and the row behind it, as if it had not been there.
+    assert_eq!((other.free_rows(), book.free_rows()), (Ok(2), Ok(2)));
+    for book in [&mut other, &mut book] {
+        assert_eq!(book.enter(&sample(PICTURED), 5, Owner::ONE).unwrap().numbers(), 1..=2);
+    }
+    assert_eq!(other.into_memory(), book.into_memory());
 }
 
 /// Books of few numbers, which an empty file of the system may come to.
@@ -349,25 +336,20 @@ fn rows_of_no_one() {
 fn short_tables() {
     for length in 0..17 {
         for owner in Owner::BOTH {
-            let mut book = Book::over(vec![0; length]);
+            let mut book = Book::over(vec![0; length], vec![0; length]);
             assert_eq!((book.capacity(), book.free_rows(), entries(&book, owner)), (0, Ok(0), vec![]));
+            // Behind the first number of the list, a place for each whole pair.
+            let places = length.saturating_sub(1) as u64 / 2;
+            assert_eq!(
+                (book.places(), book.free_places(), book.check(), book.tidy()),
+                (places, Ok(places), Ok(()), Ok(0))
+            );
+            assert_eq!(book.withdraw(owner, 1), Err(Refused::NoEntry { owner, entry_number: 1, last: 0 }));
             let refused = book.enter(&sample("peer/samples/sound-2-checks.x9"), 1, owner).unwrap_err();
             assert_eq!(refused, Refused::Full(Some(Want::Rows { letters: 1, free: 0 })));
-            assert_eq!(book.into_memory(), vec![0; length]);
+            assert_eq!(book.into_memory(), (vec![0; length], vec![0; length]));
         }
     }
-}
-
-/// A table with one free row and these numbers in the owner's part of its head, kept sums of its one claimed row.
-fn filled(owner: Owner, last: u64, figures: [u64; 6]) -> Book {
-    let mut table = vec![0; Book::numbers_for(2)];
-    let block = if owner == Owner::ONE { 1 } else { 9 };
-    (table[0], table[block]) = (1, last);
-    table[block + 1..block + 7].copy_from_slice(&figures);
-    table[block + 7] = figures[5].wrapping_sub(figures[4]);
-    table[17..20].copy_from_slice(&[owner.0, 1, 1]);
-    table[20..26].copy_from_slice(&figures);
-    Book::over(table)
 }
 
 /// FULL where 64 bits do not hold a number, and the last one that they hold. Nothing of it touches the other owner.
@@ -399,9 +381,6 @@ fn full_for_want_of_numbers() {
         }
     }
 }
-
-/// The bound of a net position, either side.
-const BOUND: u64 = 1_000_000_000_000_000_000;
 
 /// RANGE where a file would carry the net beyond the bound, and the bound itself, which is allowed. It comes after DUPLICATE and before FULL.
 #[test]
@@ -435,8 +414,8 @@ fn net_positions_out_of_bounds() {
             assert_eq!(book.enter(file, 2, owner), Err(range.clone()));
             assert_eq!(book.numbers(), before);
             assert_eq!(book.enter(file, 1, owner).unwrap_err().number(), Number::DUPLICATE);
-            // Without a free row.
-            assert_eq!(Book::over(before[..26].to_vec()).enter(file, 2, owner), Err(range));
+            // Without a free row, and without a place.
+            assert_eq!(Book::over(before[..26].to_vec(), vec![0]).enter(file, 2, owner), Err(range));
         }
         let mut back = filled(owner, 1, cents(0, BOUND + 350));
         assert!(back.enter(&checks, 2, owner).is_ok());
@@ -454,145 +433,13 @@ fn the_first_row_with_a_number() {
     let mut book = Book::with_rows(3).unwrap();
     book.enter(&sample("peer/samples/sound-2-checks.x9"), 7, Owner::ONE).unwrap();
     book.enter(&sample(PICTURED), 7, Owner::TWO).unwrap();
-    let mut table = book.into_memory();
+    let (mut table, taken) = book.into_memory();
     table[36] = 1; // the third row's entry number: 17 + 18 + 1
-    let book = Book::over(table);
+    let book = Book::over(table, taken);
     assert_eq!(numbers(book.find(Owner::TWO, 1).unwrap().figures), PICTURED_LETTERS[0]);
     let none = Refused::NoEntry { owner: Owner::TWO, entry_number: 2, last: 2 };
     assert_eq!(book.find(Owner::TWO, 2), Err(none));
     assert_eq!(entries(&book, Owner::TWO).len(), 2);
-}
-
-/// The figures of each cash letter, added up from the rows of the independent reader. Whether a 61 is a debit stands in its third character (clause 26.2).
-fn letters(file: &[u8]) -> Option<Vec<[u64; 6]>> {
-    let reading = descent::read(file);
-    let nine = if file.get(4) == Some(&0xF0) { 0xF9 } else { b'9' };
-    let mut letters: Vec<[u64; 6]> = Vec::new();
-    for [record_type, offset, _, letter, _, _, amount] in &reading.rows {
-        if *record_type == 10 {
-            letters.push([0; 6]);
-        }
-        let Some(own) = letters.last_mut().filter(|_| *letter > 0) else { continue };
-        let is_credit = *record_type == 61 && file[*offset as usize + 6] != nine;
-        match record_type {
-            20 => own[0] += 1,
-            50 => own[3] += 1,
-            25 | 31 | 61 => {
-                let side = usize::from(is_credit);
-                own[1 + side] += 1;
-                own[4 + side] += amount;
-            }
-            _ => {}
-        }
-    }
-    (reading.answer.number == descent::Number::Accepted).then_some(letters)
-}
-
-/// The entries of each owner as plain lists, and the rows that they share.
-#[derive(Default)]
-struct Lists {
-    entries: [Vec<Line>; 2],
-    capacity: usize,
-}
-
-impl Lists {
-    fn of(&self, owner: Owner) -> &Vec<Line> {
-        &self.entries[usize::from(owner == Owner::TWO)]
-    }
-
-    fn free(&self) -> usize {
-        self.capacity - self.entries[0].len() - self.entries[1].len()
-    }
-
-    /// What entering a file comes to: the number of the answer.
-    fn enter(&mut self, owner: Owner, letters: &[[u64; 6]], file_number: u64) -> Number {
-        if self.of(owner).iter().any(|entry| entry[1] == file_number) {
-            return Number::DUPLICATE;
-        }
-        if letters.len() > self.free() {
-            return Number::FULL;
-        }
-        let own = &mut self.entries[usize::from(owner == Owner::TWO)];
-        for letter in letters {
-            own.push(line(own.len() as u64 + 1, file_number, *letter));
-        }
-        Number::ACCEPTED
-    }
-
-    fn net(&self, owner: Owner) -> i64 {
-        self.of(owner).iter().map(|entry| entry[7] as i64 - entry[6] as i64).sum()
-    }
-
-    fn sums(&self, owner: Owner) -> [u64; 6] {
-        std::array::from_fn(|figure| self.of(owner).iter().map(|entry| entry[2 + figure]).sum())
-    }
-}
-
-/// Histories of files of the independent generator, in both sets, sound and damaged, of both owners, beside the plain lists.
-#[test]
-fn histories_beside_plain_lists() {
-    let mut random = Random::new(6);
-    let mut seen = std::collections::BTreeMap::new();
-    for history in 0..60 {
-        let capacity = random.below(24);
-        let mut lists = Lists { capacity, ..Lists::default() };
-        let mut book = Book::with_rows(capacity).unwrap();
-        for _ in 0..25 {
-            let made = peer_reader::stream::file(6, random.below(2_000) as u64).bytes;
-            let file = if random.below(2) == 0 { made } else { to_ebcdic(&made) };
-            let (file_number, owner) = (random.below(20) as u64, Owner(1 + random.below(2) as u64));
-            let answer = match book.enter(&file, file_number, owner) {
-                Ok(_) => Number::ACCEPTED,
-                Err(refused) => refused.number(),
-            };
-            let expected = match letters(&file) {
-                Some(letters) => lists.enter(owner, &letters, file_number),
-                None => Number(descent::read(&file).answer.number as u64),
-            };
-            assert_eq!(answer, expected, "history {history}");
-            *seen.entry(answer.name()).or_insert(0) += 1;
-            assert_eq!(book.free_rows(), Ok(lists.free() as u64));
-            for owner in Owner::BOTH {
-                let own = lists.of(owner);
-                assert_eq!(entries(&book, owner), *own);
-                let totals = book.totals(owner).unwrap();
-                assert_eq!((totals.entries, numbers(totals.figures)), (own.len() as u64, lists.sums(owner)));
-                assert_eq!(totals.net, lists.net(owner));
-                let wanted = random.below(30) as u64;
-                let found = book.find(owner, wanted);
-                let found = found.map(|entry| line(entry.number, entry.file_number, numbers(entry.figures)));
-                let entry = own.iter().find(|entry| entry[0] == wanted).copied();
-                let none = Refused::NoEntry { owner, entry_number: wanted, last: own.len() as u64 };
-                assert_eq!(found, entry.ok_or(none));
-            }
-        }
-    }
-    for name in ["ACCEPTED", "DUPLICATE", "FULL", "FIELD", "TOTAL"] {
-        assert!(seen.get(name).is_some_and(|count| *count > 20), "{name}: {seen:?}");
-    }
-}
-
-/// What one owner is answered depends on its own calls and on the rows that are free, and on nothing else that the other did (request 8).
-#[test]
-fn an_owner_does_not_see_the_other() {
-    let (one, two) = (Owner::ONE, Owner::TWO);
-    let files = ["peer/samples/sound-2-checks.x9", "peer/samples/sound-11-credits.x9", PICTURED].map(sample);
-    // The second bureau takes two rows each time, with one file of two letters or two of one, under these numbers or those.
-    let busy = [[(2, 1), (2, 2)].as_slice(), &[(0, 7), (1, 8), (1, 1), (0, 2)]];
-    let answers = busy.map(|of_two| {
-        let mut book = Book::with_rows(8).unwrap();
-        let mut answers = Vec::new();
-        for (day, calls) in of_two.chunks(of_two.len() / 2).enumerate() {
-            calls.iter().for_each(|(file, number)| drop(book.enter(&files[*file], *number, two).unwrap()));
-            for number in [1, 1 + day as u64] {
-                answers.push(book.enter(&files[day], number, one).map(|entered| entered.numbers()));
-            }
-            answers.push(book.enter(&files[2], 9, one).map(|entered| entered.numbers()));
-        }
-        (answers, entries(&book, one), book.totals(one))
-    });
-    assert_eq!(answers[0], answers[1]);
-    assert_eq!(answers[0].0.iter().filter(|answer| answer.is_ok()).count(), 3);
 }
 
 /// A letter of N cash letters without detail.
@@ -610,24 +457,47 @@ fn a_file_of_many_letters() {
     assert_eq!(entries(&book, Owner::TWO), expected);
 }
 
-/// No table makes a call panic, and no refused call changes one.
+/// A call that changes a book: with a file, an owner, and an entry number or file number.
+type Call = fn(&mut Book, &[u8], Owner, u64) -> Result<(), Refused>;
+
+/// No table and no list makes a call panic, and no refused call changes one.
 #[test]
 fn any_numbers() {
     let mut random = Random::new(7);
     let file = sample("peer/samples/sound-2-checks.x9");
-    for _ in 0..3_000 {
-        let length = random.below(60);
-        let table: Vec<u64> =
-            (0..length).map(|_| if random.below(4) == 0 { random.draw() } else { random.below(4) as u64 }).collect();
-        let mut book = Book::over(table.clone());
-        let owner = Owner(random.below(4) as u64);
-        let (found, totals) = (book.find(owner, random.below(4) as u64), book.totals(owner));
-        let words =
-            [found.as_ref().err(), totals.as_ref().err()].map(|refused| refused.map(|refused| refused.to_string()));
-        assert!(words.iter().flatten().all(|words| words.contains("; ")), "{words:?}");
-        assert_eq!(book.entries(owner).is_ok(), totals.is_ok());
-        if book.enter(&file, random.below(4) as u64, owner).is_err() {
-            assert_eq!(book.into_memory(), table);
+    let mut seen = std::collections::BTreeMap::new();
+    for turn in 0..6_000 {
+        let mut some = |length: usize| -> Vec<u64> {
+            (0..length).map(|_| if random.below(4) == 0 { random.draw() } else { random.below(4) as u64 }).collect()
+        };
+        // Every other one is a book with anything in the rows behind, and its list.
+        let (mut table, mut taken) = (some(turn % 60), some(turn % 7));
+        if turn % 2 == 0 {
+            table.iter_mut().take(17).for_each(|number| *number = 0);
+            taken.iter_mut().take(1).for_each(|number| *number %= 3);
         }
+        let (owner, entry) = (Owner(random.below(4) as u64), random.below(4) as u64);
+        let book = Book::over(table, taken);
+        let (found, totals) = (book.find(owner, entry), book.totals(owner));
+        assert_eq!(book.entries(owner).is_ok(), totals.is_ok());
+        let calls: [Call; 3] = [
+            |book, _, owner, entry| book.withdraw(owner, entry).map(drop),
+            |book, _, _, _| book.tidy().map(drop),
+            |book, file, owner, number| book.enter(file, number, owner).map(drop),
+        ];
+        let mut words = vec![found.err(), totals.err(), book.free_places().err()];
+        for call in calls {
+            let mut changed = book.clone();
+            let refused = call(&mut changed, &file, owner, entry).err();
+            if refused.is_some() {
+                assert_eq!(changed.into_memory(), book.clone().into_memory());
+            }
+            *seen.entry(refused.as_ref().map_or(0, |refused| refused.number().0)).or_insert(0) += 1;
+            words.push(refused);
+        }
+        assert!(words.iter().flatten().all(|refused| refused.to_string().contains("; ")), "{words:?}");
+    }
+    for number in [0, 12, 13, 15, 20] {
+        assert!(seen.get(&number).is_some_and(|count| *count > 5), "{number}: {seen:?}");
     }
 }

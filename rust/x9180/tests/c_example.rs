@@ -72,7 +72,7 @@ letter 2 credit 1: picture of 178 bytes at 7521
     assert_eq!(refused_in_ebcdic, (Some(1), "refused 9 record 7 field 4 offset 563\n".to_string()));
 }
 
-/// Two samples in a book that two owners share. The second file is refused where it is damaged, and the first stays entered.
+/// Two samples in a book that two owners share, and an entry withdrawn. The second file is refused where it is damaged, and the first stays entered.
 #[test]
 fn keeps_a_day_book() {
     let folder = std::env::temp_dir().join(format!("x9180-example-book-{}", std::process::id()));
@@ -102,7 +102,13 @@ fn keeps_a_day_book() {
             "owner {owner}: entries 0 bundles 0 debits 0 credits 0 views 0 debit 0 credit 0\nowner {owner}: net 0\n"
         )
     };
-    assert_eq!(both, (Some(0), [entered, &entered.replace("owner 1", "owner 2"), of_one, of_two].concat()));
+    // Without its first letter owner 1 has the second alone. NOENTRY is 15 and DUPLICATE 12; the four rows close up to three.
+    let withdrawn = "withdrawing entry 1 of owner 1: 0\nlooking for it: 15\nrefused 12 record 0 field 0 offset 0\n\
+                     owner 1: entries 1 bundles 1 debits 1 credits 0 views 2 debit 31000 credit 0\n\
+                     owner 1: net -31000\n\
+                     owner 1: entry 2 bundles 1 debits 1 credits 0 views 2 debit 31000 credit 0\n\
+                     tidying up: 0, rows claimed 3, before 4\n";
+    assert_eq!(both, (Some(0), [entered, &entered.replace("owner 1", "owner 2"), of_one, of_two, withdrawn].concat()));
     let refused = "refused 9 record 10 field 3 offset 764\n";
     assert_eq!(one, (Some(1), [entered, refused, of_one, &nothing(2)].concat()));
     assert_eq!(none, (Some(2), [nothing(1), nothing(2)].concat()));

@@ -2,10 +2,10 @@ use mathlib.Core.Path.{sym, ap, _∙_}
 use Prim.Native.Nat.{ℕ}
 use denote.Ref.{now}
 use borrow.Author.Tests.{not-true, not-false}
-use Rattle.book_table.specs.PlainList.{finding}
-use Rattle.book_table.specs.Table.{entriesFrom, entriesOf}
-use Rattle.book_table.proofs.Laws.{sound}
-use Rattle.book.specs.Calls.{findAnswer}
+use Rattle.book_model.specs.PlainList.{finding}
+use Rattle.book_model.specs.Table.{entriesFrom, entriesOf}
+use Rattle.book_model.proofs.Laws.{sound}
+use Rattle.book_model.specs.Calls.{findAnswer}
 use borrow.Author.Needs.{needs}
 use Rattle.book.proofs.find.Statement.{statement}
 use Rattle.book.proofs.find.Tie as tie

@@ -15,11 +15,11 @@ use Rattle.book.proofs.put_letters.Statement.{statement}
 use Rattle.book.proofs.put_letters.Tie as tie
 
 abbrev Inv-loop : tie.InvT-loop
-Inv-loop file number owner last book₀ base set s₀ at₀ place₀ given₀ book s at place given =
-    Writing set file book₀ number owner last base at s book place given
+Inv-loop file number owner last book₀ claimed set s₀ at₀ place₀ rows₀ given₀ book s at place rows given =
+    Writing set file book₀ number owner last claimed at s book place rows given
 
 abbrev μ-loop : tie.MeasureT-loop
-μ-loop file number owner last book₀ base set s₀ at₀ place₀ given₀ book s at place given = length file - at
+μ-loop file number owner last book₀ claimed set s₀ at₀ place₀ rows₀ given₀ book s at place rows given = length file - at
 
 -- the record of a turn, and its type
 whole : (c : tie.After-moved Inv-loop μ-loop) → frameAt (now (c .before .before .before .before .before .before .before .before .before .before .before .before .before .before .args .file)) (c .before .before .before .before .before .before .before .before .before .loop .at) ≡ Whole (c .before .before .before .before .start2 .given .0 .0) (c .before .before .before .before .start2 .given .0 .1 .0)
@@ -35,7 +35,7 @@ start-requires : tie.Need-start-requires Inv-loop μ-loop
 start-requires c κs = search needs
 
 loop-holds : tie.Need-loop-holds Inv-loop μ-loop
-loop-holds c = writing-first (c .before .set-of .result) (now (c .before .before .before .before .args .file)) (now (c .before .before .before .before .args .book)) (c .before .before .before .before .args .number) (c .before .before .before .before .args .owner) (c .before .before .before .before .args .last) (c .before .before .before .before .args .base) (c .start .result) (c .before .set-of .ensures) (c .before .before .before .before .pre .0) (c .before .before .before .before .pre .1) (c .before .before .before .before .pre .2) (c .start .ensures (c .before .set-of .result) (now (c .before .before .before .before .args .file)))
+loop-holds c = writing-first (c .before .set-of .result) (now (c .before .before .before .before .args .file)) (now (c .before .before .before .before .args .book)) (c .before .before .before .before .args .number) (c .before .before .before .before .args .owner) (c .before .before .before .before .args .last) (c .before .before .before .before .args .claimed) (c .start .result) (c .before .set-of .ensures) (c .before .before .before .before .pre .0) (c .before .before .before .before .pre .1) (c .before .before .before .before .pre .2) (c .before .before .before .before .pre .3) (c .start .ensures (c .before .set-of .result) (now (c .before .before .before .before .args .file)))
 
 at-requires : tie.Need-at-requires Inv-loop μ-loop
 at-requires c κs = search needs
@@ -50,7 +50,7 @@ same-length : tie.Need-same-length Inv-loop μ-loop
 same-length c = c .before .before .before .before .before .loop .inv .long
 
 returns : tie.Need-returns Inv-loop μ-loop
-returns c = writing-cut (c .before .before .before .before .before .before .before .set-of .result) (now (c .before .before .before .before .before .before .before .before .before .before .args .file)) (now (c .before .before .before .before .before .before .before .before .before .before .args .book)) (c .before .before .before .before .before .before .before .before .before .before .args .number) (c .before .before .before .before .before .before .before .before .before .before .args .owner) (c .before .before .before .before .before .before .before .before .before .before .args .last) (c .before .before .before .before .before .before .before .before .before .before .args .base) (c .before .before .before .before .before .loop .at) (c .before .before .before .before .before .loop .s) (c .before .before .before .before .before .loop .book) (c .before .before .before .before .before .loop .place) (c .before .before .before .before .before .loop .given) (c .before .before .before .before .before .loop .inv) (c .before .before .before .before .loop-test .taken) (ap (frameAt (now (c .before .before .before .before .before .before .before .before .before .before .args .file))) (sym (c .before .before .before .at .ensures)) ∙ sym (c .before .before .frame .ensures) ∙ c .enum-told .given .1)
+returns c = writing-cut (c .before .before .before .before .before .before .before .set-of .result) (now (c .before .before .before .before .before .before .before .before .before .before .args .file)) (now (c .before .before .before .before .before .before .before .before .before .before .args .book)) (c .before .before .before .before .before .before .before .before .before .before .args .number) (c .before .before .before .before .before .before .before .before .before .before .args .owner) (c .before .before .before .before .before .before .before .before .before .before .args .last) (c .before .before .before .before .before .before .before .before .before .before .args .claimed) (c .before .before .before .before .before .loop .at) (c .before .before .before .before .before .loop .s) (c .before .before .before .before .before .loop .book) (c .before .before .before .before .before .loop .place) (c .before .before .before .before .before .loop .rows) (c .before .before .before .before .before .loop .given) (c .before .before .before .before .before .loop .inv) (c .before .before .before .before .loop-test .taken) (ap (frameAt (now (c .before .before .before .before .before .before .before .before .before .before .args .file))) (sym (c .before .before .before .at .ensures)) ∙ sym (c .before .before .frame .ensures) ∙ c .enum-told .given .1)
 
 enum-known-start : tie.Need-enum-known-start Inv-loop μ-loop
 enum-known-start c = search needs
@@ -64,14 +64,17 @@ type-of-requires c κs = search needs
 moved-requires : tie.Need-moved-requires Inv-loop μ-loop
 moved-requires c κs = place-moves (c .before .before .before .before .before .before .before .before .before .before .set-of .result) (now (c .before .before .before .before .before .before .before .before .before .before .before .before .before .args .file)) (c .before .before .before .before .before .before .before .before .loop .at) (c .before .before .before .before .before .before .before .before .loop .s) (c .before .before .before .before .before .before .before .before .loop .inv .here)
 
+free-row-requires : tie.Need-free-row-requires Inv-loop μ-loop
+free-row-requires c κs = c .before .before .before .before .before .before .before .before .before .before .before .loop .inv .reach
+
 add-given : tie.Need-add-given Inv-loop μ-loop
-add-given c = record { fits = writing-number (c .before .before .before .before .before .before .before .before .before .before .before .before .before .set-of .result) (now (c .before .before .before .before .before .before .before .before .before .before .before .before .before .before .before .before .args .file)) (now (c .before .before .before .before .before .before .before .before .before .before .before .before .before .before .before .before .args .book)) (c .before .before .before .before .before .before .before .before .before .before .before .before .before .before .before .before .args .number) (c .before .before .before .before .before .before .before .before .before .before .before .before .before .before .before .before .args .owner) (c .before .before .before .before .before .before .before .before .before .before .before .before .before .before .before .before .args .last) (c .before .before .before .before .before .before .before .before .before .before .before .before .before .before .before .before .args .base) (c .before .before .before .before .before .before .before .before .before .before .before .loop .at) (c .before .before .before .before .before .before .before .before .before .before .before .loop .s) (c .before .before .before .before .before .before .before .before .before .before .before .loop .book) (c .before .before .before .before .before .before .before .before .before .before .before .loop .place) (c .before .before .before .before .before .before .before .before .before .before .before .loop .given) (c .before .before .before .before .before .before .before .before .before .before .before .loop .inv) (c .before .before .before .before .before .before .before .before .before .before .loop-test .taken) _ _ (c .before .before .before .type-of .result) (whole (c .before .before)) (typed (c .before .before)) (c .before .before .moved .result) (c .before .before .moved .ensures) (c .before .if1 .taken) }
+add-given c = record { fits = writing-number (c .before .before .before .before .before .before .before .before .before .before .before .before .before .before .before .set-of .result) (now (c .before .before .before .before .before .before .before .before .before .before .before .before .before .before .before .before .before .before .args .file)) (now (c .before .before .before .before .before .before .before .before .before .before .before .before .before .before .before .before .before .before .args .book)) (c .before .before .before .before .before .before .before .before .before .before .before .before .before .before .before .before .before .before .args .number) (c .before .before .before .before .before .before .before .before .before .before .before .before .before .before .before .before .before .before .args .owner) (c .before .before .before .before .before .before .before .before .before .before .before .before .before .before .before .before .before .before .args .last) (c .before .before .before .before .before .before .before .before .before .before .before .before .before .before .before .before .before .before .args .claimed) (c .before .before .before .before .before .before .before .before .before .before .before .before .before .loop .at) (c .before .before .before .before .before .before .before .before .before .before .before .before .before .loop .s) (c .before .before .before .before .before .before .before .before .before .before .before .before .before .loop .book) (c .before .before .before .before .before .before .before .before .before .before .before .before .before .loop .place) (c .before .before .before .before .before .before .before .before .before .before .before .before .before .loop .rows) (c .before .before .before .before .before .before .before .before .before .before .before .before .before .loop .given) (c .before .before .before .before .before .before .before .before .before .before .before .before .before .loop .inv) (c .before .before .before .before .before .before .before .before .before .before .before .before .loop-test .taken) _ _ (c .before .before .before .before .before .type-of .result) (whole (c .before .before .before .before)) (typed (c .before .before .before .before)) (c .before .before .before .before .moved .result) (c .before .before .before .before .moved .ensures) (c .before .before .before .if1 .taken) }
 
 put-row-requires : tie.Need-put-row-requires Inv-loop μ-loop
-put-row-requires c κs = writing-room (c .before .before .before .before .before .before .before .before .before .before .before .before .before .before .set-of .result) (now (c .before .before .before .before .before .before .before .before .before .before .before .before .before .before .before .before .before .args .file)) (now (c .before .before .before .before .before .before .before .before .before .before .before .before .before .before .before .before .before .args .book)) (c .before .before .before .before .before .before .before .before .before .before .before .before .before .before .before .before .before .args .number) (c .before .before .before .before .before .before .before .before .before .before .before .before .before .before .before .before .before .args .owner) (c .before .before .before .before .before .before .before .before .before .before .before .before .before .before .before .before .before .args .last) (c .before .before .before .before .before .before .before .before .before .before .before .before .before .before .before .before .before .args .base) (c .before .before .before .before .before .before .before .before .before .before .before .before .loop .at) (c .before .before .before .before .before .before .before .before .before .before .before .before .loop .s) (c .before .before .before .before .before .before .before .before .before .before .before .before .loop .book) (c .before .before .before .before .before .before .before .before .before .before .before .before .loop .place) (c .before .before .before .before .before .before .before .before .before .before .before .before .loop .given) (c .before .before .before .before .before .before .before .before .before .before .before .before .loop .inv) (c .before .before .before .before .before .before .before .before .before .before .before .loop-test .taken) _ _ (c .before .before .before .before .type-of .result) (whole (c .before .before .before)) (typed (c .before .before .before)) (c .before .before .before .moved .result) (c .before .before .before .moved .ensures) (c .before .before .if1 .taken)
+put-row-requires c κs = let h = writing-room (c .before .before .before .before .before .before .before .before .before .before .before .before .before .before .before .before .set-of .result) (now (c .before .before .before .before .before .before .before .before .before .before .before .before .before .before .before .before .before .before .before .args .file)) (now (c .before .before .before .before .before .before .before .before .before .before .before .before .before .before .before .before .before .before .before .args .book)) (c .before .before .before .before .before .before .before .before .before .before .before .before .before .before .before .before .before .before .before .args .number) (c .before .before .before .before .before .before .before .before .before .before .before .before .before .before .before .before .before .before .before .args .owner) (c .before .before .before .before .before .before .before .before .before .before .before .before .before .before .before .before .before .before .before .args .last) (c .before .before .before .before .before .before .before .before .before .before .before .before .before .before .before .before .before .before .before .args .claimed) (c .before .before .before .before .before .before .before .before .before .before .before .before .before .before .loop .at) (c .before .before .before .before .before .before .before .before .before .before .before .before .before .before .loop .s) (c .before .before .before .before .before .before .before .before .before .before .before .before .before .before .loop .book) (c .before .before .before .before .before .before .before .before .before .before .before .before .before .before .loop .place) (c .before .before .before .before .before .before .before .before .before .before .before .before .before .before .loop .rows) (c .before .before .before .before .before .before .before .before .before .before .before .before .before .before .loop .given) (c .before .before .before .before .before .before .before .before .before .before .before .before .before .before .loop .inv) (c .before .before .before .before .before .before .before .before .before .before .before .before .before .loop-test .taken) _ _ (c .before .before .before .before .before .before .type-of .result) (whole (c .before .before .before .before .before)) (typed (c .before .before .before .before .before)) (c .before .before .before .before .before .moved .result) (c .before .before .before .before .before .moved .ensures) (c .before .before .before .before .if1 .taken) (c .before .before .free-row .result) (c .before .before .free-row .ensures) in omega (arith, h)
 
 add-place : tie.Need-add-place Inv-loop μ-loop
-add-place c = let h = writing-room (c .before .before .before .before .before .before .before .before .before .before .before .before .before .before .before .before .before .set-of .result) (now (c .before .before .before .before .before .before .before .before .before .before .before .before .before .before .before .before .before .before .before .before .args .file)) (now (c .before .before .before .before .before .before .before .before .before .before .before .before .before .before .before .before .before .before .before .before .args .book)) (c .before .before .before .before .before .before .before .before .before .before .before .before .before .before .before .before .before .before .before .before .args .number) (c .before .before .before .before .before .before .before .before .before .before .before .before .before .before .before .before .before .before .before .before .args .owner) (c .before .before .before .before .before .before .before .before .before .before .before .before .before .before .before .before .before .before .before .before .args .last) (c .before .before .before .before .before .before .before .before .before .before .before .before .before .before .before .before .before .before .before .before .args .base) (c .before .before .before .before .before .before .before .before .before .before .before .before .before .before .before .loop .at) (c .before .before .before .before .before .before .before .before .before .before .before .before .before .before .before .loop .s) (c .before .before .before .before .before .before .before .before .before .before .before .before .before .before .before .loop .book) (c .before .before .before .before .before .before .before .before .before .before .before .before .before .before .before .loop .place) (c .before .before .before .before .before .before .before .before .before .before .before .before .before .before .before .loop .given) (c .before .before .before .before .before .before .before .before .before .before .before .before .before .before .before .loop .inv) (c .before .before .before .before .before .before .before .before .before .before .before .before .before .before .loop-test .taken) _ _ (c .before .before .before .before .before .before .before .type-of .result) (whole (c .before .before .before .before .before .before)) (typed (c .before .before .before .before .before .before)) (c .before .before .before .before .before .before .moved .result) (c .before .before .before .before .before .before .moved .ensures) (c .before .before .before .before .before .if1 .taken) in omega (arith, h, c .before .before .before .before .before .before .before .before .before .before .before .before .before .before .before .loop .inv .long, c .before .before .before .before .before .before .before .before .before .before .before .before .before .before .before .before .before .before .before .before .good)
+add-place c = let h = writing-room (c .before .before .before .before .before .before .before .before .before .before .before .before .before .before .before .before .before .before .before .before .set-of .result) (now (c .before .before .before .before .before .before .before .before .before .before .before .before .before .before .before .before .before .before .before .before .before .before .before .args .file)) (now (c .before .before .before .before .before .before .before .before .before .before .before .before .before .before .before .before .before .before .before .before .before .before .before .args .book)) (c .before .before .before .before .before .before .before .before .before .before .before .before .before .before .before .before .before .before .before .before .before .before .before .args .number) (c .before .before .before .before .before .before .before .before .before .before .before .before .before .before .before .before .before .before .before .before .before .before .before .args .owner) (c .before .before .before .before .before .before .before .before .before .before .before .before .before .before .before .before .before .before .before .before .before .before .before .args .last) (c .before .before .before .before .before .before .before .before .before .before .before .before .before .before .before .before .before .before .before .before .before .before .before .args .claimed) (c .before .before .before .before .before .before .before .before .before .before .before .before .before .before .before .before .before .before .loop .at) (c .before .before .before .before .before .before .before .before .before .before .before .before .before .before .before .before .before .before .loop .s) (c .before .before .before .before .before .before .before .before .before .before .before .before .before .before .before .before .before .before .loop .book) (c .before .before .before .before .before .before .before .before .before .before .before .before .before .before .before .before .before .before .loop .place) (c .before .before .before .before .before .before .before .before .before .before .before .before .before .before .before .before .before .before .loop .rows) (c .before .before .before .before .before .before .before .before .before .before .before .before .before .before .before .before .before .before .loop .given) (c .before .before .before .before .before .before .before .before .before .before .before .before .before .before .before .before .before .before .loop .inv) (c .before .before .before .before .before .before .before .before .before .before .before .before .before .before .before .before .before .loop-test .taken) _ _ (c .before .before .before .before .before .before .before .before .before .before .type-of .result) (whole (c .before .before .before .before .before .before .before .before .before)) (typed (c .before .before .before .before .before .before .before .before .before)) (c .before .before .before .before .before .before .before .before .before .moved .result) (c .before .before .before .before .before .before .before .before .before .moved .ensures) (c .before .before .before .before .before .before .before .before .if1 .taken) (c .before .before .before .before .before .before .free-row .result) (c .before .before .before .before .before .before .free-row .ensures) in omega (arith, h, c .before .before .before .before .before .before .before .before .before .before .before .before .before .before .before .before .before .before .loop .inv .long, c .before .before .before .before .before .before .before .before .before .before .before .before .before .before .before .before .before .before .before .before .before .before .before .good)
 
 add-at : tie.Need-add-at Inv-loop μ-loop
 add-at c = let w = whole-within (now (c .before .before .before .before .before .before .before .before .before .before .before .before .before .before .before .args .file)) (c .before .before .before .before .before .before .before .before .before .before .loop .at) _ _ (whole (c .before)) in omega (arith, w, c .before .before .before .before .before .before .before .before .before .before .loop .inv .here .limit)
@@ -80,13 +83,13 @@ loop-less : tie.Need-loop-less Inv-loop μ-loop
 loop-less c = let b = whole-start (now (c .before .before .before .before .before .before .before .before .before .before .before .before .before .before .before .args .file)) (c .before .before .before .before .before .before .before .before .before .before .loop .at) _ _ (whole (c .before)) in let w = whole-within (now (c .before .before .before .before .before .before .before .before .before .before .before .before .before .before .before .args .file)) (c .before .before .before .before .before .before .before .before .before .before .loop .at) _ _ (whole (c .before)) in omega (arith, w, b)
 
 loop-again : tie.Need-loop-again Inv-loop μ-loop
-loop-again c = ⊎-elim (λ w. rw (w .6, w .7, w .8) (writing-one (c .before .before .before .before .before .before .before .before .before .before .before .before .set-of .result) (now (c .before .before .before .before .before .before .before .before .before .before .before .before .before .before .before .args .file)) (now (c .before .before .before .before .before .before .before .before .before .before .before .before .before .before .before .args .book)) (c .before .before .before .before .before .before .before .before .before .before .before .before .before .before .before .args .number) (c .before .before .before .before .before .before .before .before .before .before .before .before .before .before .before .args .owner) (c .before .before .before .before .before .before .before .before .before .before .before .before .before .before .before .args .last) (c .before .before .before .before .before .before .before .before .before .before .before .before .before .before .before .args .base) (c .before .before .before .before .before .before .before .before .before .before .loop .at) (c .before .before .before .before .before .before .before .before .before .before .loop .s) (c .before .before .before .before .before .before .before .before .before .before .loop .book) (c .before .before .before .before .before .before .before .before .before .before .loop .place) (c .before .before .before .before .before .before .before .before .before .before .loop .given) (c .before .before .before .before .before .before .before .before .before .before .loop .inv) (c .before .before .before .before .before .before .before .before .before .loop-test .taken) _ _ (c .before .before .type-of .result) (whole (c .before)) (typed (c .before)) (c .before .moved .result) (c .before .moved .ensures) (w .0 .taken) (w .3 .last .0) (w .3 .ensures))) (λ w. rw (w .1, w .2, w .3) (writing-other (c .before .before .before .before .before .before .before .before .before .before .before .before .set-of .result) (now (c .before .before .before .before .before .before .before .before .before .before .before .before .before .before .before .args .file)) (now (c .before .before .before .before .before .before .before .before .before .before .before .before .before .before .before .args .book)) (c .before .before .before .before .before .before .before .before .before .before .before .before .before .before .before .args .number) (c .before .before .before .before .before .before .before .before .before .before .before .before .before .before .before .args .owner) (c .before .before .before .before .before .before .before .before .before .before .before .before .before .before .before .args .last) (c .before .before .before .before .before .before .before .before .before .before .before .before .before .before .before .args .base) (c .before .before .before .before .before .before .before .before .before .before .loop .at) (c .before .before .before .before .before .before .before .before .before .before .loop .s) (c .before .before .before .before .before .before .before .before .before .before .loop .book) (c .before .before .before .before .before .before .before .before .before .before .loop .place) (c .before .before .before .before .before .before .before .before .before .before .loop .given) (c .before .before .before .before .before .before .before .before .before .before .loop .inv) (c .before .before .before .before .before .before .before .before .before .loop-test .taken) _ _ (c .before .before .type-of .result) (whole (c .before)) (typed (c .before)) (c .before .moved .result) (c .before .moved .ensures) (w .0 .left))) (c .if1 .came)
+loop-again c = ⊎-elim (λ w. rw (w .9, w .10, w .11, w .12) (writing-one (c .before .before .before .before .before .before .before .before .before .before .before .before .set-of .result) (now (c .before .before .before .before .before .before .before .before .before .before .before .before .before .before .before .args .file)) (now (c .before .before .before .before .before .before .before .before .before .before .before .before .before .before .before .args .book)) (c .before .before .before .before .before .before .before .before .before .before .before .before .before .before .before .args .number) (c .before .before .before .before .before .before .before .before .before .before .before .before .before .before .before .args .owner) (c .before .before .before .before .before .before .before .before .before .before .before .before .before .before .before .args .last) (c .before .before .before .before .before .before .before .before .before .before .before .before .before .before .before .args .claimed) (c .before .before .before .before .before .before .before .before .before .before .loop .at) (c .before .before .before .before .before .before .before .before .before .before .loop .s) (c .before .before .before .before .before .before .before .before .before .before .loop .book) (c .before .before .before .before .before .before .before .before .before .before .loop .place) (c .before .before .before .before .before .before .before .before .before .before .loop .rows) (c .before .before .before .before .before .before .before .before .before .before .loop .given) (c .before .before .before .before .before .before .before .before .before .before .loop .inv) (c .before .before .before .before .before .before .before .before .before .loop-test .taken) _ _ (c .before .before .type-of .result) (whole (c .before)) (typed (c .before)) (c .before .moved .result) (c .before .moved .ensures) (w .0 .taken) (w .2 .result) (w .2 .ensures) (w .5 .last .0) (w .5 .ensures))) (λ w. rw (w .1, w .2, w .3, w .4) (writing-other (c .before .before .before .before .before .before .before .before .before .before .before .before .set-of .result) (now (c .before .before .before .before .before .before .before .before .before .before .before .before .before .before .before .args .file)) (now (c .before .before .before .before .before .before .before .before .before .before .before .before .before .before .before .args .book)) (c .before .before .before .before .before .before .before .before .before .before .before .before .before .before .before .args .number) (c .before .before .before .before .before .before .before .before .before .before .before .before .before .before .before .args .owner) (c .before .before .before .before .before .before .before .before .before .before .before .before .before .before .before .args .last) (c .before .before .before .before .before .before .before .before .before .before .before .before .before .before .before .args .claimed) (c .before .before .before .before .before .before .before .before .before .before .loop .at) (c .before .before .before .before .before .before .before .before .before .before .loop .s) (c .before .before .before .before .before .before .before .before .before .before .loop .book) (c .before .before .before .before .before .before .before .before .before .before .loop .place) (c .before .before .before .before .before .before .before .before .before .before .loop .rows) (c .before .before .before .before .before .before .before .before .before .before .loop .given) (c .before .before .before .before .before .before .before .before .before .before .loop .inv) (c .before .before .before .before .before .before .before .before .before .loop-test .taken) _ _ (c .before .before .type-of .result) (whole (c .before)) (typed (c .before)) (c .before .moved .result) (c .before .moved .ensures) (w .0 .left))) (c .if1 .came)
 
 same-length-2 : tie.Need-same-length-2 Inv-loop μ-loop
 same-length-2 c = c .before .loop .inv .long
 
 returns-2 : tie.Need-returns-2 Inv-loop μ-loop
-returns-2 c = writing-end (c .before .before .before .set-of .result) (now (c .before .before .before .before .before .before .args .file)) (now (c .before .before .before .before .before .before .args .book)) (c .before .before .before .before .before .before .args .number) (c .before .before .before .before .before .before .args .owner) (c .before .before .before .before .before .before .args .last) (c .before .before .before .before .before .before .args .base) (c .before .loop .at) (c .before .loop .s) (c .before .loop .book) (c .before .loop .place) (c .before .loop .given) (c .before .loop .inv) (c .loop-test .left)
+returns-2 c = writing-end (c .before .before .before .set-of .result) (now (c .before .before .before .before .before .before .args .file)) (now (c .before .before .before .before .before .before .args .book)) (c .before .before .before .before .before .before .args .number) (c .before .before .before .before .before .before .args .owner) (c .before .before .before .before .before .before .args .last) (c .before .before .before .before .before .before .args .claimed) (c .before .loop .at) (c .before .loop .s) (c .before .loop .book) (c .before .loop .place) (c .before .loop .rows) (c .before .loop .given) (c .before .loop .inv) (c .loop-test .left)
 
 pub put-letters-spec : {M : Type 1} → statement M
 put-letters-spec =
@@ -106,6 +109,7 @@ put-letters-spec =
     part-of-requires
     type-of-requires
     moved-requires
+    free-row-requires
     add-given
     put-row-requires
     add-place

@@ -9,11 +9,11 @@ use Rattle.figures.specs.declared.Figures.{Figures}
 use Rattle.figures.specs.Figures.{figuresAt}
 use Rattle.net.specs.Net.{signed}
 use Rattle.net.proofs.Laws.{net-said}
-use Rattle.book_table.specs.declared.Tally.the-variants.{Totals}
-use Rattle.book_table.specs.PlainList.{positionOf}
-use Rattle.book_table.specs.Table.{runningTotals, netNumber, entriesFrom, entriesOf}
-use Rattle.book_table.proofs.Laws.{sound}
-use Rattle.book.specs.Calls.{totalsAnswer}
+use Rattle.book_model.specs.declared.Tally.the-variants.{Totals}
+use Rattle.book_model.specs.PlainList.{positionOf}
+use Rattle.book_model.specs.Table.{runningTotals, netNumber, entriesFrom, entriesOf}
+use Rattle.book_model.proofs.Laws.{sound}
+use Rattle.book_model.specs.Calls.{totalsAnswer}
 use borrow.Author.Needs.{needs}
 use Rattle.book.proofs.totals.Statement.{statement}
 use Rattle.book.proofs.totals.Tie as tie

@@ -4,9 +4,9 @@ use Prim.Native.Nat.{ℕ}
 use denote.Ref.{now}
 use Rattle.figures.specs.Figures.{same}
 use Rattle.net.specs.Net.{isNet}
-use Rattle.book_table.specs.PlainList.{totalsOf, positionOf}
-use Rattle.book_table.specs.Table.{rowsClaimed, runningTotals, netNumber, entriesFrom, entriesOf, addsUp}
-use Rattle.book_table.proofs.Laws.{net-of-sums}
+use Rattle.book_model.specs.PlainList.{totalsOf, positionOf}
+use Rattle.book_model.specs.Table.{rowsClaimed, runningTotals, netNumber, entriesFrom, entriesOf, addsUp}
+use Rattle.book_model.proofs.Laws.{net-of-sums}
 use borrow.Author.Needs.{needs}
 use Rattle.book_table.proofs.adds_up.Statement.{statement}
 use Rattle.book_table.proofs.adds_up.Tie as tie

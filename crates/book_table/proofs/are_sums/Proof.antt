@@ -4,9 +4,9 @@ use denote.Ref.{now}
 use borrow.Author.Tests.{not-true, not-false}
 use Rattle.figures.specs.declared.Figures.{Figures}
 use Rattle.figures.specs.Figures.{same, covers, minus, figuresAt}
-use Rattle.book_table.specs.PlainList.{totalsOf}
-use Rattle.book_table.specs.Table.{runningTotals, entriesFrom}
-use Rattle.book_table.proofs.Laws.{Walk, row-within, sums-none, sums-short, sums-behind}
+use Rattle.book_model.specs.PlainList.{totalsOf}
+use Rattle.book_model.specs.Table.{runningTotals, entriesFrom}
+use Rattle.book_model.proofs.Laws.{Walk, row-within, sums-none, sums-short, sums-behind}
 use borrow.Author.Needs.{needs}
 use Rattle.book_table.proofs.are_sums.Statement.{statement}
 use Rattle.book_table.proofs.are_sums.Tie as tie

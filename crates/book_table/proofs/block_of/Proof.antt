@@ -1,6 +1,6 @@
 use native.Mathlib.Omega.{arith}
 use borrow.Author.Tests.{eq-eqb, ne-eqb}
-use Rattle.book_table.specs.Table.{blockOf}
+use Rattle.book_model.specs.Table.{blockOf}
 use Rattle.book_table.proofs.block_of.Statement.{statement}
 use Rattle.book_table.proofs.block_of.Tie as tie
 use Rattle.book_table.proofs.block_of.Reads as reads

@@ -1,6 +1,6 @@
 use mathlib.Core.Path.{sym}
 use borrow.Author.Needs.{needs}
-use Rattle.book_table.specs.Table.{entryAt}
+use Rattle.book_model.specs.Table.{entryAt}
 use Rattle.book_table.proofs.entry_at.Statement.{statement}
 use Rattle.book_table.proofs.entry_at.Tie as tie
 

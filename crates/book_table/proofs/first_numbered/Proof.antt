@@ -1,10 +1,10 @@
 use mathlib.Core.Path.{_≡_, refl, sym, ap, _∙_}
 use native.Mathlib.Omega.{arith}
 use denote.Ref.{now}
-use Rattle.book_table.specs.declared.Finding.the-variants.{Found}
-use Rattle.book_table.specs.PlainList.{finding}
-use Rattle.book_table.specs.Table.{entriesFrom}
-use Rattle.book_table.proofs.Laws.{Walk, row-within, row-at, row-here, found-none, found-here, found-behind}
+use Rattle.book_model.specs.declared.Finding.the-variants.{Found}
+use Rattle.book_model.specs.PlainList.{finding}
+use Rattle.book_model.specs.Table.{entriesFrom}
+use Rattle.book_model.proofs.Laws.{Walk, row-within, row-at, row-here, found-none, found-here, found-behind}
 use borrow.Author.Needs.{needs}
 use Rattle.book_table.proofs.first_numbered.Statement.{statement}
 use Rattle.book_table.proofs.first_numbered.Tie as tie

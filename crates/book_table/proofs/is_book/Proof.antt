@@ -3,7 +3,7 @@ use mathlib.Core.Path.{_≡_}
 use native.Mathlib.Omega.{arith}
 use denote.Ref.{now}
 use borrow.Author.Tests.{lt-leb, le-leb}
-use Rattle.book_table.specs.Table.{rowsClaimed, rowsThere, isBook}
+use Rattle.book_model.specs.Table.{rowsClaimed, rowsThere, isBook}
 use borrow.Author.Needs.{needs}
 use Rattle.book_table.proofs.is_book.Statement.{statement}
 use Rattle.book_table.proofs.is_book.Tie as tie

@@ -1,5 +1,5 @@
 use mathlib.Core.Path.{refl}
-use Rattle.book_table.specs.Table.{isOwner}
+use Rattle.book_model.specs.Table.{isOwner}
 use Rattle.book_table.proofs.is_owner.Statement.{statement}
 use Rattle.book_table.proofs.is_owner.Tie as tie
 use Rattle.book_table.proofs.is_owner.Reads as reads

@@ -5,7 +5,7 @@ use lib.ListN.{getD}
 use Rattle.figures.specs.declared.Figures.{Figures}
 use Rattle.figures.specs.Figures.{figuresAt}
 use Rattle.net.specs.Net.{isNet}
-use Rattle.book_table.specs.PlainList.{positionOf}
+use Rattle.book_model.specs.PlainList.{positionOf}
 use borrow.Author.Needs.{needs}
 use Rattle.book_table.proofs.keeps_net.Statement.{statement}
 use Rattle.book_table.proofs.keeps_net.Tie as tie

@@ -7,8 +7,8 @@ use lib.IntN.{ℤ, _+ℤ_}
 use lib.ListN.{getD}
 use Rattle.net.specs.Net.{netOf, signed, within}
 use Rattle.net.proofs.Laws.{net-sum, net-said}
-use Rattle.book_table.specs.PlainList.{positionOf}
-use Rattle.book_table.specs.Table.{runningTotals, netNumber}
+use Rattle.book_model.specs.PlainList.{positionOf}
+use Rattle.book_model.specs.Table.{runningTotals, netNumber}
 use borrow.Author.Needs.{needs}
 use Rattle.book_table.proofs.keeps_range.Statement.{statement}
 use Rattle.book_table.proofs.keeps_range.Tie as tie

@@ -4,8 +4,8 @@ use native.Mathlib.Omega.{arith}
 use mathlib.Core.Logic.{⊎-elim}
 use denote.Ref.{now}
 use lib.ListN.{length}
-use Rattle.book_table.specs.Table.{entriesFrom}
-use Rattle.book_table.proofs.Laws.{Walk, row-here, count-none, count-own, count-other}
+use Rattle.book_model.specs.Table.{entriesFrom}
+use Rattle.book_model.proofs.Laws.{Walk, row-here, count-none, count-own, count-other}
 use borrow.Author.Needs.{needs}
 use Rattle.book_table.proofs.own_rows.Statement.{statement}
 use Rattle.book_table.proofs.own_rows.Tie as tie

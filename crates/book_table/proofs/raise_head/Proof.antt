@@ -7,8 +7,8 @@ use lib.Seq.{sets}
 use Rattle.figures.specs.declared.Figures.{Figures}
 use Rattle.figures.specs.Figures.{plus, figuresAt}
 use Rattle.net.specs.Net.{within}
-use Rattle.book_table.specs.PlainList.{positionOf}
-use Rattle.book_table.specs.Table.{blockWith}
+use Rattle.book_model.specs.PlainList.{positionOf}
+use Rattle.book_model.specs.Table.{blockWith}
 use borrow.Author.Needs.{needs}
 use Rattle.book_table.proofs.raise_head.Statement.{statement}
 use Rattle.book_table.proofs.raise_head.Tie as tie
@@ -51,7 +51,7 @@ returns c =
     let block = c .before .before .before .before .before .before .before .before .before .before .block-of .ensures .0 in
     let last = (c .before .before .before .before .before .before .before .before .number-at .ensures ∙ ap (λ (n : ℕ). getD (now (c .before .before .before .before .before .before .before .before .before .before .before .before .args .book)) n 0) (c .before .before .before .before .before .before .before .before .before .before .block-of .ensures .0)) in
     let totals = (c .before .before .before .raised .ensures ∙ ap (λ (f : Figures). plus f (c .before .before .before .before .before .before .before .before .before .before .before .before .args .added)) (c .before .before .before .before .before .before .figures-at .ensures ∙ ap (λ (n : ℕ). figuresAt (now (c .before .before .before .before .before .before .before .before .before .before .before .before .args .book)) (n + 1)) (c .before .before .before .before .before .before .before .before .before .before .block-of .ensures .0))) in
-    c .before .before .put-block .ensures ∙ (λ i. sets (set (now (c .before .before .before .before .before .before .before .before .before .before .before .before .args .book)) 0 (getD (now (c .before .before .before .before .before .before .before .before .before .before .before .before .args .book)) 0 0 + c .before .before .before .before .before .before .before .before .before .before .before .before .args .letters)) (block i) (blockWith (last i + c .before .before .before .before .before .before .before .before .before .before .before .before .args .letters) (totals i)))
+    c .before .before .put-block .ensures ∙ (λ i. sets (set (now (c .before .before .before .before .before .before .before .before .before .before .before .before .args .book)) 0 (getD (now (c .before .before .before .before .before .before .before .before .before .before .before .before .args .book)) 0 0 + c .before .before .before .before .before .before .before .before .before .before .before .before .args .rows)) (block i) (blockWith (last i + c .before .before .before .before .before .before .before .before .before .before .before .before .args .letters) (totals i)))
 
 pub raise-head-spec : {M : Type 1} → statement M
 raise-head-spec =

@@ -96,11 +96,22 @@ pub fn check_sum(bytes: &[u8]) -> u64 {
     !bytes.iter().fold(!0, |sum, byte| (0..8).fold(sum ^ u64::from(*byte), |sum, _| bit(sum)))
 }
 
-/// The file of a day book of a version, as `docs/BOOK-FILE.md` has it, with so many numbers in its table, of which these are the first.
-pub fn book_file(version: u64, length: u64, numbers: &[u64]) -> Vec<u8> {
-    let stored = numbers.iter().rposition(|number| *number != 0).map_or(0, |last| last + 1);
+/// The file of a day book of today, as `docs/BOOK-FILE.md` has it: how many numbers its table has and the first of them, and the same of its list.
+pub fn book_file(length: u64, numbers: &[u64], list_length: u64, list: &[u64]) -> Vec<u8> {
+    file_of_version(4, &[(length, numbers), (list_length, list)])
+}
+
+/// The file of a day book of version 1, 2 or 3, which has no list.
+pub fn older_file(version: u64, length: u64, numbers: &[u64]) -> Vec<u8> {
+    file_of_version(version, &[(length, numbers)])
+}
+
+fn file_of_version(version: u64, arrays: &[(u64, &[u64])]) -> Vec<u8> {
+    let stored = |numbers: &[u64]| numbers.iter().rposition(|number| *number != 0).map_or(0, |last| last + 1);
     let mut bytes = format!("icl day book, version {version}\n").into_bytes();
-    [length, stored as u64].iter().chain(&numbers[..stored]).for_each(|number| bytes.extend(number.to_le_bytes()));
+    let counts = arrays.iter().flat_map(|(length, numbers)| [*length, stored(numbers) as u64]);
+    let numbers = arrays.iter().flat_map(|(_, numbers)| numbers[..stored(numbers)].iter().copied());
+    counts.chain(numbers).for_each(|number| bytes.extend(number.to_le_bytes()));
     bytes.extend(check_sum(&bytes).to_le_bytes());
     bytes
 }

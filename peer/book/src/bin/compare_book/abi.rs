@@ -1,4 +1,4 @@
-//! The proved library's calls of requests 6, 8 and 9 (points 37, 39 and 40), as a side that answers.
+//! The proved library's calls of requests 6 and 8 to 10 (points 37 and 39 to 41), as a side that answers.
 
 use peer_book::call::{Lent, Outcome, Side};
 use peer_book::layout::{ENTER_ANSWER, FIND_ANSWER, TOTALS_ANSWER};
@@ -14,10 +14,21 @@ extern "C" {
         table_len: usize,
         book: *mut u64,
         book_len: usize,
+        taken: *mut u64,
+        taken_len: usize,
         answer: *mut u64,
     ) -> u64;
     fn x9_book_find(book: *const u64, book_len: usize, owner: u64, entry_number: u64, found: *mut u64) -> u64;
     fn x9_book_totals(book: *const u64, book_len: usize, owner: u64, totals: *mut u64) -> u64;
+    fn x9_book_withdraw(
+        book: *mut u64,
+        book_len: usize,
+        taken: *const u64,
+        taken_len: usize,
+        owner: u64,
+        entry_number: u64,
+    ) -> u64;
+    fn x9_book_tidy(book: *mut u64, book_len: usize, taken: *const u64, taken_len: usize) -> u64;
 }
 
 /// What an answer holds before a call.
@@ -46,11 +57,25 @@ pub struct Library;
 
 impl Side for Library {
     fn enter(&self, paper: &Paper, file_number: u64, owner: u64, lent: Lent) -> Result<Outcome, String> {
-        let (file, rows, book) = (&paper.bytes, lent.rows, lent.book);
+        let (file, rows, book, taken) = (&paper.bytes, lent.rows, lent.book, lent.taken);
         // SAFETY: each pointer goes with its slice's own length, and the answer holds more than the numbers the call fills.
         outcome(ENTER_ANSWER, |answer| unsafe {
-            let (file_at, rows_at, book_at) = (file.as_ptr(), rows.as_mut_ptr(), book.as_mut_ptr());
-            x9_book_enter(file_at, file.len(), file_number, owner, rows_at, rows.len(), book_at, book.len(), answer)
+            let (file_at, rows_at) = (file.as_ptr(), rows.as_mut_ptr());
+            let (book_at, taken_at) = (book.as_mut_ptr(), taken.as_mut_ptr());
+            let (book_len, taken_len) = (book.len(), taken.len());
+            x9_book_enter(
+                file_at,
+                file.len(),
+                file_number,
+                owner,
+                rows_at,
+                rows.len(),
+                book_at,
+                book_len,
+                taken_at,
+                taken_len,
+                answer,
+            )
         })
     }
 
@@ -64,5 +89,20 @@ impl Side for Library {
         let book = lent.book;
         // SAFETY: as above.
         outcome(TOTALS_ANSWER, |totals| unsafe { x9_book_totals(book.as_mut_ptr(), book.len(), owner, totals) })
+    }
+
+    fn withdraw(&self, owner: u64, entry_number: u64, lent: Lent) -> Result<Outcome, String> {
+        let (book, taken) = (lent.book, lent.taken);
+        // SAFETY: as above; the list's pointer too is one that may be written through.
+        Ok(Outcome::bare(unsafe {
+            let taken_at = taken.as_mut_ptr();
+            x9_book_withdraw(book.as_mut_ptr(), book.len(), taken_at, taken.len(), owner, entry_number)
+        }))
+    }
+
+    fn tidy(&self, lent: Lent) -> Result<Outcome, String> {
+        let (book, taken) = (lent.book, lent.taken);
+        // SAFETY: as above.
+        Ok(Outcome::bare(unsafe { x9_book_tidy(book.as_mut_ptr(), book.len(), taken.as_mut_ptr(), taken.len()) }))
     }
 }

@@ -1,0 +1,16 @@
+pub mod Laws
+pub mod Taken
+pub mod Stores
+pub mod Rows
+pub mod Merged
+pub mod Used
+pub mod Placed
+pub mod Cleared
+pub mod Tidied
+pub mod Head
+pub mod MoreEntries
+pub mod FewerEntries
+pub mod NoGaps
+pub mod MoreTaken
+pub mod Without
+pub mod Steps

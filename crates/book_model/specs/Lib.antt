@@ -1,0 +1,3 @@
+pub mod PlainList
+pub mod Table
+pub mod Calls

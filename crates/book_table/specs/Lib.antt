@@ -1,2 +1,0 @@
-pub mod PlainList
-pub mod Table
