@@ -2,6 +2,7 @@
 
 use std::ffi::{OsStr, OsString};
 
+use crate::forms::Form;
 use crate::stop::Stop;
 use crate::words;
 
@@ -47,11 +48,29 @@ impl Args {
         self.options.iter().find(|option| option.0 == name).map(|option| option.1.as_os_str())
     }
 
+    /// How a listing is to be written.
+    pub fn form(&self) -> Result<Form, Stop> {
+        match (self.has("--csv"), self.has("--json")) {
+            (true, true) => Err(Stop::Usage("--csv and --json exclude each other".to_string())),
+            (true, _) => Ok(Form::Csv),
+            (_, true) => Ok(Form::Json),
+            _ => Ok(Form::Text),
+        }
+    }
+
     /// One name or more.
     pub fn several(&self) -> Result<&[OsString], Stop> {
         match self.names.is_empty() {
             true => Err(Stop::Usage("no file was named".to_string())),
             false => Ok(&self.names),
+        }
+    }
+
+    /// One name or more, and behind them one other.
+    pub fn several_and(&self, what: [&str; 2]) -> Result<(&[OsString], &OsStr), Stop> {
+        match self.names.split_last() {
+            Some((last, several)) if !several.is_empty() => Ok((several, last)),
+            _ => Err(Stop::Usage(format!("{} is missing", what[self.names.len()]))),
         }
     }
 

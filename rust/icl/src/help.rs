@@ -23,6 +23,8 @@ use:
   icl book totals BOOK --owner 1|2
   icl book grow BOOK --rows N
   icl book convert OLD NEW --owner 1|2
+  icl find [--csv | --json] FILE... --sequence N | --amount A | --routing R | --account TEXT
+           [--pictures DIR [--force]]
   icl COMMAND --help
   icl --version
 
@@ -191,6 +193,27 @@ Refusals are told on standard error: those of icl check FILE, and with record, f
 Exit status: 0 done, 1 refused, 2 something could not be read or written, or there is no file BOOK.
 ";
 
+const FIND: &str = "\
+icl find [--csv | --json] FILE... --sequence N | --amount A | --routing R | --account TEXT
+         [--pictures DIR [--force]]
+
+Lists the items of accepted files that match, be they checks, returns or credits (type 61): file, cash letter,
+bundle and item, kind, amount, sequence number, routing number and account as they stand in the file, which field
+matched, the offsets of the pictures (as icl picture takes them), and what the bundle and the cash letter add up to.
+The last line tells how many were found, and what was looked for. Of several conditions all have to hold.
+  --sequence N    the item's sequence number: field 7 of a check or return, field 8 of a credit
+  --amount A      125.50 in dollars and cents; without a point in cents, as the file has it: 12550
+  --routing R     the payor bank's routing number (field 4), or the posting bank's of a credit (field 5)
+  --account TEXT  the On-Us field (field 5, of a credit field 6) or a Deposit Account Number at BOFD of its addenda
+                  that holds TEXT
+  --pictures DIR  takes out the pictures of these items, named as icl pictures names them
+  --force         overwrite pictures that are there already
+  --csv, --json   for programs (docs/ICL.md)
+Zeros before a number, and blanks, make no difference. FILE may be a folder, which stands for the files in it.
+Exit status: 0 looked through, whether or not anything was found, 1 a file was refused (told on standard error),
+2 something could not be read or written.
+";
+
 /// The help for a command, or the general one for a word that asks for help or version.
 pub fn of(command: &str) -> Option<&'static str> {
     match command {
@@ -203,6 +226,7 @@ pub fn of(command: &str) -> Option<&'static str> {
         "draft" => Some(DRAFT),
         "write" => Some(WRITE),
         "book" => Some(BOOK),
+        "find" => Some(FIND),
         "--help" | "-h" | "help" | "--version" | "-V" => Some(GENERAL),
         _ => None,
     }

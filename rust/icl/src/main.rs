@@ -4,12 +4,12 @@
 // Imports go one way. This root imports the modules, and no module imports the root; among themselves each imports only those on lines
 // below its own. `x9180/tests/imports.rs` fails where that is not so.
 //
-//     check, rows, tree, pictures, tags, draft, write, book    the commands
-//     book_convert
-//     book_words
-//     args, input, output, sheet, names, help, book_file, book_list, durable
-//     store, json, places
-//     screen, interrupt
+//     check, rows, tree, pictures, tags, draft, write, book, find    the commands
+//     book_convert, find_query
+//     book_words, each, taking
+//     args, input, output, sheet, names, help, book_file, book_list, durable, facts
+//     store, forms, places, files
+//     screen, interrupt, json
 //     stop
 //     words
 mod args;
@@ -21,6 +21,12 @@ mod book_words;
 mod check;
 mod draft;
 mod durable;
+mod each;
+mod facts;
+mod files;
+mod find;
+mod find_query;
+mod forms;
 mod help;
 mod input;
 mod interrupt;
@@ -35,6 +41,7 @@ mod sheet;
 mod stop;
 mod store;
 mod tags;
+mod taking;
 mod tree;
 mod words;
 mod write;
@@ -83,6 +90,12 @@ fn run(mut words: Vec<OsString>) -> Result<u8, Stop> {
         Some("draft") => draft::run(Args::of(words, &["--force"], &["-o"])?),
         Some("write") => write::run(Args::of(words, &["--force"], &["-o"])?),
         Some("book") => book::run(words),
+        // The desk.
+        Some("find") => find::run(Args::of(
+            words,
+            &["--csv", "--json", "--force"],
+            &["--sequence", "--amount", "--routing", "--account", "--pictures"],
+        )?),
         _ => pictures::all(Args::of(words, &["--force"], &[])?),
     }
 }

@@ -136,8 +136,8 @@ fn pictures_are_those_of_the_ascii_file() {
     // 179 + 4 x 188 + 3 x 196, by tests/pictures.rs.
     let said = format!("8 pictures (1,519 bytes) written to {from_ebcdic}\n");
     assert_eq!(run(&format!("pictures {IN_EBCDIC} {from_ebcdic}")), (0, said, String::new()));
-    let names = folder.names("ebcdic");
-    assert_eq!((names.len(), &names), (8, &folder.names("ascii")));
+    let names = folder.all("ebcdic");
+    assert_eq!((names.len(), &names), (8, &folder.all("ascii")));
     assert!(names.iter().all(|name| name.ends_with(".tif")));
     for name in names {
         let bytes = |from: &str| fs::read(folder.0.join(from).join(&name)).unwrap();

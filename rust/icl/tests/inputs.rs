@@ -23,7 +23,12 @@ fn commands(folder: &Folder) -> [(&'static str, String); 8] {
 
 /// Runs each command on a file, and expects this status and this line on standard error, nothing else, and nothing written.
 fn each(folder: &Folder, file: &str, status: i32, complaint: &str) {
-    for (command, rest) in commands(folder) {
+    each_but(folder, &[], file, status, complaint);
+}
+
+/// The same, without some of the commands.
+fn each_but(folder: &Folder, without: &[&str], file: &str, status: i32, complaint: &str) {
+    for (command, rest) in commands(folder).into_iter().filter(|(command, _)| !without.contains(command)) {
         let outcome = run(&format!("{command} {file}{rest}"));
         assert_eq!(outcome, (status, String::new(), format!("icl: {complaint}\n")), "{command} {file}");
     }
@@ -191,7 +196,7 @@ fn a_folder() {
     let file = folder.path("");
     let complaint = format!("{file}: it is a folder, not a file");
     assert_eq!(run(&format!("check {file}")), (2, String::new(), format!("icl: {complaint}\n")));
-    each(&folder, &file, 2, &complaint);
+    each_but(&folder, &["pictures"], &file, 2, &complaint);
 }
 
 /// Root may read all, so that root tries it as nobody, with a copy of the tool that nobody can reach.
@@ -263,7 +268,7 @@ fn a_pipe() {
     let out = folder.path("out");
     let said = format!("3 pictures (3 bytes) written to {out}\n");
     assert_eq!(piped(&format!("pictures - {out}"), &views), (0, said, String::new()));
-    assert_eq!(folder.names("out").len(), 3);
+    assert_eq!(folder.all("out").len(), 3);
 }
 
 /// A picture's record is judged alone: a fault elsewhere in the file does not keep it back, a fault of its own does.
