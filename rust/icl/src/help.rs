@@ -25,6 +25,7 @@ use:
   icl book convert OLD NEW --owner 1|2
   icl find [--csv | --json] FILE... --sequence N | --amount A | --routing R | --account TEXT
            [--pictures DIR [--force]]
+  icl show FILE RECORD|OFFSET
   icl COMMAND --help
   icl --version
 
@@ -214,6 +215,20 @@ Exit status: 0 looked through, whether or not anything was found, 1 a file was r
 2 something could not be read or written.
 ";
 
+const SHOW: &str = "\
+icl show FILE RECORD|OFFSET
+
+Shows one record field by field: number, position, name, the characters as they stand there, whether its rule holds,
+and what it means (amounts, dates, numbers and codes in words). Below a field whose rule is broken stands what is
+asked of it. A number counts the records of the file from 1, as icl rows does; where there are not so many it is the
+offset of the record's length, and with an @ before it, as @623, always.
+Any file will do, a refused one too: every record is shown that the lengths frame. In an accepted file, and before the
+first fault, every rule holds. In the record at fault that fault is told; for the rest it is judged alone, as those
+behind it are, without the links and sums that join records: a rule then holds alone.
+Exit status: 0 the file is accepted, 1 it is refused (the record is shown all the same), 2 it could not be read, or it
+has no such record.
+";
+
 /// The help for a command, or the general one for a word that asks for help or version.
 pub fn of(command: &str) -> Option<&'static str> {
     match command {
@@ -227,6 +242,7 @@ pub fn of(command: &str) -> Option<&'static str> {
         "write" => Some(WRITE),
         "book" => Some(BOOK),
         "find" => Some(FIND),
+        "show" => Some(SHOW),
         "--help" | "-h" | "help" | "--version" | "-V" => Some(GENERAL),
         _ => None,
     }

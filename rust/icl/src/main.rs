@@ -4,10 +4,10 @@
 // Imports go one way. This root imports the modules, and no module imports the root; among themselves each imports only those on lines
 // below its own. `x9180/tests/imports.rs` fails where that is not so.
 //
-//     check, rows, tree, pictures, tags, draft, write, book, find    the commands
-//     book_convert, find_query
+//     check, rows, tree, pictures, tags, draft, write, book, find, show    the commands
+//     book_convert, find_query, meaning
 //     book_words, each, taking
-//     args, input, output, sheet, names, help, book_file, book_list, durable, facts
+//     args, input, output, sheet, names, help, book_file, book_list, durable, facts, codes, verdicts, walk
 //     store, forms, places, files
 //     screen, interrupt, json
 //     stop
@@ -19,6 +19,7 @@ mod book_file;
 mod book_list;
 mod book_words;
 mod check;
+mod codes;
 mod draft;
 mod durable;
 mod each;
@@ -31,6 +32,7 @@ mod help;
 mod input;
 mod interrupt;
 mod json;
+mod meaning;
 mod names;
 mod output;
 mod pictures;
@@ -38,11 +40,14 @@ mod places;
 mod rows;
 mod screen;
 mod sheet;
+mod show;
 mod stop;
 mod store;
 mod tags;
 mod taking;
 mod tree;
+mod verdicts;
+mod walk;
 mod words;
 mod write;
 
@@ -91,6 +96,7 @@ fn run(mut words: Vec<OsString>) -> Result<u8, Stop> {
         Some("write") => write::run(Args::of(words, &["--force"], &["-o"])?),
         Some("book") => book::run(words),
         // The desk.
+        Some("show") => show::run(Args::of(words, &[], &[])?),
         Some("find") => find::run(Args::of(
             words,
             &["--csv", "--json", "--force"],
