@@ -99,7 +99,7 @@ impl<'a> Page<'a> {
     /// Begins what is written of another file.
     fn separate(&mut self) -> std::io::Result<()> {
         if self.any {
-            let blank = if self.around.apart { "\n" } else { "" };
+            let blank = if self.around.apart && self.around.form == Form::Text { "\n" } else { "" };
             self.out.write_all(self.around.form.between().as_bytes())?;
             self.out.write_all(blank.as_bytes())?;
         }

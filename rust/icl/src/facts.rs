@@ -1,6 +1,6 @@
 //! What an item's own records tell that people ask for: its kind, sequence number, routing number and account, as they stand in the file.
 
-use x9180::{Item, ItemKind, Row};
+use x9180::{Item, ItemKind, Row, View};
 
 /// The fields of an item's first record, by what they tell: clauses 10 and 14 give a check and a return the same numbers, clause 26 a credit others.
 pub struct FieldNumbers {
@@ -39,4 +39,13 @@ pub fn kind_told(item: &Item<'_>) -> &'static str {
 /// A field of the item's first record.
 pub fn text(item: &Item<'_>, file: &[u8], field: u64) -> String {
     item.rows().first().and_then(|row| row.text(file, field)).unwrap_or_default()
+}
+
+/// Which side of its document a view shows.
+pub fn side(view: &View<'_>, file: &[u8]) -> Option<&'static str> {
+    match view.detail().and_then(|row| row.text(file, 8)).as_deref() {
+        Some("0") => Some("front"),
+        Some("1") => Some("back"),
+        _ => None,
+    }
 }

@@ -24,7 +24,7 @@ const COLUMNS: &[&str] = &[
     "letter",
     "bundle",
     "item",
-    "credit",
+    "credit_record",
     "record",
     "offset",
     "kind",

@@ -4,10 +4,10 @@
 // Imports go one way. This root imports the modules, and no module imports the root; among themselves each imports only those on lines
 // below its own. `x9180/tests/imports.rs` fails where that is not so.
 //
-//     check, rows, tree, pictures, tags, draft, write, book, find, show    the commands
-//     book_convert, find_query, meaning
+//     check, rows, tree, pictures, tags, draft, write, book, find, show, summary    the commands
+//     book_convert, find_query, meaning, walked, tree_rows
 //     book_words, each, taking
-//     args, input, output, sheet, names, help, book_file, book_list, durable, facts, codes, verdicts, walk
+//     args, input, output, sheet, names, help, book_file, book_list, durable, facts, codes, verdicts, walk, fields
 //     store, forms, places, files
 //     screen, interrupt, json
 //     stop
@@ -24,6 +24,7 @@ mod draft;
 mod durable;
 mod each;
 mod facts;
+mod fields;
 mod files;
 mod find;
 mod find_query;
@@ -43,11 +44,14 @@ mod sheet;
 mod show;
 mod stop;
 mod store;
+mod summary;
 mod tags;
 mod taking;
 mod tree;
+mod tree_rows;
 mod verdicts;
 mod walk;
+mod walked;
 mod words;
 mod write;
 
@@ -87,15 +91,16 @@ fn run(mut words: Vec<OsString>) -> Result<u8, Stop> {
         return Ok(DONE);
     }
     match command.to_str() {
-        Some("check") => check::run(Args::of(words, &["--explain"], &[])?),
-        Some("rows") => rows::run(Args::of(words, &["--csv", "--json"], &[])?),
-        Some("tree") => tree::run(Args::of(words, &[], &[])?),
+        Some("check") => check::run(Args::of(words, &["--explain", "--csv", "--json"], &[])?),
+        Some("rows") => rows::run(Args::of(words, &["--csv", "--json", "--walk"], &[])?),
+        Some("tree") => tree::run(Args::of(words, &["--csv", "--json", "--walk"], &["--depth"])?),
         Some("picture") => pictures::one(Args::of(words, &["--force"], &["-o"])?),
         Some("tags") => tags::run(Args::of(words, &["--tiff"], &[])?),
         Some("draft") => draft::run(Args::of(words, &["--force"], &["-o"])?),
         Some("write") => write::run(Args::of(words, &["--force"], &["-o"])?),
         Some("book") => book::run(words),
         // The desk.
+        Some("summary") => summary::run(Args::of(words, &["--csv", "--json"], &[])?),
         Some("show") => show::run(Args::of(words, &[], &[])?),
         Some("find") => find::run(Args::of(
             words,

@@ -26,6 +26,10 @@ impl Destination {
     /// No two files may go into one folder.
     pub fn new(folder: &OsStr, files: &Files, force: bool) -> Result<Destination, Stop> {
         let folder = PathBuf::from(folder);
+        if folder.is_file() {
+            let name = words::name(folder.as_os_str());
+            return Err(Stop::trouble(format!("{name}: it is a file, and a folder for the pictures is asked")));
+        }
         let made = files.several && !folder.exists();
         let mut seen: BTreeMap<OsString, &OsStr> = BTreeMap::new();
         for named in files.each.iter().filter(|_| files.several) {

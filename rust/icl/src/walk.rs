@@ -18,11 +18,6 @@ impl Framed<'_> {
         Kind::of_body(set, self.body)
     }
 
-    /// Its first two characters, where they are characters.
-    pub fn type_text(&self, set: CharacterSet) -> String {
-        self.body.get(..2).and_then(|two| set.text(two)).unwrap_or_default()
-    }
-
     /// The offset of the byte behind it.
     pub fn end(&self) -> u64 {
         self.offset + 4 + self.body.len() as u64

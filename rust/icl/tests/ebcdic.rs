@@ -116,7 +116,8 @@ fn rows_and_tree_are_those_of_the_ascii_file() {
     let credits_in_ebcdic = folder.with("credits", &to_ebcdic(&read(credits)));
     for (ascii, ebcdic) in [(IN_ASCII, IN_EBCDIC), (credits, &credits_in_ebcdic)] {
         for command in ["rows", "rows --csv", "rows --json"] {
-            let (in_ascii, in_ebcdic) = (run(&format!("{command} {ascii}")), run(&format!("{command} {ebcdic}")));
+            let (in_ascii, mut in_ebcdic) = (run(&format!("{command} {ascii}")), run(&format!("{command} {ebcdic}")));
+            in_ebcdic.1 = in_ebcdic.1.replace(ebcdic, ascii);
             assert_eq!((in_ascii.0, &in_ascii), (0, &in_ebcdic), "{command}");
         }
         let (_, in_ascii, _) = run(&format!("tree {ascii}"));

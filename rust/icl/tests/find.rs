@@ -132,7 +132,7 @@ fn by_account() {
 
 #[test]
 fn for_programs() {
-    let head = "file,letter,bundle,item,credit,record,offset,kind,debit,amount,sequence,routing,account,matched,pictures,bundle_items,\
+    let head = "file,letter,bundle,item,credit_record,record,offset,kind,debit,amount,sequence,routing,account,matched,pictures,bundle_items,\
                 bundle_views,bundle_debit_items,bundle_debit,bundle_credit_items,bundle_credit,letter_bundles,letter_items,letter_views,\
                 letter_debit_items,letter_debit,letter_credit_items,letter_credit\n";
     let line = format!(
@@ -142,7 +142,7 @@ fn for_programs() {
     assert_eq!(run(&format!("find --csv {PICTURED} --sequence 101")), (0, format!("{head}{line}"), String::new()));
     assert_eq!(run(&format!("find --csv {PICTURED} --sequence 1")), (0, head.to_string(), String::new()));
     let object = format!(
-        "[\n  {{\"file\": \"{CREDITED}\", \"letter\": 1, \"bundle\": 0, \"item\": 0, \"credit\": 2, \"record\": 24, \"offset\": 3668, \
+        "[\n  {{\"file\": \"{CREDITED}\", \"letter\": 1, \"bundle\": 0, \"item\": 0, \"credit_record\": 2, \"record\": 24, \"offset\": 3668, \
          \"kind\": \"credit\", \"debit\": false, \"amount\": 250, \"sequence\": \"000000000000304\", \"routing\": \"123456780\", \
          \"account\": \"                    \", \"matched\": \"Item Sequence Number \\\"000000000000304\\\" of the \
          Credit/Reconciliation Record (type 61) at offset 3668\", \"pictures\": [], \"bundle_items\": null, \"bundle_views\": null, \

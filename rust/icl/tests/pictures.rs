@@ -202,8 +202,8 @@ fn places_where_nothing_can_be_written() {
     let complaint = format!("icl: {out}: there is no such file or folder\n");
     assert_eq!(run(&format!("pictures {PICTURED} {out}")), (2, String::new(), complaint));
     let file = folder.with("file", b"");
-    let (status, _, complaint) = run(&format!("pictures {PICTURED} {file}"));
-    assert_eq!((status, complaint.ends_with(": a part of the path is no folder\n")), (2, true), "{complaint}");
+    let complaint = format!("icl: {file}: it is a file, and a folder for the pictures is asked\n");
+    assert_eq!(run(&format!("pictures {PICTURED} {file}")), (2, String::new(), complaint));
     assert_eq!(folder.names(""), ["file"]);
 }
 

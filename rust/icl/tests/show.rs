@@ -106,16 +106,11 @@ fn before_and_behind_the_fault() {
         (status, lines[1]),
         (1, "    this record is judged alone: the file is refused 7 record 2 field 6 offset 84")
     );
-    let broken: Vec<&str> = lines.iter().filter(|line| line.contains("  broken")).map(|line| line.trim_end()).collect();
-    assert_eq!(broken.len(), 2, "{output}");
-    assert!(
-        broken[0].starts_with("    5     23-30  Bundle Business Date") && broken[0].ends_with("\"20241332\"  broken"),
-        "{output}"
-    );
-    assert!(
-        broken[1].starts_with("   11     64-67  Bundle Creation Time") && broken[1].ends_with("broken       24:60"),
-        "{output}"
-    );
+    let close = |line: &&str| line.split_whitespace().collect::<Vec<_>>().join(" ");
+    let broken: Vec<String> = lines.iter().filter(|line| line.contains("  broken")).map(close).collect();
+    let expected =
+        ["5 23-30 Bundle Business Date \"20241332\" broken", "11 64-67 Bundle Creation Time \"2460\" broken 24:60"];
+    assert_eq!(broken, expected, "{output}");
     let asked = "           asked: a date YYYYMMDD: year 1993 to 9999, month 01 to 12, day 01 to 31";
     assert!(lines.contains(&asked), "{output}");
     // A check digit is told below its field.
