@@ -27,6 +27,7 @@ use:
            [--pictures DIR [--force]]
   icl show FILE RECORD|OFFSET
   icl summary [--csv | --json] FILE...
+  icl diff A B
   icl COMMAND --help
   icl --version
 
@@ -255,6 +256,18 @@ files, and tells how many were refused and how many could not be read: none of t
 Exit status: 0 all accepted, 1 some refused, 2 something could not be read.
 ";
 
+const DIFF: &str = "\
+icl diff A B
+
+Compares two accepted files by what they hold, wherever it stands: tells which cash letters, bundles, items and credits
+are the same in both, which are changed, with every field that differs, and which are in one of them only. Items are
+known again by their whole contents, then by their sequence number, then by account, routing number and amount; bundles
+and cash letters by the items that they share, then by their headers. An item in one file only whose contents stand
+elsewhere in the other is told with its place there. Pictures are compared byte by byte. A file in EBCDIC is compared by
+its characters. The last lines count what is the same, changed, in A only and in B only.
+Exit status: 0 the same, 1 they differ, or one was refused (told on standard error), 2 something could not be read.
+";
+
 /// The help for a command, or the general one for a word that asks for help or version.
 pub fn of(command: &str) -> Option<&'static str> {
     match command {
@@ -270,6 +283,7 @@ pub fn of(command: &str) -> Option<&'static str> {
         "find" => Some(FIND),
         "show" => Some(SHOW),
         "summary" => Some(SUMMARY),
+        "diff" => Some(DIFF),
         "--help" | "-h" | "help" | "--version" | "-V" => Some(GENERAL),
         _ => None,
     }

@@ -4,10 +4,10 @@
 // Imports go one way. This root imports the modules, and no module imports the root; among themselves each imports only those on lines
 // below its own. `x9180/tests/imports.rs` fails where that is not so.
 //
-//     check, rows, tree, pictures, tags, draft, write, book, find, show, summary    the commands
+//     check, rows, tree, pictures, tags, draft, write, book, find, show, summary, diff    the commands
 //     book_convert, find_query, meaning, walked, tree_rows
 //     book_words, each, taking
-//     args, input, output, sheet, names, help, book_file, book_list, durable, facts, codes, verdicts, walk, fields
+//     args, input, output, sheet, names, help, book_file, book_list, durable, facts, codes, verdicts, walk, fields, diff_match, diff_records
 //     store, forms, places, files
 //     screen, interrupt, json
 //     stop
@@ -20,6 +20,9 @@ mod book_list;
 mod book_words;
 mod check;
 mod codes;
+mod diff;
+mod diff_match;
+mod diff_records;
 mod draft;
 mod durable;
 mod each;
@@ -101,6 +104,7 @@ fn run(mut words: Vec<OsString>) -> Result<u8, Stop> {
         Some("book") => book::run(words),
         // The desk.
         Some("summary") => summary::run(Args::of(words, &["--csv", "--json"], &[])?),
+        Some("diff") => diff::run(Args::of(words, &[], &[])?),
         Some("show") => show::run(Args::of(words, &[], &[])?),
         Some("find") => find::run(Args::of(
             words,

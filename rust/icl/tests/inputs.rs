@@ -438,8 +438,10 @@ fn commands_not_understood() {
 
 #[test]
 fn help_and_version_everywhere() {
-    let commands =
-        ["check", "rows", "tree", "picture", "pictures", "tags", "draft", "write", "book", "find", "show", "summary"];
+    let commands = [
+        "check", "rows", "tree", "picture", "pictures", "tags", "draft", "write", "book", "find", "show", "summary",
+        "diff",
+    ];
     for command in commands {
         for words in [format!("{command} --help"), format!("{command} x --help y")] {
             let (status, output, complaint) = run(&words);
