@@ -2,7 +2,7 @@
 
 use std::ffi::{OsStr, OsString};
 
-const GENERAL: &str = "\
+pub const GENERAL: &str = "\
 icl: checks X9.100-180 image cash letters, lists what they hold, takes out their pictures and looks into them,
 makes the letters out, and keeps a day book of them
 
@@ -28,6 +28,8 @@ use:
   icl show FILE RECORD|OFFSET
   icl summary [--csv | --json] FILE...
   icl diff A B
+  icl completion bash
+  icl manual
   icl COMMAND --help
   icl --version
 
@@ -36,8 +38,10 @@ characters are ASCII, or EBCDIC (code page 037) where its bytes 5 and 6 are F0 F
 FILE... is one or several; a folder among them stands for the files in it, in the order of their names, without
 hidden ones and without those of folders in it. Several are worked on at once, and told in the order given.
 After -- every word is a name, even one that begins with a dash.
-Exit status: 0 all accepted and done; 1 a file, picture, draft or day book was refused; 2 something could not
-be read or written, or the command was not understood. With NO_COLOR set there are no colours.
+Exit status: 0 all accepted and done; 1 a file, picture, draft or day book was refused, or the two files of
+icl diff differ; 2 something could not be read or written, letter.json is no draft, or the command was not
+understood. 2 wins over 1.
+With NO_COLOR set there are no colours.
 ";
 
 const CHECK: &str = "\
@@ -268,6 +272,21 @@ its characters. The last lines count what is the same, changed, in A only and in
 Exit status: 0 the same, 1 they differ, or one was refused (told on standard error), 2 something could not be read.
 ";
 
+const COMPLETION: &str = "\
+icl completion bash
+
+Prints what has bash complete commands, flags, their values and file names: put it where bash looks for it (./install does),
+or say  source <(icl completion bash).
+Exit status: 0 printed, 2 it could not be written.
+";
+
+const MANUAL: &str = "\
+icl manual
+
+Prints the manual page, as man takes it: put it where man looks for it (./install does), or say  icl manual | man -l -.
+Exit status: 0 printed, 2 it could not be written.
+";
+
 /// The help for a command, or the general one for a word that asks for help or version.
 pub fn of(command: &str) -> Option<&'static str> {
     match command {
@@ -284,6 +303,8 @@ pub fn of(command: &str) -> Option<&'static str> {
         "show" => Some(SHOW),
         "summary" => Some(SUMMARY),
         "diff" => Some(DIFF),
+        "completion" => Some(COMPLETION),
+        "manual" => Some(MANUAL),
         "--help" | "-h" | "help" | "--version" | "-V" => Some(GENERAL),
         _ => None,
     }

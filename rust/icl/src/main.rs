@@ -4,11 +4,11 @@
 // Imports go one way. This root imports the modules, and no module imports the root; among themselves each imports only those on lines
 // below its own. `x9180/tests/imports.rs` fails where that is not so.
 //
-//     check, rows, tree, pictures, tags, draft, write, book, find, show, summary, diff    the commands
+//     check, rows, tree, pictures, tags, draft, write, book, find, show, summary, diff, completion, manual    the commands
 //     book_convert, find_query, meaning, walked, tree_rows
 //     book_words, each, taking
-//     args, input, output, sheet, names, help, book_file, book_list, durable, facts, codes, verdicts, walk, fields, diff_match, diff_records
-//     store, forms, places, files
+//     args, input, output, sheet, names, usage, book_file, book_list, durable, facts, codes, verdicts, walk, fields, diff_match, diff_records
+//     store, forms, places, files, help
 //     screen, interrupt, json
 //     stop
 //     words
@@ -20,6 +20,7 @@ mod book_list;
 mod book_words;
 mod check;
 mod codes;
+mod completion;
 mod diff;
 mod diff_match;
 mod diff_records;
@@ -36,6 +37,7 @@ mod help;
 mod input;
 mod interrupt;
 mod json;
+mod manual;
 mod meaning;
 mod names;
 mod output;
@@ -52,6 +54,7 @@ mod tags;
 mod taking;
 mod tree;
 mod tree_rows;
+mod usage;
 mod verdicts;
 mod walk;
 mod walked;
@@ -93,24 +96,26 @@ fn run(mut words: Vec<OsString>) -> Result<u8, Stop> {
         screen::print(&text)?;
         return Ok(DONE);
     }
+    if command == "book" {
+        return book::run(words);
+    }
+    let (flags, options) = usage::of(&command.to_string_lossy());
+    let args = Args::of(words, &flags, &options)?;
     match command.to_str() {
-        Some("check") => check::run(Args::of(words, &["--explain", "--csv", "--json"], &[])?),
-        Some("rows") => rows::run(Args::of(words, &["--csv", "--json", "--walk"], &[])?),
-        Some("tree") => tree::run(Args::of(words, &["--csv", "--json", "--walk"], &["--depth"])?),
-        Some("picture") => pictures::one(Args::of(words, &["--force"], &["-o"])?),
-        Some("tags") => tags::run(Args::of(words, &["--tiff"], &[])?),
-        Some("draft") => draft::run(Args::of(words, &["--force"], &["-o"])?),
-        Some("write") => write::run(Args::of(words, &["--force"], &["-o"])?),
-        Some("book") => book::run(words),
-        // The desk.
-        Some("summary") => summary::run(Args::of(words, &["--csv", "--json"], &[])?),
-        Some("diff") => diff::run(Args::of(words, &[], &[])?),
-        Some("show") => show::run(Args::of(words, &[], &[])?),
-        Some("find") => find::run(Args::of(
-            words,
-            &["--csv", "--json", "--force"],
-            &["--sequence", "--amount", "--routing", "--account", "--pictures"],
-        )?),
-        _ => pictures::all(Args::of(words, &["--force"], &[])?),
+        Some("check") => check::run(args),
+        Some("rows") => rows::run(args),
+        Some("tree") => tree::run(args),
+        Some("picture") => pictures::one(args),
+        Some("pictures") => pictures::all(args),
+        Some("tags") => tags::run(args),
+        Some("draft") => draft::run(args),
+        Some("write") => write::run(args),
+        Some("find") => find::run(args),
+        Some("show") => show::run(args),
+        Some("summary") => summary::run(args),
+        Some("diff") => diff::run(args),
+        Some("completion") => completion::run(args),
+        Some("manual") => manual::run(args),
+        _ => Err(Stop::Usage(format!("{} is no command", words::name(&command)))),
     }
 }

@@ -175,7 +175,12 @@ fn nothing_is_overwritten_unless_asked() {
 fn only_plain_files_are_overwritten() {
     let folder = Folder::new("plain");
     fs::create_dir(folder.0.join("folder")).unwrap();
-    let mut paths = vec![folder.path("folder")];
+    let path = folder.path("folder");
+    let complaint = format!("icl: {path}: it is a folder, and -o takes the name of a file to write\n");
+    for force in ["", "--force "] {
+        assert_eq!(run(&format!("picture {force}{PICTURED} 623 -o {path}")), (2, String::new(), complaint.clone()));
+    }
+    let mut paths: Vec<String> = Vec::new();
     #[cfg(unix)]
     {
         let target = folder.with("target", b"mine");

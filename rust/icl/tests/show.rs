@@ -182,7 +182,7 @@ fn sorts_of_input() {
     for (words, complaint) in [
         (vec!["show", "a"], "RECORD or OFFSET is missing"),
         (vec!["show", "a", "x"], "x is no record or offset: a decimal number is needed"),
-        (vec!["show", "a", "@"], " is no offset: a decimal number is needed"),
+        (vec!["show", "a", "@"], "an empty word is no offset: a decimal number is needed"),
     ] {
         let complaint = format!("icl: {complaint} (icl --help tells more)\n");
         assert_eq!(outcome(&mut icl(words)), (2, String::new(), complaint));
