@@ -61,7 +61,8 @@ pub fn file<T: Send>(
         Ok(())
     };
     if let [named] = files.each.as_slice() {
-        let mut straight = Straight { page: &mut page, begun: false };
+        let progress = Progress::beside_output();
+        let mut straight = Straight { page: &mut page, begun: false, written: 0, progress };
         let came = worked(named, &work, &mut straight);
         take(&mut page, b"", came)?;
         return page.close();
@@ -127,10 +128,12 @@ impl<'a> Page<'a> {
     }
 }
 
-/// Writes to the page as it comes.
+/// Writes to the page as it comes, and shows how much that is by now.
 struct Straight<'p, 'a> {
     page: &'p mut Page<'a>,
     begun: bool,
+    written: u64,
+    progress: Progress,
 }
 
 impl Write for Straight<'_, '_> {
@@ -138,6 +141,12 @@ impl Write for Straight<'_, '_> {
         if !self.begun && !bytes.is_empty() {
             self.page.separate()?;
             self.begun = true;
+        }
+        let before = self.written >> 20;
+        self.written += bytes.len() as u64;
+        let mebibytes = self.written >> 20;
+        if mebibytes > before {
+            self.progress.show(|| format!("written: {} MiB", grouped(mebibytes)));
         }
         self.page.out.write(bytes)
     }
@@ -152,11 +161,14 @@ impl Write for Straight<'_, '_> {
 struct Course {
     next: usize,
     taken: usize,
+    /// The bytes of what was said of files that wait for their turn.
+    held: usize,
     stopped: bool,
 }
 
-/// How many files may be worked on or wait for their turn, for each processor: what they say is held in memory so long.
-const AHEAD: usize = 4;
+/// So many files may always be worked on or wait for their turn, for each processor; and any number as long as what was said of them is no more than this.
+const AHEAD: usize = 2;
+const HELD: usize = 64 << 20;
 
 type Came<T> = (usize, Vec<u8>, Result<Done<T>, Stop>);
 
@@ -184,13 +196,16 @@ fn in_order<T: Send>(
                 Err(RecvTimeoutError::Timeout) => {}
                 Err(RecvTimeoutError::Disconnected) => break,
             }
+            let mut told = 0;
             while let Some((written, done)) = waiting.remove(&taken).filter(|_| result.is_ok()) {
                 progress.wipe();
+                told += written.len();
                 result = take(written, done);
                 taken += 1;
             }
             let mut course = course.lock().unwrap_or_else(|poisoned| poisoned.into_inner());
             (course.taken, course.stopped) = (taken, result.is_err());
+            course.held -= told;
             moved.notify_all();
             progress.show(|| format!("{} of {} files", grouped(taken as u64), grouped(files.len() as u64)));
         }
@@ -203,14 +218,14 @@ fn go_through<T>(
     files: &[Named],
     work: &(impl Fn(&OsStr, &mut dyn Write) -> Result<Done<T>, Stop> + Sync),
     ahead: usize,
-    course: &Mutex<Course>,
+    shared: &Mutex<Course>,
     moved: &Condvar,
     came: Sender<Came<T>>,
 ) {
     be_quiet();
     loop {
-        let mut course = course.lock().unwrap_or_else(|poisoned| poisoned.into_inner());
-        while !course.stopped && course.next < files.len() && course.next >= course.taken + ahead {
+        let mut course = shared.lock().unwrap_or_else(|poisoned| poisoned.into_inner());
+        while !course.stopped && course.held > HELD && course.next >= course.taken + ahead {
             course = moved.wait(course).unwrap_or_else(|poisoned| poisoned.into_inner());
         }
         let place = course.next;
@@ -219,6 +234,7 @@ fn go_through<T>(
         drop(course);
         let mut written = Vec::new();
         let done = worked(named, work, &mut written);
+        shared.lock().unwrap_or_else(|poisoned| poisoned.into_inner()).held += written.len();
         if came.send((place, written, done)).is_err() {
             return;
         }

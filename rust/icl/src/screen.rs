@@ -71,6 +71,13 @@ impl Progress {
         Progress { terminal: shows_progress(), started: Instant::now(), shown: None }
     }
 
+    /// The same, but nothing where standard output is a terminal too: there the output itself is seen.
+    pub fn beside_output() -> Progress {
+        let mut progress = Progress::new();
+        progress.terminal &= !stdout().is_terminal();
+        progress
+    }
+
     /// Shows the words, now and then.
     pub fn show(&mut self, words: impl FnOnce() -> String) {
         let now = Instant::now();
