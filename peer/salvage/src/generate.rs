@@ -271,13 +271,18 @@ fn strangers(random: &mut Random, records: &mut Vec<Rec>) {
 fn put_together(random: &mut Random, letters: usize) -> Vec<u8> {
     let records = pieces::assembled(random, letters);
     let mut bytes = any_set(random, encode(&records));
-    match random.below(10) {
+    match random.below(12) {
         0 => bytes.truncate(random.below(bytes.len() + 1)),
         1 => {
             let place = random.below(bytes.len());
             bytes[place] = random.byte();
         }
         2 => {
+            let at = encode(&records[..random.below(records.len())]).len();
+            let length = random.pick(&[0, 0, 1, 1, 0xFFFF_FFFF, 0x8000_0000, 79u32]);
+            bytes[at..at + 4].copy_from_slice(&length.to_be_bytes());
+        }
+        3 => {
             let behind = random.between(1, 90);
             bytes.extend((0..behind).map(|_| random.pick(&[0, 0, b'9', b' ', 0xF9])));
         }

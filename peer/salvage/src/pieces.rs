@@ -52,13 +52,22 @@ fn piece(random: &mut Random, content: u8, header: &Rec) -> Vec<Rec> {
         0..=29 => bundle(random, content),
         30..=57 => torn_bundle(random, content),
         58..=81 => any_credit(random, header),
-        82..=92 => vec![stray(random)],
-        93..=95 => vec![stranger(random)],
+        82..=92 => behind(random, stray, header),
+        93..=95 => behind(random, stranger, header),
         _ => {
             let other = random.pick(b"EIF");
             bundle(random, other)
         }
     }
+}
+
+/// A stray, and often a 61 right behind it: it lies in no stretch if none was begun.
+fn behind(random: &mut Random, stray: impl Fn(&mut Random) -> Rec, header: &Rec) -> Vec<Rec> {
+    let mut records = vec![stray(random)];
+    if random.percent(60) {
+        records.extend(any_credit(random, header));
+    }
+    records
 }
 
 /// A bundle that is sound under a letter of this content; under N there is none, and it is one of another.
