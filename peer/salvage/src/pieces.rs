@@ -52,8 +52,8 @@ fn piece(random: &mut Random, content: u8, header: &Rec) -> Vec<Rec> {
         0..=29 => bundle(random, content),
         30..=57 => torn_bundle(random, content),
         58..=81 => any_credit(random, header),
-        82..=92 => behind(random, stray, header),
-        93..=95 => behind(random, stranger, header),
+        82..=90 => behind(random, stray, header),
+        91..=95 => behind(random, stranger, header),
         _ => {
             let other = random.pick(b"EIF");
             bundle(random, other)
@@ -93,7 +93,7 @@ fn torn_bundle(random: &mut Random, content: u8) -> Vec<Rec> {
             break;
         }
         let last = records.len() - 1;
-        match random.below(16) {
+        match random.below(17) {
             0 | 1 => drop(records.pop()),
             2 => drop(records.remove(0)),
             3 => records.truncate(random.between(1, last.max(1))),
@@ -118,6 +118,7 @@ fn torn_bundle(random: &mut Random, content: u8) -> Vec<Rec> {
                 let at = random.below(last + 1);
                 harm::one_record(random, &mut records, at);
             }
+            12 => addenda(random, &mut records),
             _ => {
                 let at = random.below(last + 1);
                 spoil(random, &mut records[at]);
@@ -125,6 +126,16 @@ fn torn_bundle(random: &mut Random, content: u8) -> Vec<Rec> {
         }
     }
     records
+}
+
+/// An item that states another count of addenda: one too few, so that the last is beyond it, or one too many.
+fn addenda(random: &mut Random, records: &mut [Rec]) {
+    let fewer = random.percent(70);
+    for item in records.iter_mut().filter(|record| matches!(record.code, 25 | 31) && record.body.len() == 80) {
+        let field = if item.code == 25 { 12 } else { 8 };
+        let stated: u64 = std::str::from_utf8(item.get(field)).map_or(0, |text| text.parse().unwrap_or(0));
+        item.set_number(field, if fewer { stated.saturating_sub(1) } else { stated + 1 });
+    }
 }
 
 /// A 70 that states another sum.
