@@ -3,6 +3,7 @@
 
 pub mod asked;
 pub mod generate;
+pub mod large;
 pub mod opinion;
 pub mod pieces;
 pub mod points;
