@@ -2,6 +2,7 @@
 //! and not. A seed and an index give the file again.
 
 use peer_reader::copy::to_ebcdic;
+use peer_reader::layout::{layout, name_of, CARRIED, NOT_CARRIED};
 use peer_reader::make::{encode, record, sound, Rec, Wish};
 use peer_reader::random::Random;
 use peer_reader::{brim, ebcdic, harm, stream};
@@ -19,7 +20,7 @@ pub struct Made {
 pub const WHOLE_RUN: u64 = 20_000;
 
 /// The shapes of a round.
-const TURNS: [&str; 32] = [
+const TURNS: [&str; 36] = [
     "sound",
     "stream",
     "stream",
@@ -50,6 +51,10 @@ const TURNS: [&str; 32] = [
     "put together",
     "put together",
     "one letter",
+    "against a rule",
+    "against a rule",
+    "61 against a rule",
+    "behind a stray",
     "brim",
     "hardly a file",
 ];
@@ -77,6 +82,9 @@ fn shaped(random: &mut Random, shape: &'static str, turn: u64, seed: u64) -> Mad
         "credits everywhere" => of_records(random, credits_everywhere),
         "strangers" => of_records(random, strangers),
         "one letter" => put_together(random, 1),
+        "against a rule" => against_a_rule(random, turn as usize),
+        "61 against a rule" => credit_against_a_rule(random, turn as usize),
+        "behind a stray" => behind_a_stray(random, turn as usize),
         "brim" => brimming(random, turn as usize),
         "hardly a file" => hardly(random),
         _ => {
@@ -289,6 +297,61 @@ fn put_together(random: &mut Random, letters: usize) -> Vec<u8> {
         _ => {}
     }
     bytes
+}
+
+/// A record of each type by turns, of a wrong length or with a field against its rule, and each broken link by turns.
+fn against_a_rule(random: &mut Random, turn: usize) -> Vec<u8> {
+    let codes = CARRIED.map(|code| if matches!(code, 1 | 90 | 99) { 20 } else { code });
+    let code = codes[turn / 3 % codes.len()];
+    let records = match turn % 3 {
+        0 => harm::length_file(random, code, turn / 3 / codes.len() % harm::LENGTH_SORTS),
+        1 => {
+            let field = random.between(2, layout(code).fields.len()) as u8;
+            harm::field_file(random, (code, field))
+        }
+        _ => {
+            let links = harm::link_targets();
+            harm::link_file(random, links[turn / 3 % links.len()])
+        }
+    };
+    let bytes = encode(&records);
+    any_set(random, bytes)
+}
+
+/// A 61 directly under a 10 with a view and its 54, one of the four spoiled by turns, among others.
+fn credit_against_a_rule(random: &mut Random, turn: usize) -> Vec<u8> {
+    let mut header = record(random, 10, 0);
+    header.set(8, &[random.pick(b"Nn")]);
+    let mut records = vec![record(random, 1, 0), header.clone()];
+    records.extend(pieces::any_credit(random, &header));
+    let mut credit = pieces::credit_with_analysis(random, &header);
+    pieces::spoil(random, &mut credit[turn % 4]);
+    records.extend(credit);
+    records.extend(pieces::any_credit(random, &header));
+    records.push(pieces::control(random, 90));
+    let bytes = encode(&records);
+    any_set(random, bytes)
+}
+
+/// A record of each type by turns where none belongs, and a 61 right behind it.
+fn behind_a_stray(random: &mut Random, turn: usize) -> Vec<u8> {
+    let mut header = record(random, 10, 0);
+    header.set(8, &[random.pick(b"Nn")]);
+    let mut records = vec![record(random, 1, 0), header.clone()];
+    let codes: Vec<u8> = CARRIED.into_iter().filter(|code| !matches!(code, 10 | 20 | 61 | 90 | 99)).collect();
+    let place = turn % (codes.len() + NOT_CARRIED.len() + 1);
+    let stray = match codes.get(place) {
+        Some(code) => record(random, *code, 5),
+        None => match NOT_CARRIED.get(place - codes.len()) {
+            Some(code) => pieces::named(random, name_of(*code)),
+            None => pieces::stranger(random),
+        },
+    };
+    records.push(stray);
+    records.extend(pieces::any_credit(random, &header));
+    records.push(pieces::control(random, [90, 99][turn / 40 % 2]));
+    let bytes = encode(&records);
+    any_set(random, bytes)
 }
 
 /// Sums that a control can just state, and sums that none can; some without their controls.

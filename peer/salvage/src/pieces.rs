@@ -184,6 +184,17 @@ pub fn any_credit(random: &mut Random, header: &Rec) -> Vec<Rec> {
     records
 }
 
+/// A sound 61 directly under this 10 with one view and its 54.
+pub fn credit_with_analysis(random: &mut Random, header: &Rec) -> Vec<Rec> {
+    let mut head = record(random, 61, 0);
+    head.set_number(7, 100);
+    let mut data = record(random, 52, 8);
+    set_key(&mut data, header, head.get(8));
+    let mut detail = record(random, 50, 0);
+    detail.set(10, b"0");
+    vec![head, detail, data, record(random, 54, 0)]
+}
+
 /// A view of a 61 directly under a 10.
 fn view(random: &mut Random, header: &Rec, sequence: &[u8], records: &mut Vec<Rec>) {
     records.push(detail(random));
@@ -256,6 +267,13 @@ pub fn stranger(random: &mut Random) -> Rec {
         let length = random.between(2, 100);
         stranger.body.resize(length, b' ');
     }
+    stranger
+}
+
+/// A record of this name that is nothing else.
+pub fn named(random: &mut Random, name: [u8; 2]) -> Rec {
+    let mut stranger = record(random, 1, 0);
+    stranger.body[..2].copy_from_slice(&name);
     stranger
 }
 
