@@ -20,7 +20,7 @@ pub struct Made {
 pub const WHOLE_RUN: u64 = 20_000;
 
 /// The shapes of a round.
-const TURNS: [&str; 36] = [
+const TURNS: [&str; 37] = [
     "sound",
     "stream",
     "stream",
@@ -54,6 +54,7 @@ const TURNS: [&str; 36] = [
     "against a rule",
     "against a rule",
     "61 against a rule",
+    "addenda beyond the count",
     "behind a stray",
     "brim",
     "hardly a file",
@@ -84,6 +85,7 @@ fn shaped(random: &mut Random, shape: &'static str, turn: u64, seed: u64) -> Mad
         "one letter" => put_together(random, 1),
         "against a rule" => against_a_rule(random, turn as usize),
         "61 against a rule" => credit_against_a_rule(random, turn as usize),
+        "addenda beyond the count" => beyond_the_count(random, turn as usize),
         "behind a stray" => behind_a_stray(random, turn as usize),
         "brim" => brimming(random, turn as usize),
         "hardly a file" => hardly(random),
@@ -301,10 +303,21 @@ fn put_together(random: &mut Random, letters: usize) -> Vec<u8> {
 
 /// A record of each type by turns, of a wrong length or with a field against its rule, and each broken link by turns.
 fn against_a_rule(random: &mut Random, turn: usize) -> Vec<u8> {
-    let codes = CARRIED.map(|code| if matches!(code, 1 | 90 | 99) { 20 } else { code });
+    // In a bundle there are no headers and controls of letters and files; in their places are types that come seldom.
+    let codes = CARRIED.map(|code| match code {
+        1 => 54,
+        10 => 27,
+        90 => 34,
+        99 => 35,
+        _ => code,
+    });
     let code = codes[turn / 3 % codes.len()];
     let records = match turn % 3 {
-        0 => harm::length_file(random, code, turn / 3 / codes.len() % harm::LENGTH_SORTS),
+        0 => {
+            let (mut records, at) = harm::holding(random, &Wish::holding(code), code);
+            pieces::spoil_length(random, &mut records[at]);
+            records
+        }
         1 => {
             let field = random.between(2, layout(code).fields.len()) as u8;
             harm::field_file(random, (code, field))
@@ -314,6 +327,24 @@ fn against_a_rule(random: &mut Random, turn: usize) -> Vec<u8> {
             harm::link_file(random, links[turn / 3 % links.len()])
         }
     };
+    let bytes = encode(&records);
+    any_set(random, bytes)
+}
+
+/// Items that state an addendum less than they have, the last of them a 27, a 34, a 33, or another.
+fn beyond_the_count(random: &mut Random, turn: usize) -> Vec<u8> {
+    let checks: &'static [u8] = &[25];
+    let returns: &'static [u8] = &[31];
+    let (kinds, extras, addenda) = match turn % 5 {
+        0 => (checks, 100, (0, 0)),
+        1 => (returns, 100, (0, 0)),
+        2 => (returns, 0, (0, 0)),
+        3 => (checks, 0, (0, 1)),
+        _ => (returns, 0, (0, 1)),
+    };
+    let wish = Wish { kinds, extras, addenda, letters: (1, 2), bundles: (1, 3), items: (1, 1), ..Wish::any() };
+    let (mut records, at) = harm::holding(random, &Wish { contents: b"EIF", image: 10, ..wish }, kinds[0]);
+    pieces::another_count(&mut records[at], true);
     let bytes = encode(&records);
     any_set(random, bytes)
 }
@@ -340,11 +371,12 @@ fn behind_a_stray(random: &mut Random, turn: usize) -> Vec<u8> {
     let mut records = vec![record(random, 1, 0), header.clone()];
     let codes: Vec<u8> = CARRIED.into_iter().filter(|code| !matches!(code, 10 | 20 | 61 | 90 | 99)).collect();
     let place = turn % (codes.len() + NOT_CARRIED.len() + 1);
+    let no_type = random.pick(&pieces::NO_TYPES);
     let stray = match codes.get(place) {
         Some(code) => record(random, *code, 5),
         None => match NOT_CARRIED.get(place - codes.len()) {
             Some(code) => pieces::named(random, name_of(*code)),
-            None => pieces::stranger(random),
+            None => pieces::named(random, no_type),
         },
     };
     records.push(stray);

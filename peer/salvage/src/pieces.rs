@@ -128,14 +128,18 @@ fn torn_bundle(random: &mut Random, content: u8) -> Vec<Rec> {
     records
 }
 
-/// An item that states another count of addenda: one too few, so that the last is beyond it, or one too many.
+/// Items that state another count of addenda.
 fn addenda(random: &mut Random, records: &mut [Rec]) {
     let fewer = random.percent(70);
-    for item in records.iter_mut().filter(|record| matches!(record.code, 25 | 31) && record.body.len() == 80) {
-        let field = if item.code == 25 { 12 } else { 8 };
-        let stated: u64 = std::str::from_utf8(item.get(field)).map_or(0, |text| text.parse().unwrap_or(0));
-        item.set_number(field, if fewer { stated.saturating_sub(1) } else { stated + 1 });
-    }
+    let items = records.iter_mut().filter(|record| matches!(record.code, 25 | 31) && record.body.len() == 80);
+    items.for_each(|item| another_count(item, fewer));
+}
+
+/// An item that states one addendum too few, so that its last is beyond the count, or one too many.
+pub fn another_count(item: &mut Rec, fewer: bool) {
+    let field = if item.code == 25 { 12 } else { 8 };
+    let stated: u64 = std::str::from_utf8(item.get(field)).map_or(0, |text| text.parse().unwrap_or(0));
+    item.set_number(field, if fewer { stated.saturating_sub(1) } else { stated + 1 });
 }
 
 /// A 70 that states another sum.
@@ -252,13 +256,16 @@ fn some_strays(random: &mut Random, cases: u64, records: &mut Vec<Rec>) {
     }
 }
 
+/// Two characters that name no type.
+pub const NO_TYPES: [[u8; 2]; 7] = [*b"  ", *b"6 ", *b" 1", *b"AB", *b"1O", *b"\x00\x00", *b"2-"];
+
 /// A second 01, a record of a type that is not carried, or of none.
 pub fn stranger(random: &mut Random) -> Rec {
     let mut stranger = record(random, 1, 0);
     let name = match random.below(8) {
         0 | 1 => *b"01",
         2..=4 => name_of(random.pick(&NOT_CARRIED)),
-        5 => random.pick(&[*b"  ", *b"6 ", *b" 1", *b"AB", *b"1O", *b"\x00\x00", *b"2-"]),
+        5 => random.pick(&NO_TYPES),
         6 => [random.digit(), random.digit()],
         _ => *b"00",
     };
@@ -283,9 +290,7 @@ pub fn spoil(random: &mut Random, record: &mut Rec) {
         return;
     }
     match random.below(8) {
-        0 => record.body.push(b' '),
-        1 => record.body.truncate(record.layout().fixed - 1),
-        2 => record.body.truncate(random.between(2, record.layout().fixed - 1)),
+        0..=2 => spoil_length(random, record),
         3 => {
             let place = random.between(2, record.body.len() - 1);
             record.body[place] = random.pick(&[0x00, 0x7F, 0x80]);
@@ -294,6 +299,15 @@ pub fn spoil(random: &mut Random, record: &mut Rec) {
             let field = random.between(2, record.layout().fields.len()) as u8;
             harm::harm_field(random, record, field);
         }
+    }
+}
+
+/// A record too long by a byte, too short by one, or by more.
+pub fn spoil_length(random: &mut Random, record: &mut Rec) {
+    match random.below(3) {
+        0 => record.body.push(b' '),
+        1 => record.body.truncate(record.layout().fixed - 1),
+        _ => record.body.truncate(random.between(2, record.layout().fixed - 1)),
     }
 }
 
