@@ -14,7 +14,8 @@ use peer_salvage::put::{put, Independent, Side};
 use peer_salvage::runs::{Run, Sort};
 use peer_salvage::salvage::{list, outcome, outcome_of, refused, Answer, Outcome, FREE, LIST_ROW, NOTHING};
 use peer_salvage::sound::{fault_alone, first_fault};
-use peer_salvage::survey::{survey, JudgedRun, Survey};
+use peer_salvage::survey::{survey, Judged, JudgedRun, Survey};
+use peer_salvage::walk::Walked;
 
 /// What a wrong salvage takes another way.
 #[derive(Clone, Copy, Debug, PartialEq, Eq)]
@@ -205,10 +206,10 @@ impl Slip {
 
     /// Another judgement of letters and runs.
     fn misjudge(self, survey: &mut Survey) {
-        let (set, walked) = (survey.set, survey.walked.clone());
+        let walked = survey.walked.clone();
         match self {
             FirstRecordNotJudged => {
-                survey.begins = walked.first().is_some_and(|record| record.is(1) && record.body.len() == 80)
+                survey.begins = walked.first().is_some_and(|record| record.is(1) && record.body.len() == 80);
             }
             RunUnderAnotherHeader => under_another(survey),
             CreditUnderNoHeaderKept => under_no_header(survey),
@@ -216,133 +217,107 @@ impl Slip {
         }
         for judged in &mut survey.letters {
             let header = walked[judged.letter.header].body;
-            let letter = header.get(42).map(|byte| set.character(*byte)).unwrap_or(b' ');
-            let bundles = judged.sound_runs().filter(|run| run.sort == Sort::Bundle).count();
-            match self {
-                HeaderNotJudged if !judged.sound && header.len() == 80 => {
-                    judged.sound = true;
-                    judged.content = Some(letter.to_ascii_uppercase());
-                    for run in &mut judged.runs {
-                        run.fault = first_fault(set, header, run.run.sort, &walked[run.run.first..run.run.end]);
-                    }
-                }
-                LetterWithoutBundleKept if matches!(judged.content, Some(b'I' | b'F')) => judged.content = Some(b'N'),
-                LetterOfEWithoutBundleKept if judged.content == Some(b'E') => judged.content = Some(b'N'),
-                SmallLettersAreN if letter.is_ascii_lowercase() && judged.sound => judged.content = Some(b'N'),
-                SmallNNeedsABundle if letter == b'n' && judged.sound => judged.content = Some(b'E'),
-                EmptyNDropped if judged.content == Some(b'N') && judged.sound_runs().next().is_none() => {
-                    judged.sound = false
-                }
-                CreditsKeepALetter if judged.sound && bundles == 0 && judged.sound_runs().next().is_some() => {
-                    judged.content = Some(b'N');
-                }
-                OnlySound90sKept => {
-                    let control = judged.letter.control(&walked).map(|at| walked[at].body);
-                    judged.sound &= control.is_none_or(|body| fault_alone(set, 90, body).is_none());
-                }
-                CreditOfATornBundleKept => {
-                    for (first, end) in judged.letter.torn.clone() {
-                        let credits = (first..end).filter(|at| walked[*at].is(61));
-                        for at in credits {
-                            let stop = (at + 1..end).find(|at| !walked[*at].is_any(&[50, 52, 54])).unwrap_or(end);
-                            add(
-                                set,
-                                &walked,
-                                header,
-                                &mut judged.runs,
-                                Run { sort: Sort::Credit, first: at, end: stop },
-                                judged.sound,
-                            );
-                        }
-                    }
-                }
-                StretchToTheNext70 => {
-                    for (first, end) in judged.letter.torn.clone() {
-                        let stop = (end..judged.letter.end).find(|at| walked[*at].is(70));
-                        let Some(stop) = stop.filter(|_| walked.get(end).is_some_and(|record| record.is(20))) else {
-                            continue;
-                        };
-                        judged.runs.retain(|run| run.run.end <= first || run.run.first > stop);
-                        add(
-                            set,
-                            &walked,
-                            header,
-                            &mut judged.runs,
-                            Run { sort: Sort::Bundle, first, end: stop + 1 },
-                            judged.sound,
-                        );
-                    }
-                }
-                CreditWithoutItsViews => {
-                    for run in judged.runs.iter_mut().filter(|run| run.run.sort == Sort::Credit) {
-                        shorten(set, &walked, header, run, 1, judged.sound);
-                    }
-                }
-                CreditWithLawfulViewsAlone => {
-                    for run in judged.runs.iter_mut().filter(|run| run.run.sort == Sort::Credit) {
-                        let keep = lawful(&walked[run.run.first..run.run.end]);
-                        shorten(set, &walked, header, run, keep, judged.sound);
-                    }
-                }
-                BehindA50Kept => {
-                    for run in judged.runs.iter_mut().filter(|run| run.fault == Some((Number::Place, None))) {
-                        let keep = run.run.end - run.run.first - 1;
-                        shorten(set, &walked, header, run, keep, judged.sound);
-                    }
-                }
-                CreditBehindStraysDropped => {
-                    let letter = judged.letter.clone();
-                    let in_run = |at: usize| {
-                        letter.runs.iter().any(|run| (run.first..run.end).contains(&at))
-                            || letter.torn.iter().any(|(first, end)| (*first..*end).contains(&at))
-                    };
-                    judged.runs.retain(|run| {
-                        let before = run.run.first - 1;
-                        run.run.sort == Sort::Bundle || before == letter.header || in_run(before)
-                    });
-                }
-                AllBehindAFaultDropped => {
-                    let first = judged.runs.iter().position(|run| run.fault.is_some());
-                    if let Some(first) = first {
-                        judged.runs.truncate(first + 1);
-                    }
-                }
-                FaultOfTheLastRun => {
-                    let last = judged.runs.iter().rev().find_map(|run| run.fault);
-                    judged.runs.iter_mut().filter(|run| run.fault.is_some()).for_each(|run| run.fault = last);
-                }
-                BehindA50IsLink | TypeIsPlace => {
-                    for run in &mut judged.runs {
-                        match run.fault {
-                            Some((Number::Place, None)) if self == BehindA50IsLink => {
-                                run.fault = Some((Number::Link, None))
-                            }
-                            Some((Number::Type, kind)) if self == TypeIsPlace => {
-                                run.fault = Some((Number::Place, kind))
-                            }
-                            _ => {}
-                        }
-                    }
-                }
-                TotalsNotJudged => {
-                    judged
-                        .runs
-                        .iter_mut()
-                        .filter(|run| matches!(run.fault, Some((Number::Total, _))))
-                        .for_each(|run| run.fault = None);
-                }
-                ViewMissingNotSeen => {
-                    for run in judged.runs.iter_mut().filter(|run| matches!(run.fault, Some((Number::Link, Some(70)))))
-                    {
-                        // As if the letter were one of E, where there is no view.
-                        let mut header = header.to_vec();
-                        header[42] = set.byte(b'E');
-                        run.fault = first_fault(set, &header, run.run.sort, &walked[run.run.first..run.run.end]);
-                    }
-                }
-                _ => {}
-            }
+            let under = Under { set: survey.set, walked: &walked, header };
+            self.miskeep(&under, judged);
+            self.misrun(&under, judged);
+            self.misfault(&under, judged);
             judged.letter.runs = judged.runs.iter().map(|run| run.run).collect();
+        }
+    }
+
+    /// Another judgement of a letter's header.
+    fn miskeep(self, under: &Under, judged: &mut Judged) {
+        let letter = under.header.get(42).map_or(b' ', |byte| under.set.character(*byte));
+        let bundles = judged.sound_runs().filter(|run| run.sort == Sort::Bundle).count();
+        let something = judged.sound_runs().next().is_some();
+        match self {
+            HeaderNotJudged if !judged.sound && under.header.len() == 80 => {
+                (judged.sound, judged.content) = (true, Some(letter.to_ascii_uppercase()));
+                judged.runs.iter_mut().for_each(|run| run.fault = under.fault(run.run));
+            }
+            LetterWithoutBundleKept if matches!(judged.content, Some(b'I' | b'F')) => judged.content = Some(b'N'),
+            LetterOfEWithoutBundleKept if judged.content == Some(b'E') => judged.content = Some(b'N'),
+            SmallLettersAreN if letter.is_ascii_lowercase() && judged.sound => judged.content = Some(b'N'),
+            SmallNNeedsABundle if letter == b'n' && judged.sound => judged.content = Some(b'E'),
+            EmptyNDropped if judged.content == Some(b'N') && !something => judged.sound = false,
+            CreditsKeepALetter if judged.sound && bundles == 0 && something => judged.content = Some(b'N'),
+            OnlySound90sKept => {
+                let control = judged.letter.control(under.walked).map(|at| under.walked[at].body);
+                judged.sound &= control.is_none_or(|body| fault_alone(under.set, 90, body).is_none());
+            }
+            _ => {}
+        }
+    }
+
+    /// Other runs under a header.
+    fn misrun(self, under: &Under, judged: &mut Judged) {
+        let (walked, letter) = (under.walked, judged.letter.clone());
+        let mut credits: Vec<usize> = (0..judged.runs.len()).collect();
+        credits.retain(|at| judged.runs[*at].run.sort == Sort::Credit);
+        match self {
+            CreditOfATornBundleKept => {
+                for (first, end) in letter.torn {
+                    for at in (first..end).filter(|at| walked[*at].is(61)) {
+                        let stop = (at + 1..end).find(|at| !walked[*at].is_any(&[50, 52, 54])).unwrap_or(end);
+                        under.add(judged, Run { sort: Sort::Credit, first: at, end: stop });
+                    }
+                }
+            }
+            StretchToTheNext70 => {
+                for (first, end) in letter.torn {
+                    let stop = (end..letter.end).find(|at| walked[*at].is(70));
+                    if let Some(stop) = stop.filter(|_| walked[end].is(20)) {
+                        judged.runs.retain(|run| run.run.end <= first || run.run.first > stop);
+                        under.add(judged, Run { sort: Sort::Bundle, first, end: stop + 1 });
+                    }
+                }
+            }
+            CreditWithoutItsViews => credits.into_iter().for_each(|at| under.shorten(judged, at, 1)),
+            CreditWithLawfulViewsAlone => {
+                for at in credits {
+                    let run = judged.runs[at].run;
+                    under.shorten(judged, at, lawful(&walked[run.first..run.end]));
+                }
+            }
+            BehindA50Kept => {
+                credits.retain(|at| judged.runs[*at].fault == Some((Number::Place, None)));
+                for at in credits {
+                    let run = judged.runs[at].run;
+                    under.shorten(judged, at, run.end - run.first - 1);
+                }
+            }
+            CreditBehindStraysDropped => judged.runs.retain(|run| {
+                let before = run.run.first - 1;
+                let in_run = letter.runs.iter().any(|run| (run.first..run.end).contains(&before));
+                let in_torn = letter.torn.iter().any(|(first, end)| (*first..*end).contains(&before));
+                run.run.sort == Sort::Bundle || before == letter.header || in_run || in_torn
+            }),
+            AllBehindAFaultDropped => {
+                if let Some(first) = judged.runs.iter().position(|run| run.fault.is_some()) {
+                    judged.runs.truncate(first + 1);
+                }
+            }
+            _ => {}
+        }
+    }
+
+    /// Other faults of a letter's runs.
+    fn misfault(self, under: &Under, judged: &mut Judged) {
+        let last = judged.runs.iter().rev().find_map(|run| run.fault);
+        for run in &mut judged.runs {
+            run.fault = match (self, run.fault) {
+                (FaultOfTheLastRun, Some(_)) => last,
+                (BehindA50IsLink, Some((Number::Place, None))) => Some((Number::Link, None)),
+                (TypeIsPlace, Some((Number::Type, kind))) => Some((Number::Place, kind)),
+                (TotalsNotJudged, Some((Number::Total, _))) => None,
+                (ViewMissingNotSeen, Some((Number::Link, Some(70)))) => {
+                    // As if the letter were one of E, where there is no view.
+                    let mut header = under.header.to_vec();
+                    header[42] = under.set.byte(b'E');
+                    Under { header: &header, ..*under }.fault(run.run)
+                }
+                (_, fault) => fault,
+            };
         }
     }
 
@@ -352,11 +327,9 @@ impl Slip {
         let every = |rows: &mut Vec<[u64; LIST_ROW]>, change: &dyn Fn(usize, &mut [u64; LIST_ROW])| {
             rows.iter_mut().enumerate().for_each(|(at, row)| change(at, row));
         };
-        let in_letters =
-            |rows: &mut Vec<[u64; LIST_ROW]>,
-             change: &dyn Fn(&peer_salvage::survey::Judged, &mut [[u64; LIST_ROW]])| {
-                survey.letters.iter().for_each(|judged| change(judged, rows));
-            };
+        let in_letters = |rows: &mut Vec<[u64; LIST_ROW]>, change: &dyn Fn(&Judged, &mut [[u64; LIST_ROW]])| {
+            survey.letters.iter().for_each(|judged| change(judged, rows));
+        };
         match self {
             DroppedWithoutFault => every(rows, &|_, row| row[3] = 0),
             PlaceForAll => every(rows, &|_, row| row[3] = row[3].min(6)),
@@ -574,36 +547,36 @@ impl Slip {
     }
 }
 
-/// A run that a wrong salvage has besides.
-fn add(
+/// A header, and the records walked.
+#[derive(Clone, Copy)]
+struct Under<'a> {
     set: Set,
-    walked: &[peer_salvage::walk::Walked],
-    header: &[u8],
-    runs: &mut Vec<JudgedRun>,
-    run: Run,
-    sound: bool,
-) {
-    let fault = sound.then(|| first_fault(set, header, run.sort, &walked[run.first..run.end])).flatten();
-    runs.push(JudgedRun { run, fault });
-    runs.sort_by_key(|run| run.run.first);
+    walked: &'a [Walked<'a>],
+    header: &'a [u8],
 }
 
-/// A run of its first records alone.
-fn shorten(
-    set: Set,
-    walked: &[peer_salvage::walk::Walked],
-    header: &[u8],
-    run: &mut JudgedRun,
-    keep: usize,
-    sound: bool,
-) {
-    run.run.end = run.run.first + keep;
-    let records = &walked[run.run.first..run.run.end];
-    run.fault = sound.then(|| first_fault(set, header, run.run.sort, records)).flatten();
+impl Under<'_> {
+    fn fault(&self, run: Run) -> Option<(Number, Option<u8>)> {
+        first_fault(self.set, self.header, run.sort, &self.walked[run.first..run.end])
+    }
+
+    /// A run that a wrong salvage has besides.
+    fn add(&self, judged: &mut Judged, run: Run) {
+        let fault = judged.sound.then(|| self.fault(run)).flatten();
+        judged.runs.push(JudgedRun { run, fault });
+        judged.runs.sort_by_key(|run| run.run.first);
+    }
+
+    /// A run of its first records alone.
+    fn shorten(&self, judged: &mut Judged, at: usize, keep: usize) {
+        let mut run = judged.runs[at].run;
+        run.end = run.first + keep;
+        judged.runs[at] = JudgedRun { run, fault: judged.sound.then(|| self.fault(run)).flatten() };
+    }
 }
 
 /// How many records of a 61's run are in the order of whole views.
-fn lawful(records: &[peer_salvage::walk::Walked]) -> usize {
+fn lawful(records: &[Walked]) -> usize {
     let mut at = 1;
     while records.get(at).is_some_and(|record| record.is(50)) && records.get(at + 1).is_some_and(|record| record.is(52))
     {
