@@ -32,7 +32,7 @@ fn letter(random: &mut Random, records: &mut Vec<Rec>) {
     if random.percent(18) {
         spoil(random, &mut header);
     }
-    // One in six was lost, and its records stand under the one before.
+    // Some were lost, and their records stand under the one before.
     if !random.percent(8) {
         records.push(header);
     }
