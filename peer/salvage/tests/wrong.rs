@@ -717,7 +717,7 @@ fn first_difference(side: &dyn Side, seed: u64, files: u64) -> Option<(u64, Stri
 }
 
 /// Each slip shows within so many files of a seed.
-const ENOUGH: u64 = 2_000;
+const ENOUGH: u64 = 1_000;
 
 #[test]
 fn each_wrong_salvage_shows() {
@@ -734,6 +734,6 @@ fn each_wrong_salvage_shows() {
 
 #[test]
 fn the_frame_without_a_slip_never_shows() {
-    assert_eq!(first_difference(&NoSlip, 5, ENOUGH), None);
-    assert_eq!(first_difference(&Independent, 6, ENOUGH), None);
+    assert_eq!(first_difference(&NoSlip, 5, ENOUGH / 2), None);
+    assert_eq!(first_difference(&Independent, 6, ENOUGH / 2), None);
 }
