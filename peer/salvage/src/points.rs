@@ -370,33 +370,36 @@ impl Tally {
         self.note_beside(set, judged, content);
     }
 
-    /// Sound, unsound and torn side by side under a kept header.
+    /// Sound, unsound and torn side by side under a kept header. One stands behind another of a kind if the last of the one does behind the
+    /// first of the other.
     fn note_beside(&mut self, set: Set, judged: &Judged, content: u8) {
         let runs = &judged.runs;
-        let pairs =
-            || runs.iter().enumerate().flat_map(|(at, one)| runs[at + 1..].iter().map(move |other| (one, other)));
+        let torn: Vec<usize> = judged.letter.torn.iter().map(|(first, _)| *first).collect();
         for sort in [Sort::Bundle, Sort::Credit] {
-            let [behind, before] = match sort {
-                Sort::Bundle => ["a sound bundle behind an unsound one", "a sound bundle before an unsound one"],
-                Sort::Credit => ["a sound 61 behind an unsound one", "a sound 61 before an unsound one"],
+            let places = |sound: bool| -> Vec<usize> {
+                let alike = runs.iter().filter(|run| run.run.sort == sort && run.fault.is_none() == sound);
+                alike.map(|run| run.run.first).collect()
             };
-            let alike = || pairs().filter(|(one, other)| one.run.sort == sort && other.run.sort == sort);
-            if alike().any(|(one, other)| one.fault.is_some() && other.fault.is_none()) {
-                self.meet(set, Point::Beside(behind));
-            }
-            if alike().any(|(one, other)| one.fault.is_none() && other.fault.is_some()) {
-                self.meet(set, Point::Beside(before));
-            }
-            let sound = || judged.sound_runs().filter(|run| run.sort == sort);
-            let torn = &judged.letter.torn;
-            if sort == Sort::Bundle && sound().any(|run| torn.iter().any(|(first, _)| *first > run.first)) {
-                self.meet(set, Point::Beside("a sound bundle before a torn one"));
-            }
-            let name =
-                if sort == Sort::Bundle { "a sound bundle behind a torn one" } else { "a sound 61 behind a torn one" };
-            if sound().any(|run| torn.iter().any(|(first, _)| *first < run.first)) {
-                self.meet(set, Point::Beside(name));
-            }
+            let (sound, unsound) = (places(true), places(false));
+            let (behind, before, behind_torn) = match sort {
+                Sort::Bundle => (
+                    "a sound bundle behind an unsound one",
+                    "a sound bundle before an unsound one",
+                    "a sound bundle behind a torn one",
+                ),
+                Sort::Credit => (
+                    "a sound 61 behind an unsound one",
+                    "a sound 61 before an unsound one",
+                    "a sound 61 behind a torn one",
+                ),
+            };
+            let shown = [
+                (one_behind(&sound, &unsound), behind),
+                (one_behind(&unsound, &sound), before),
+                (one_behind(&sound, &torn), behind_torn),
+                (sort == Sort::Bundle && one_behind(&torn, &sound), "a sound bundle before a torn one"),
+            ];
+            shown.into_iter().filter(|(met, _)| *met).for_each(|(_, name)| self.meet(set, Point::Beside(name)));
         }
         if runs.iter().any(|run| run.run.sort == Sort::Credit && run.fault.is_some()) {
             self.meet(set, Point::Beside("an unsound 61 in a kept letter"));
@@ -435,6 +438,8 @@ impl Tally {
 
     fn note_records(&mut self, set: Set, survey: &Survey) {
         let places = places(survey);
+        let lost = survey.letters.iter().any(|letter| letter.runs.iter().any(|run| run.fault.is_some()));
+        let other = |name: &'static str| lost.then_some(name);
         for (at, place) in places.iter().enumerate() {
             for name in dropped(survey, &places, at) {
                 self.meet(set, Point::Dropped(name));
@@ -455,33 +460,33 @@ impl Tally {
                     }
                 }
                 Place::Control(index) if survey.letters[*index].is_kept() => {
-                    self.note_old_control(set, survey, at, 90, "90 unsound", "90 that stated other sums");
+                    self.note_old_control(
+                        set,
+                        90,
+                        survey.walked[at].body,
+                        "90 unsound",
+                        other("90 that stated other sums"),
+                    );
                 }
                 _ => {}
             }
         }
-        if survey.control().is_some() {
-            self.note_old_control(set, survey, survey.walked.len() - 1, 99, "99 unsound", "99 that stated other sums");
+        if let Some(body) = survey.control() {
+            self.note_old_control(set, 99, body, "99 unsound", other("99 that stated other sums"));
         }
     }
 
-    /// A control that is made new: unsound, or one whose sums cannot be those of what is kept, since something before it was dropped.
+    /// A control that is made new: unsound, or one whose sums are those of more than is kept, since something was dropped.
     fn note_old_control(
         &mut self,
         set: Set,
-        survey: &Survey,
-        at: usize,
         code: u8,
+        body: &[u8],
         unsound: &'static str,
-        other: &'static str,
+        other: Option<&'static str>,
     ) {
-        let body = survey.walked[at].body;
-        if fault_alone(set, code, body).is_some() {
-            return self.meet(set, Point::Kept(unsound));
-        }
-        if survey.letters.iter().any(|letter| letter.runs.iter().any(|run| run.fault.is_some())) {
-            self.meet(set, Point::Kept(other));
-        }
+        let name = if fault_alone(set, code, body).is_some() { Some(unsound) } else { other };
+        name.into_iter().for_each(|name| self.meet(set, Point::Kept(name)));
     }
 
     fn note_kept_run(&mut self, set: Set, survey: &Survey, places: &[Place], run: Run) {
@@ -589,6 +594,11 @@ impl Tally {
     pub fn met(&self) -> impl Iterator<Item = (Set, Point)> + '_ {
         self.met.keys().copied()
     }
+}
+
+/// Whether some of these rising places is behind some of those.
+fn one_behind(these: &[usize], those: &[usize]) -> bool {
+    matches!((these.last(), those.first()), (Some(last), Some(first)) if last > first)
 }
 
 fn why_nothing(survey: &Survey) -> &'static str {

@@ -162,7 +162,7 @@ fn new_control(set: Set, code: u8, old: Option<&[u8]>) -> Vec<u8> {
 }
 
 /// A free field of an old control that is kept (point 47).
-pub fn free_field<'a>(set: Set, code: u8, number: u8, old: Option<&'a [u8]>) -> Option<&'a [u8]> {
+pub fn free_field(set: Set, code: u8, number: u8, old: Option<&[u8]>) -> Option<&[u8]> {
     let field = layout(code).field(number);
     let bytes = old?.get(field.first - 1..field.last)?;
     field_in(set, field, bytes).then_some(bytes)
