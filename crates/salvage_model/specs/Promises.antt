@@ -94,7 +94,7 @@ pub record NothingLost (file : List ℕ) (x : File) (outcome : Outcome) (after :
 pub record SameSalvage (file other out list : List ℕ) : Type 0 where
   pub answer : salvageOutcome file (length out) (length list) ≡ salvageOutcome other (length out) (length list)
   pub buffer : salvageBuffer file out (length list) ≡ salvageBuffer other out (length list)
-  pub list : salvageList file (length out) list ≡ salvageList other (length out) list
+  pub rows : salvageList file (length out) list ≡ salvageList other (length out) list
 
 pub record Promised (file out list : List ℕ) (outcome : Outcome) (after : List ℕ) : Type 0 where
   -- "what is written is accepted"
