@@ -41,9 +41,6 @@ pub kept-copied : (t : Torn) → isKept Ascii (copiedTorn t) ≡ isKept Ebcdic t
 unfolding isKept
 kept-copied t = rw (alone-copied 10 (t .header), indicator-copied (t .header)) (by (soundAlone Ebcdic 10 (t .header)) refl)
   where
-    any : Bool
-    any = anyBundle Ebcdic (t .header) (t .groups)
-
     by : (c : Bool) → soundAlone Ebcdic 10 (t .header) ≡ c
         → c && (eqb (indicator Ebcdic (t .header)) N || anyBundle Ascii (copiedBody (t .header)) (copiedGroups (t .groups)))
         ≡ c && (eqb (indicator Ebcdic (t .header)) N || anyBundle Ebcdic (t .header) (t .groups))

@@ -87,19 +87,19 @@ behind-more set file es past b e =
     ∙ ap more (sym (standing-onward set file (entries set past) (typeOf set b) (extent past) (length b)))
 
 -- a 99 comes behind a 90 alone
-abbrev law : ℕ → ℕ → Bool
-law last next = not (eqb next 99) || eqb last 90
+abbrev onlyAfter90 : ℕ → ℕ → Bool
+onlyAfter90 last next = not (eqb next 99) || eqb last 90
 
 pub no-99 : (opened : Bool) (last : ℕ) → eqb last 90 ≡ false → follows opened last 99 ≡ false
 unfolding follows
 no-99 opened last e = cases (follows opened last 99) refl
   where
-    in-table : (opened : Bool) → throughout law (table opened) ≡ true
+    in-table : (opened : Bool) → throughout onlyAfter90 (table opened) ≡ true
     in-table true = refl
     in-table false = refl
 
     cases : (c : Bool) → follows opened last 99 ≡ c → c ≡ false
-    cases true f = refuted (eqb last 90) e (listed law last 99 (table opened) (in-table opened) f)
+    cases true f = refuted (eqb last 90) e (listed onlyAfter90 last 99 (table opened) (in-table opened) f)
     cases false f = refl
 
 module _ (set : CharacterSet) (file : List ℕ) (s : Standing) (at : ℕ) (b : Body) (behind : eqb (s .last) 90 ≡ false) where
