@@ -41,7 +41,7 @@ pub record Base (set : CharacterSet) (header : Body) (past : List Body) : Type 0
   pub indicator : indicatorIn set past ≡ indicatorOf set header
   pub heading : newest set (is 10) past ≡ header
 
-either-false : (a b : Bool) → a || b ≡ false → (a ≡ false) × (b ≡ false)
+pub either-false : (a b : Bool) → a || b ≡ false → (a ≡ false) × (b ≡ false)
 either-false true b e = (e, cc)
 either-false false b e = (refl, e)
 
@@ -103,7 +103,7 @@ module _ (set : CharacterSet) where
       by false false q later = later
 
 -- Annex B asks of the newest item whether it is a check or a return that was not shown
-annex-same : (k i o o′ h h′ s s′ : ℕ) → eqb k 90 ≡ false → isCheckOrReturn h && eqb s 0 ≡ isCheckOrReturn h′ && eqb s′ 0
+pub annex-same : (k i o o′ h h′ s s′ : ℕ) → eqb k 90 ≡ false → isCheckOrReturn h && eqb s 0 ≡ isCheckOrReturn h′ && eqb s′ 0
     → annexB k i o h s ≡ annexB k i o′ h′ s′
 unfolding annexB
 annex-same k i o o′ h h′ s s′ n e =
@@ -125,7 +125,7 @@ annex-same k i o o′ h h′ s s′ n e =
     never-90 false x y q = refl
 
 -- a law of each pair of the tables
-by-tables : (law : ℕ → ℕ → Bool) → throughout law outside ≡ true → throughout law inside ≡ true → (opened : Bool) (last present next : ℕ)
+pub by-tables : (law : ℕ → ℕ → Bool) → throughout law outside ≡ true → throughout law inside ≡ true → (opened : Bool) (last present next : ℕ)
     → mayFollow opened last present next ≡ true → law last next ≡ true
 unfolding mayFollow follows
 by-tables law in-outside in-inside opened last present next e =
@@ -144,7 +144,7 @@ one-kind last present other next e =
     rw (found, none)
 
 -- the record numbers, by those before
-abbrev numberedBy : CharacterSet → ℕ → Body → ℕ → ℕ → Bool
+abbrev pub numberedBy : CharacterSet → ℕ → Body → ℕ → ℕ → Bool
 numberedBy set k b bofd endorser =
     cond (eqb k 26) (eqb (number set (fieldOf checkDetailAddendumA 2 b)) (bofd + 1))
     (cond (eqb k 32) (eqb (number set (fieldOf returnAddendumA 2 b)) (bofd + 1))
@@ -152,7 +152,7 @@ numberedBy set k b bofd endorser =
     (cond (eqb k 35) (eqb (number set (fieldOf returnAddendumD 2 b)) (endorser + 1)) true)))
 
 -- are asked of addenda alone
-numbered-plain : (set : CharacterSet) (k : ℕ) (b : Body) (m n : ℕ) → isAddendum k ≡ false → numberedBy set k b m n ≡ true
+pub numbered-plain : (set : CharacterSet) (k : ℕ) (b : Body) (m n : ℕ) → isAddendum k ≡ false → numberedBy set k b m n ≡ true
 numbered-plain set k b m n none = rw (none-is 26 refl, none-is 32 refl, none-is 28 refl, none-is 35 refl)
   where
     none-is : (j : ℕ) → isAddendum j ≡ true → eqb k j ≡ false

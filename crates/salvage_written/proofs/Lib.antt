@@ -1,3 +1,4 @@
 pub mod Values
 pub mod Accepted
 pub mod Carried
+pub mod Run
