@@ -2,3 +2,4 @@ pub mod Values
 pub mod Accepted
 pub mod Carried
 pub mod Run
+pub mod ReadRun
