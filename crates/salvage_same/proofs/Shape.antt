@@ -17,11 +17,7 @@ use Rattle.arrangement.specs.Tree.{View, Addenda, ofCheck, ofReturn, ofCredit, 
 use Rattle.arrangement.specs.Written.{optionalThen, viewThen, viewsThen, addendaThen, itemThen, itemsThen, bundleThen, creditThen, contentThen, contentsThen, letterThen, lettersThen, records}
 use Rattle.arrangement.specs.Sound.{All, IfAny}
 use Rattle.arrangement.specs.TypesInPlace.{OfType, TypedView, TypedAddenda, TypedItem, TypedBundle, TypedCredit, TypedContent, TypedLetter, Typed}
-use Rattle.salvage_model.specs.Runs.{leading, following, of, notOf, Group, run, loose, stretchThen, groupsFrom, groupsOf}
-use Rattle.salvage_model.specs.Kept.{Torn, Section, letter, ending, stray, sectionsFrom, sectionsOf}
-use Rattle.salvage_written.proofs.Carried.{either-false}
 use Rattle.salvage_written.proofs.Run.{BundleRest, closes, goes, AllViews, IsRun, bundle, credit}
-use Rattle.salvage_model.specs.Kept as kept
 use Rattle.arrangement.specs.Sound as sound
 
 -- parts written out, and what follows them
