@@ -1,3 +1,6 @@
 pub mod Walk
 pub mod Shape
 pub mod Sections
+pub mod Letters
+pub mod Values
+pub mod Lost
