@@ -4,3 +4,4 @@ pub mod Sections
 pub mod Letters
 pub mod Values
 pub mod Lost
+pub mod Again
