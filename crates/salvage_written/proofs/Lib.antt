@@ -3,3 +3,4 @@ pub mod Accepted
 pub mod Carried
 pub mod Run
 pub mod ReadRun
+pub mod Copies
