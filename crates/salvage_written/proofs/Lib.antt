@@ -4,3 +4,5 @@ pub mod Carried
 pub mod Run
 pub mod ReadRun
 pub mod Copies
+pub mod Control
+pub mod Addenda
