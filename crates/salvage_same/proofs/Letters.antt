@@ -28,8 +28,7 @@ use Rattle.salvage_model.specs.Runs.{isRight, soundAlone, runFault, Group, run}
 use Rattle.salvage_model.specs.Kept.{Torn, isThrough, isSoundBundle, anyBundle, isKept}
 use Rattle.salvage_written.proofs.Carried.{GoodRun, Base, by-tables}
 use Rattle.salvage_written.proofs.Run.{IsRun, bundle, credit, run-plain, run-same, run-left, last-onto}
-use Rattle.salvage_written.proofs.ReadRun.{SoundAs, sound-as, GoodThrough, good-through, base-header}
-use Rattle.salvage_same.proofs.Walk.{two-long}
+use Rattle.salvage_written.proofs.ReadRun.{two-long, SoundAs, sound-as, GoodThrough, good-through, base-header}
 use Rattle.salvage_same.proofs.Shape.{runOf, joined, contents-then, contents-run}
 use Rattle.salvage_same.proofs.Sections.{tornOf}
 

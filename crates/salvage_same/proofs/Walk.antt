@@ -5,19 +5,15 @@ use mathlib.Core.Bool.{Bool, true, false, _&&_, cond}
 use mathlib.Core.Path.{_≡_, refl, sym, ap, _∙_, subst}
 use mathlib.Core.List.{List, [], _∷_, _++_}
 use lib.Dec.{leb, eqb}
-use lib.ListN.{length, take, drop, length-append, length-drop}
+use lib.ListN.{length, drop, length-append, length-drop}
 use borrow.Author.Tests.{eqb-true, le-leb, leb-true}
 use Rattle.text.specs.CharacterSet.{setOf}
 use Rattle.text.specs.declared.character_set.CharacterSet.{CharacterSet}
-use Rattle.text.specs.Characters.{isNumeric}
-use Rattle.text.specs.DataTypes.{every}
-use Rattle.text.specs.Number.{number}
 use Rattle.frame.specs.declared.Frame.{Frame}
 use Rattle.frame.specs.declared.Frame.the-variants.{Cut, Whole}
 use Rattle.frame.specs.Frames.{part, lengthAt, frameAt}
 use Rattle.frame.specs.Unless.{unless}
 use Rattle.judge.specs.Alone.{typeOf}
-use Rattle.order.specs.MayFollow.{isOneOf, carried, isCarried}
 use Rattle.file_as_records.specs.Framed.{Body, framed}
 use Rattle.file_as_records.proofs.Figures.{lastIn}
 use Rattle.file_as_records.proofs.Good.{GoodAll}
@@ -28,16 +24,8 @@ use Rattle.arrangement.specs.Tree.{File}
 use Rattle.arrangement.specs.Written.{records}
 use Rattle.arrangement.specs.Arranged.{Arranges}
 use Rattle.arrangement.proofs.Goodness.{sound-good}
+use Rattle.salvage_written.proofs.ReadRun.{two-long}
 use Rattle.salvage_model.specs.Walked.{walkedOn, walkedFrom, walked}
-
--- a carried record has its type in two characters
-pub two-long : (set : CharacterSet) (b : Body) → isCarried (typeOf set b) ≡ true → leb 2 (length b) ≡ true
-unfolding typeOf isCarried
-two-long set b e = cases (leb 2 (length b)) e
-  where
-    cases : (c : Bool) → isOneOf (cond (c && every (isNumeric set) (take 2 b)) (number set (take 2 b)) 0) carried ≡ true → c ≡ true
-    cases true e = refl
-    cases false e = cc
 
 -- nothing is walked where the bytes end
 ended : (set : CharacterSet) (n : ℕ) (file : List ℕ) (at : ℕ) → length file ≤ at → walkedFrom set n file at ≡ []

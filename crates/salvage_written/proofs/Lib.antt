@@ -6,3 +6,4 @@ pub mod ReadRun
 pub mod Copies
 pub mod Control
 pub mod Addenda
+pub mod Going

@@ -6,13 +6,17 @@ use mathlib.Core.Option.{Option, none, some}
 use mathlib.Core.Path.{_≡_, refl, sym, ap, ap₂, _∙_, subst}
 use mathlib.Core.List.{List, [], _∷_, _++_}
 use lib.Dec.{leb, eqb}
-use lib.ListN.{length, drop}
+use lib.ListN.{length, take, drop}
 use borrow.Author.Tests.{eqb-true, eqb-false, ne-eqb, leb-true}
 use Rattle.text.specs.declared.character_set.CharacterSet.{CharacterSet}
+use Rattle.text.specs.Characters.{isNumeric}
+use Rattle.text.specs.DataTypes.{every}
+use Rattle.text.specs.Number.{number}
 use Rattle.frame.specs.Unless.{unless}
 use Rattle.judge.specs.declared.Judged.{Judged}
 use Rattle.judge.specs.declared.Judged.the-variants.{Sound, WrongLength, UnknownType, WrongField}
 use Rattle.judge.specs.Alone.{typeOf, judgedAs, judgedRecord}
+use Rattle.order.specs.MayFollow.{isOneOf, carried, isCarried}
 use Rattle.measure.specs.declared.Records.{Records}
 use Rattle.standing.specs.History.{Entry, entry}
 use Rattle.standing.specs.Standing.{standing, onward}
@@ -38,6 +42,15 @@ use Rattle.salvage_written.proofs.Carried.{GoodRun, Base}
 use Rattle.salvage_written.proofs.Run.{Plain}
 use Rattle.passes.specs.declared.Turn.the-variants as turns
 use Rattle.measure.specs.Measures as measures
+
+-- a carried record has its type in two characters
+pub two-long : (set : CharacterSet) (b : Body) → isCarried (typeOf set b) ≡ true → leb 2 (length b) ≡ true
+unfolding typeOf isCarried
+two-long set b e = cases (leb 2 (length b)) e
+  where
+    cases : (c : Bool) → isOneOf (cond (c && every (isNumeric set) (take 2 b)) (number set (take 2 b)) 0) carried ≡ true → c ≡ true
+    cases true e = refl
+    cases false e = cc
 
 -- a record that is sound alone
 right-sound : (j : Judged) → isRight j ≡ true → j ≡ Sound
