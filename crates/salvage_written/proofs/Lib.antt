@@ -7,3 +7,4 @@ pub mod Copies
 pub mod Control
 pub mod Addenda
 pub mod Going
+pub mod Groups
