@@ -81,7 +81,7 @@ right k b sound =
       parts = eqb-true _ 0 (parts .0);
     }
 
-type-told : (b : Body) → isCarried (typeOf Ascii b) ≡ true → number Ascii (part 0 2 b) ≡ typeOf Ascii b
+pub type-told : (b : Body) → isCarried (typeOf Ascii b) ≡ true → number Ascii (part 0 2 b) ≡ typeOf Ascii b
 unfolding typeOf isCarried
 type-told b e = cases (leb 2 (length b) && every (isNumeric Ascii) (take 2 b)) e
   where
@@ -90,11 +90,11 @@ type-told b e = cases (leb 2 (length b) && every (isNumeric Ascii) (take 2 b)) e
     cases false e = cc
 
 -- a record of type t, completed behind those of past and with so many addenda behind it
-record ItselfAs (t : ℕ) (past : List Body) (b : Body) (addenda : ℕ) : Type 0 where
-  same : completed (valuesAs t b) addenda (over Ascii past) ≡ b
-  fit : firstUnfit (valuesAs t b) addenda (layoutOf t .lines) (valuesAs t b .fields) ≡ 0
-  fields : firstWrong Ascii (layoutOf t .lines) b ≡ 0
-  parts : firstUnfitPart (sizedParts (layoutOf t)) (valuesAs t b .parts) ≡ 0
+pub record ItselfAs (t : ℕ) (past : List Body) (b : Body) (addenda : ℕ) : Type 0 where
+  pub same : completed (valuesAs t b) addenda (over Ascii past) ≡ b
+  pub fit : firstUnfit (valuesAs t b) addenda (layoutOf t .lines) (valuesAs t b .fields) ≡ 0
+  pub fields : firstWrong Ascii (layoutOf t .lines) b ≡ 0
+  pub parts : firstUnfitPart (sizedParts (layoutOf t)) (valuesAs t b .parts) ≡ 0
 
 module _ (t : ℕ) (past : List Body) (b : Body) (addenda : ℕ) (sound : judgedAs Ascii t b ≡ Sound) (told : Told t past b addenda) where
   own-kind : laid (layoutOf t) ≡ true
@@ -111,7 +111,7 @@ module _ (t : ℕ) (past : List Body) (b : Body) (addenda : ℕ) (sound : judged
       among (λ n k. Told n past b addenda → All (Said (valuesAs n b) addenda (cappedFigures (over Ascii past)) b) (worked (k .lines))) t b layouts
       (all-lines past b addenda) sound .0 told
 
-  itself-as : ItselfAs t past b addenda
+  pub itself-as : ItselfAs t past b addenda
   unfolding completed
   itself-as =
       let k = layoutOf t in
