@@ -1,105 +1,133 @@
--- The lines of the slow reader's table (src/table.rt), each a number whose decimal digits are its columns, and a record judged by them. Nothing of
--- this has to be believed: `Meant` says that a table so read judges every record as its layout does.
+-- The lines of the slow reader's table (src/table.rt), each a number whose decimal digits are its columns, and a record judged by what they say.
+-- Nothing of this has to be believed: proofs/Entries.antt has that what the layouts say, so judged, is what judge/specs/Alone.antt asks.
 use Prim.Native.Nat.{ℕ, _+_, _-_, _/_, _%_}
 use mathlib.Core.Path.{_≡_}
 use mathlib.Core.Bool.{Bool, true, false, cond, _&&_, _||_, not}
-use mathlib.Core.List.{List, [], _∷_}
+use mathlib.Core.List.{List, [], _∷_, _++_, map}
 use lib.Dec.{leb, eqb}
 use lib.ListN.{length, take, drop}
 use Rattle.text.specs.declared.character_set.CharacterSet.{CharacterSet}
 use Rattle.text.specs.declared.data_types.DataType.{DataType}
+use Rattle.text.specs.declared.data_types.DataType.the-variants.{Binary}
 use Rattle.text.specs.DataTypes.{ofType}
 use Rattle.text.specs.Number.{number}
+use Rattle.field.specs.declared.Usage.{Usage}
+use Rattle.field.specs.declared.Usage.the-variants.{Mandatory, Conditional}
+use Rattle.field.specs.declared.Rule.{Rule}
+use Rattle.field.specs.declared.Rule.the-variants.{DataTypeAlone}
 use Rattle.field.specs.Rules.{holds}
 use Rattle.frame.specs.Frames.{part}
 use Rattle.frame.specs.Unless.{unless}
+use Rattle.layout.specs.Layout.{Line, Sized, Layout, sizedParts}
+use Rattle.layout.specs.Layouts.{layouts}
 use Rattle.layout.specs.Packing.{usageOf, dataTypeOf, ruleOf}
-use Rattle.judge.specs.Alone.{unlessField, judgedAs}
+use Rattle.judge.specs.Alone.{unlessField}
 use Rattle.judge.specs.declared.Judged.{Judged}
 use Rattle.judge.specs.declared.Judged.the-variants.{Sound, WrongLength, UnknownType}
 
--- the columns: the record's type, the field's number, its first position, its size, its usage, its data type
-abbrev pub typeIn : ℕ → ℕ
-typeIn line = line / 100_000_000_000_000_000
+-- what a line says: the kind of record, what the line is in it (0 and 1 a field of its fixed part, mandatory or conditional, 2 a field behind it,
+-- 3 the record itself), the field's number, its first position and its size, its data type, its Format or Defined Values
+pub record Entry : Type 0 where
+  pub kind : ℕ
+  pub role : ℕ
+  pub number : ℕ
+  pub first : ℕ
+  pub size : ℕ
+  pub dataType : DataType
+  pub rule : Rule
 
-abbrev pub fieldIn : ℕ → ℕ
-fieldIn line = line / 1_000_000_000_000_000 % 100
+abbrev pub entryOf : ℕ → Entry
+entryOf line =
+    record {
+      kind = line / 100_000_000_000_000_000;
+      role = line / 100_000_000 % 10;
+      number = line / 1_000_000_000_000_000 % 100;
+      first = line / 1_000_000_000_000 % 1_000;
+      size = line / 1_000_000_000 % 1_000;
+      dataType = dataTypeOf (line / 1_000_000 % 100);
+      rule = ruleOf (line / 10_000 % 100) (line / 100 % 100) (line % 100);
+    }
 
-abbrev pub firstIn : ℕ → ℕ
-firstIn line = line / 1_000_000_000_000 % 1_000
+-- what the layouts say, in the same form
+abbrev pub roleOf : Usage → ℕ
+roleOf Mandatory = 0
+roleOf Conditional = 1
 
-abbrev pub sizeIn : ℕ → ℕ
-sizeIn line = line / 1_000_000_000 % 1_000
+abbrev pub ofLine : ℕ → Line → Entry
+ofLine k l = record { kind = k; role = roleOf (l .usage); number = l .number; first = l .first; size = l .size; dataType = l .dataType; rule = l .rule }
 
-abbrev pub usageIn : ℕ → ℕ
-usageIn line = line / 100_000_000 % 10
+abbrev pub ofPart : ℕ → Sized → Entry
+ofPart k s = record { kind = k; role = 2; number = s .number; first = s .first; size = s .size; dataType = s .dataType; rule = DataTypeAlone }
 
-abbrev pub dataTypeIn : ℕ → DataType
-dataTypeIn line = dataTypeOf (line / 1_000_000 % 100)
+abbrev pub ofLayout : Layout → List Entry
+ofLayout k =
+    record { kind = k .typeNumber; role = 3; number = 0; first = 1; size = k .fixedLength; dataType = Binary; rule = DataTypeAlone }
+    ∷ (map (ofLine (k .typeNumber)) (k .lines) ++ map (ofPart (k .typeNumber)) (sizedParts k))
 
--- a line of the kind: a field of its fixed part, a field behind it, the record itself
-abbrev pub isField : ℕ → ℕ → Bool
-isField kind line = leb (usageIn line) 1 && eqb kind (typeIn line)
+abbrev pub entriesOf : List Layout → List Entry
+entriesOf [] = []
+entriesOf (k ∷ ks) = ofLayout k ++ entriesOf ks
 
-abbrev pub isPart : ℕ → ℕ → Bool
-isPart kind line = eqb (usageIn line) 2 && eqb kind (typeIn line)
+-- a table whose lines say what the layouts say
+pub record Meant (lines : List ℕ) : Type 0 where
+  pub means : map entryOf lines ≡ entriesOf layouts
 
-abbrev pub isRecord : ℕ → ℕ → Bool
-isRecord kind line = eqb (usageIn line) 3 && eqb kind (typeIn line)
+-- an entry of the kind: a field of its fixed part, a field behind it, the record itself
+abbrev pub isField : ℕ → Entry → Bool
+isField kind e = leb (e .role) 1 && eqb kind (e .kind)
 
--- the characters that a line points at
-abbrev pub charactersAt : ℕ → List ℕ → List ℕ
-charactersAt line body = part (firstIn line - 1) (sizeIn line) body
+abbrev pub isPart : ℕ → Entry → Bool
+isPart kind e = eqb (e .role) 2 && eqb kind (e .kind)
 
-unfoldable pub fieldHolds : CharacterSet → ℕ → List ℕ → Bool
-fieldHolds set line body =
-    holds set (usageOf (usageIn line)) (dataTypeIn line) (ruleOf (line / 10_000 % 100) (line / 100 % 100) (line % 100)) (charactersAt line body) body
+abbrev pub isRecord : ℕ → Entry → Bool
+isRecord kind e = eqb (e .role) 3 && eqb kind (e .kind)
 
-abbrev pub statedIn : CharacterSet → ℕ → List ℕ → ℕ
-statedIn set line body = number set (charactersAt line body)
+-- the characters that an entry points at
+abbrev pub charactersAt : Entry → List ℕ → List ℕ
+charactersAt e body = part (e .first - 1) (e .size) body
+
+unfoldable pub fieldHolds : CharacterSet → Entry → List ℕ → Bool
+fieldHolds set e body = holds set (usageOf (e .role)) (e .dataType) (e .rule) (charactersAt e body) body
+
+abbrev pub statedIn : CharacterSet → Entry → List ℕ → ℕ
+statedIn set e body = number set (charactersAt e body)
 
 -- the length of the fixed part, 0 of a kind that is not in the table
-unfoldable pub lengthOf : ℕ → List ℕ → ℕ
+unfoldable pub lengthOf : ℕ → List Entry → ℕ
 lengthOf kind [] = 0
-lengthOf kind (line ∷ lines) = cond (isRecord kind line) (sizeIn line) (lengthOf kind lines)
+lengthOf kind (e ∷ es) = cond (isRecord kind e) (e .size) (lengthOf kind es)
 
 -- the first field of the fixed part that does not hold, or 0
-unfoldable pub wrongField : CharacterSet → ℕ → List ℕ → List ℕ → ℕ
+unfoldable pub wrongField : CharacterSet → ℕ → List Entry → List ℕ → ℕ
 wrongField set kind [] body = 0
-wrongField set kind (line ∷ lines) body =
-    cond (isField kind line)
-    (cond (fieldHolds set line body) (wrongField set kind lines body) (fieldIn line))
-    (wrongField set kind lines body)
+wrongField set kind (e ∷ es) body =
+    cond (isField kind e) (cond (fieldHolds set e body) (wrongField set kind es body) (e .number)) (wrongField set kind es body)
 
 -- what the record states for the fields behind its fixed part, together
-unfoldable pub stated : CharacterSet → ℕ → List ℕ → List ℕ → ℕ
+unfoldable pub stated : CharacterSet → ℕ → List Entry → List ℕ → ℕ
 stated set kind [] body = 0
-stated set kind (line ∷ lines) body = cond (isPart kind line) (statedIn set line body + stated set kind lines body) (stated set kind lines body)
+stated set kind (e ∷ es) body = cond (isPart kind e) (statedIn set e body + stated set kind es body) (stated set kind es body)
 
 -- the first of these that is not of its data type, or 0
-unfoldable pub wrongPart : CharacterSet → ℕ → List ℕ → List ℕ → List ℕ → ℕ
+unfoldable pub wrongPart : CharacterSet → ℕ → List Entry → List ℕ → List ℕ → ℕ
 wrongPart set kind [] body rest = 0
-wrongPart set kind (line ∷ lines) body rest =
-    cond (isPart kind line)
-    (cond (ofType set (dataTypeIn line) (take (statedIn set line body) rest))
-    (wrongPart set kind lines body (drop (statedIn set line body) rest))
-    (fieldIn line))
-    (wrongPart set kind lines body rest)
+wrongPart set kind (e ∷ es) body rest =
+    cond (isPart kind e)
+    (cond (ofType set (e .dataType) (take (statedIn set e body) rest))
+    (wrongPart set kind es body (drop (statedIn set e body) rest))
+    (e .number))
+    (wrongPart set kind es body rest)
 
 -- the kinds that have any
 abbrev pub isVariable : ℕ → Bool
 isVariable kind = eqb kind 27 || (eqb kind 34 || eqb kind 52)
 
 -- the checks in document 01's order
-unfoldable pub judgedBy : CharacterSet → ℕ → List ℕ → List ℕ → Judged
-judgedBy set kind lines body =
-    unless (not (eqb (lengthOf kind lines) 0)) UnknownType
-    (unless (leb (lengthOf kind lines) (length body)) WrongLength
-    (unless (isVariable kind || leb (length body) (lengthOf kind lines)) WrongLength
-    (unlessField (wrongField set kind lines body)
-    (unless (eqb (length body) (lengthOf kind lines + stated set kind lines body)) WrongLength
-    (unlessField (wrongPart set kind lines body (drop (lengthOf kind lines) body)) Sound)))))
-
--- a table that judges as the layouts do
-pub record Meant (lines : List ℕ) : Type 0 where
-  pub means : (set : CharacterSet) (kind : ℕ) (body : List ℕ) → judgedBy set kind lines body ≡ judgedAs set kind body
+unfoldable pub judgedBy : CharacterSet → ℕ → List Entry → List ℕ → Judged
+judgedBy set kind es body =
+    unless (not (eqb (lengthOf kind es) 0)) UnknownType
+    (unless (leb (lengthOf kind es) (length body)) WrongLength
+    (unless (isVariable kind || leb (length body) (lengthOf kind es)) WrongLength
+    (unlessField (wrongField set kind es body)
+    (unless (eqb (length body) (lengthOf kind es + stated set kind es body)) WrongLength
+    (unlessField (wrongPart set kind es body (drop (lengthOf kind es) body)) Sound)))))

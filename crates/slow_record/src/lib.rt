@@ -19,13 +19,14 @@ use judge::Judged;
 use text::CharacterSet;
 ghost use mathlib.Core.Path.{_≡_};
 ghost use mathlib.Core.Bool.{_&&_, not, cond};
+ghost use mathlib.Core.List.{map};
 ghost use Prim.Native.Nat.{_≤_};
 ghost use lib.Dec.{eqb};
 ghost use lib.ListN.{take};
 ghost use Rattle.text.specs.DataTypes.{ofType};
 ghost use Rattle.frame.specs.Frames.{part, lengthIn, frameAt};
 ghost use Rattle.judge.specs.Alone.{typeOf, judgedAs};
-ghost use Rattle.slow_record.specs.Rows.{isField, isPart, dataTypeIn, fieldHolds, statedIn, lengthOf, wrongField, stated, wrongPart, judgedBy};
+ghost use Rattle.slow_record.specs.Rows.{entryOf, isField, isPart, fieldHolds, statedIn, lengthOf, wrongField, stated, wrongPart, judgedBy};
 
 // The bytes from a place on, as many as the size says or as there are.
 pub fn part_of(s: &[u8], start: usize, size: usize) -> &[u8]
@@ -83,7 +84,7 @@ pub fn type_of(set: CharacterSet, body: &[u8]) -> u64
 
 // A field of the fixed part is right.
 fn field_holds(set: CharacterSet, line: u64, body: &[u8]) -> bool
-    ensures { λ r. ⌜ r ≡ fieldHolds set line (now (body .entry)) ⌝ }
+    ensures { λ r. ⌜ r ≡ fieldHolds set (entryOf line) (now (body .entry)) ⌝ }
 {
     let characters = slow_text::part_of(body, place_in(line), size_in(line));
     let usage = usage_in(line);
@@ -94,7 +95,7 @@ fn field_holds(set: CharacterSet, line: u64, body: &[u8]) -> bool
 
 // The line is a field of the kind's fixed part, and the field is not right.
 fn is_wrong(set: CharacterSet, kind: u64, line: u64, body: &[u8]) -> bool
-    ensures { λ r. ⌜ r ≡ isField kind line && not (fieldHolds set line (now (body .entry))) ⌝ }
+    ensures { λ r. ⌜ r ≡ isField kind (entryOf line) && not (fieldHolds set (entryOf line) (now (body .entry))) ⌝ }
 {
     if is_field(kind, line) {
         return !field_holds(set, line, body);
@@ -104,7 +105,7 @@ fn is_wrong(set: CharacterSet, kind: u64, line: u64, body: &[u8]) -> bool
 
 // The number of the first field of the fixed part that is not right, or 0.
 fn first_wrong<'a>(set: CharacterSet, kind: u64, lines: &'a [u64], body: &'a [u8]) -> usize
-    ensures { λ r. ⌜ r ≡ wrongField set kind (now (lines .entry)) (now (body .entry)) ⌝ }
+    ensures { λ r. ⌜ r ≡ wrongField set kind (map entryOf (now (lines .entry))) (now (body .entry)) ⌝ }
 {
     let mut i = 0;
     while i < lines.len() {
@@ -118,7 +119,7 @@ fn first_wrong<'a>(set: CharacterSet, kind: u64, lines: &'a [u64], body: &'a [u8
 
 // The size that the record states for a field behind its fixed part; 0 for any other line.
 fn stated_size(set: CharacterSet, kind: u64, line: u64, body: &[u8]) -> u64
-    ensures { λ r. ⌜ r ≡ cond (isPart kind line) (statedIn set line (now (body .entry))) 0 ⌝ }
+    ensures { λ r. ⌜ r ≡ cond (isPart kind (entryOf line)) (statedIn set (entryOf line) (now (body .entry))) 0 ⌝ }
 {
     if is_part(kind, line) {
         let characters = slow_text::part_of(body, place_in(line), size_in(line));
@@ -129,7 +130,7 @@ fn stated_size(set: CharacterSet, kind: u64, line: u64, body: &[u8]) -> u64
 
 // Whether the stated sizes come to just what is left behind the fixed part.
 fn sizes_fill<'a>(set: CharacterSet, kind: u64, lines: &'a [u64], body: &'a [u8], left: u64) -> bool
-    ensures { λ r. ⌜ r ≡ eqb left (stated set kind (now (lines .entry)) (now (body .entry))) ⌝ }
+    ensures { λ r. ⌜ r ≡ eqb left (stated set kind (map entryOf (now (lines .entry))) (now (body .entry))) ⌝ }
 {
     let mut rest = left;
     let mut i = 0;
@@ -146,7 +147,7 @@ fn sizes_fill<'a>(set: CharacterSet, kind: u64, lines: &'a [u64], body: &'a [u8]
 
 // The line is a field of the kind behind its fixed part, and the characters are not of its data type.
 fn is_wrong_part(set: CharacterSet, kind: u64, line: u64, characters: &[u8]) -> bool
-    ensures { λ r. ⌜ r ≡ isPart kind line && not (ofType set (dataTypeIn line) (now (characters .entry))) ⌝ }
+    ensures { λ r. ⌜ r ≡ isPart kind (entryOf line) && not (ofType set (entryOf line .dataType) (now (characters .entry))) ⌝ }
 {
     if is_part(kind, line) {
         return !slow_text::of_type(set, data_type_in(line), characters);
@@ -162,7 +163,7 @@ fn first_wrong_part<'a>(
     body: &'a [u8],
     parts: &'a [u8],
 ) -> usize
-    ensures { λ r. ⌜ r ≡ wrongPart set kind (now (lines .entry)) (now (body .entry)) (now (parts .entry)) ⌝ }
+    ensures { λ r. ⌜ r ≡ wrongPart set kind (map entryOf (now (lines .entry))) (now (body .entry)) (now (parts .entry)) ⌝ }
 {
     let mut rest = parts;
     let mut i = 0;
@@ -180,7 +181,7 @@ fn first_wrong_part<'a>(
 
 // The length of the kind's fixed part; 0 where the kind is not carried.
 fn fixed_length(kind: u64, lines: &[u64]) -> usize
-    ensures { λ r. ⌜ r ≡ lengthOf kind (now (lines .entry)) ⌝ }
+    ensures { λ r. ⌜ r ≡ lengthOf kind (map entryOf (now (lines .entry))) ⌝ }
 {
     let mut i = 0;
     while i < lines.len() {
@@ -194,7 +195,7 @@ fn fixed_length(kind: u64, lines: &[u64]) -> usize
 
 // The checks of one record alone, in document 01's order.
 fn judge_by<'a>(set: CharacterSet, kind: u64, lines: &'a [u64], body: &'a [u8]) -> Judged
-    ensures { λ r. ⌜ r ≡ judgedBy set kind (now (lines .entry)) (now (body .entry)) ⌝ }
+    ensures { λ r. ⌜ r ≡ judgedBy set kind (map entryOf (now (lines .entry))) (now (body .entry)) ⌝ }
 {
     let fixed = fixed_length(kind, lines);
     if fixed == 0 {

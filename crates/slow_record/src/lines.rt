@@ -7,23 +7,23 @@ use text::DataType;
 ghost use mathlib.Core.Path.{_≡_};
 ghost use Prim.Native.Nat.{_-_};
 ghost use Rattle.layout.specs.Packing.{usageOf, dataTypeOf, formsIn, ruleOf};
-ghost use Rattle.slow_record.specs.Rows.{isField, isPart, isRecord, fieldIn, firstIn, sizeIn, usageIn, dataTypeIn, isVariable};
+ghost use Rattle.slow_record.specs.Rows.{entryOf, isField, isPart, isRecord, isVariable};
 
 // The line has a field of the fixed part of a kind, a field behind it, or the record itself.
 pub fn is_field(kind: u64, line: u64) -> bool
-    ensures { λ r. ⌜ r ≡ isField kind line ⌝ }
+    ensures { λ r. ⌜ r ≡ isField kind (entryOf line) ⌝ }
 {
     (line / 100_000_000 % 10 <= 1) & (kind == line / 100_000_000_000_000_000)
 }
 
 pub fn is_part(kind: u64, line: u64) -> bool
-    ensures { λ r. ⌜ r ≡ isPart kind line ⌝ }
+    ensures { λ r. ⌜ r ≡ isPart kind (entryOf line) ⌝ }
 {
     (line / 100_000_000 % 10 == 2) & (kind == line / 100_000_000_000_000_000)
 }
 
 pub fn is_record(kind: u64, line: u64) -> bool
-    ensures { λ r. ⌜ r ≡ isRecord kind line ⌝ }
+    ensures { λ r. ⌜ r ≡ isRecord kind (entryOf line) ⌝ }
 {
     (line / 100_000_000 % 10 == 3) & (kind == line / 100_000_000_000_000_000)
 }
@@ -36,14 +36,14 @@ pub fn is_variable(kind: u64) -> bool
 }
 
 pub fn field_in(line: u64) -> usize
-    ensures { λ r. ⌜ r ≡ fieldIn line ⌝ }
+    ensures { λ r. ⌜ r ≡ entryOf line .number ⌝ }
 {
     (line / 1_000_000_000_000_000 % 100) as usize
 }
 
 // The first position counts from 1, a place from 0.
 pub fn place_in(line: u64) -> usize
-    ensures { λ r. ⌜ r ≡ firstIn line - 1 ⌝ }
+    ensures { λ r. ⌜ r ≡ entryOf line .first - 1 ⌝ }
 {
     let first = (line / 1_000_000_000_000 % 1_000) as usize;
     if first == 0 {
@@ -53,13 +53,13 @@ pub fn place_in(line: u64) -> usize
 }
 
 pub fn size_in(line: u64) -> usize
-    ensures { λ r. ⌜ r ≡ sizeIn line ⌝ }
+    ensures { λ r. ⌜ r ≡ entryOf line .size ⌝ }
 {
     (line / 1_000_000_000 % 1_000) as usize
 }
 
 pub fn usage_in(line: u64) -> Usage
-    ensures { λ r. ⌜ r ≡ usageOf (usageIn line) ⌝ }
+    ensures { λ r. ⌜ r ≡ usageOf (entryOf line .role) ⌝ }
 {
     match line / 100_000_000 % 10 {
         0 => Usage::Mandatory,
@@ -89,7 +89,7 @@ fn data_type_of(code: u64) -> DataType
 }
 
 pub fn data_type_in(line: u64) -> DataType
-    ensures { λ r. ⌜ r ≡ dataTypeIn line ⌝ }
+    ensures { λ r. ⌜ r ≡ entryOf line .dataType ⌝ }
 {
     data_type_of(line / 1_000_000 % 100)
 }

@@ -1,15 +1,16 @@
 use Prim.Native.Nat.{ℕ, _≤_, _-_, _+_, _<_}
 use mathlib.Core.Path.{_≡_, refl, sym, _∙_, ap}
+use mathlib.Core.List.{map}
 use lib.ListN.{length, getD, take, drop, length-drop}
 use denote.Ref.{now}
-use Rattle.slow_record.specs.Rows.{lengthOf}
+use Rattle.slow_record.specs.Rows.{entryOf, lengthOf}
 use Rattle.slow_record.proofs.Laws.{length-here, length-later, length-none}
 use borrow.Author.Needs.{needs}
 use Rattle.slow_record.proofs.fixed_length.Statement.{statement}
 use Rattle.slow_record.proofs.fixed_length.Tie as tie
 
 abbrev Inv-loop : tie.InvT-loop
-Inv-loop kind lines i₀ i = (i ≤ length lines) × (lengthOf kind (drop i lines) ≡ lengthOf kind lines)
+Inv-loop kind lines i₀ i = (i ≤ length lines) × (lengthOf kind (map entryOf (drop i lines)) ≡ lengthOf kind (map entryOf lines))
 
 abbrev μ-loop : tie.MeasureT-loop
 μ-loop kind lines i₀ i = length lines - i

@@ -1,5 +1,6 @@
 use mathlib.Core.Path.{_≡_, refl, sym, _∙_, ap}
 use denote.Ref.{now}
+use mathlib.Core.List.{map}
 use lib.ListN.{length, getD, take, drop, length-drop}
 use borrow.Author.Tests.{lt-leb, le-leb, not-true, not-false}
 use Rattle.text.specs.Characters.{isNumeric}
