@@ -1,42 +1,71 @@
 -- One turn of each loop over the lines of the table, on plain values. Assumes nothing.
-use mathlib.Core.Path.{_≡_, refl, ap, sym, _∙_}
+use mathlib.Core.Path.{_≡_, refl, sym, _∙_}
 use mathlib.Core.Bool.{Bool, true, false, cond, _&&_, not}
-use mathlib.Core.List.{List, map}
+use mathlib.Core.List.{List, _∷_, map}
 use Prim.Native.Nat.{ℕ, _+_, _≤_, _<_}
 use native.Mathlib.Nat.{zero-add}
 use lib.ListN.{length, getD, take, drop, drop-of-length-le}
 use Rattle.text.specs.declared.character_set.CharacterSet.{CharacterSet}
 use Rattle.text.specs.DataTypes.{ofType}
 use Rattle.text.proofs.Laws.{rest}
-use Rattle.slow_record.specs.Rows.{Entry, entryOf, isField, isPart, isRecord, fieldHolds, statedIn, lengthOf, wrongField, stated, wrongPart}
+use Rattle.slow_record.specs.Rows.{Entry, entryOf, isField, isPart, isRecord, fieldHolds, statedIn, fieldsOf, partsOf, lengthOf, wrongField, stated, wrongPart}
 
--- a line that is passed over, or whose field is right, or whose field is wrong
-wrong-turn : (own right : Bool) (n later : ℕ) → cond own (cond right later n) later ≡ cond (own && not right) n later
-wrong-turn true true n later = refl
-wrong-turn true false n later = refl
-wrong-turn false right n later = refl
+-- an entry that is passed over, that is right, or that is wrong
+module _ (set : CharacterSet) (e : Entry) (es : List Entry) (body : List ℕ) where
+  wrong-stop : (own : Bool) → own && not (fieldHolds set e body) ≡ true → wrongField set (cond own (e ∷ es) es) body ≡ e .number
+  unfolding wrongField
+  wrong-stop true t = found (fieldHolds set e body) t
+    where
+      found : (right : Bool) → not right ≡ true → cond right (wrongField set es body) (e .number) ≡ e .number
+      found true t = cc
+      found false t = refl
+  wrong-stop false t = cc
 
-sum-turn : (own : Bool) (n later : ℕ) → cond own (n + later) later ≡ cond own n 0 + later
-sum-turn true n later = refl
-sum-turn false n later = sym (zero-add later)
+  wrong-pass : (own : Bool) → own && not (fieldHolds set e body) ≡ false → wrongField set (cond own (e ∷ es) es) body ≡ wrongField set es body
+  unfolding wrongField
+  wrong-pass true t = right (fieldHolds set e body) t
+    where
+      right : (right : Bool) → not right ≡ false → cond right (wrongField set es body) (e .number) ≡ wrongField set es body
+      right true t = refl
+      right false t = cc
+  wrong-pass false t = refl
 
-part-turn : (own right : Bool) (n size : ℕ) (later : List ℕ → ℕ) (rest : List ℕ) → own && not right ≡ false
-    → cond own (cond right (later (drop size rest)) n) (later rest) ≡ later (drop (cond own size 0) rest)
-part-turn true true n size later rest e = refl
-part-turn true false n size later rest e = cc
-part-turn false right n size later rest e = refl
+  stated-pass : (own : Bool) → stated set (cond own (e ∷ es) es) body ≡ cond own (statedIn set e body) 0 + stated set es body
+  unfolding stated
+  stated-pass true = refl
+  stated-pass false = sym (zero-add (stated set es body))
 
-part-stop : (own right : Bool) (n there past : ℕ) → own && not right ≡ true → cond own (cond right there n) past ≡ n
-part-stop true true n there past e = cc
-part-stop true false n there past e = refl
-part-stop false right n there past e = cc
+  module _ (after : List ℕ) where
+    abbrev ofItsType : Bool
+    ofItsType = ofType set (e .dataType) (take (statedIn set e body) after)
+
+    part-stop : (own : Bool) → own && not ofItsType ≡ true → wrongPart set (cond own (e ∷ es) es) body after ≡ e .number
+    unfolding wrongPart
+    part-stop true t = found ofItsType t
+      where
+        found : (right : Bool) → not right ≡ true → cond right (wrongPart set es body (drop (statedIn set e body) after)) (e .number) ≡ e .number
+        found true t = cc
+        found false t = refl
+    part-stop false t = cc
+
+    part-pass : (own : Bool) → own && not ofItsType ≡ false
+        → wrongPart set (cond own (e ∷ es) es) body after ≡ wrongPart set es body (drop (cond own (statedIn set e body) 0) after)
+    unfolding wrongPart
+    part-pass true t = right ofItsType t
+      where
+        right : (right : Bool) → not right ≡ false
+            → cond right (wrongPart set es body (drop (statedIn set e body) after)) (e .number) ≡ wrongPart set es body (drop (statedIn set e body) after)
+        right true t = refl
+        right false t = cc
+    part-pass false t = refl
 
 module _ (kind : ℕ) (lines : List ℕ) (i : ℕ) where
   pub length-here : i < length lines → isRecord kind (entryOf (getD lines i 0)) ≡ true → lengthOf kind (map entryOf (drop i lines)) ≡ entryOf (getD lines i 0) .size
   unfolding lengthOf
   length-here h e = rw (rest lines i h, e)
 
-  pub length-later : i < length lines → isRecord kind (entryOf (getD lines i 0)) ≡ false → lengthOf kind (map entryOf (drop i lines)) ≡ lengthOf kind (map entryOf (drop (i + 1) lines))
+  pub length-later : i < length lines → isRecord kind (entryOf (getD lines i 0)) ≡ false
+      → lengthOf kind (map entryOf (drop i lines)) ≡ lengthOf kind (map entryOf (drop (i + 1) lines))
   unfolding lengthOf
   length-later h e = rw (rest lines i h, e)
 
@@ -48,55 +77,42 @@ module _ (set : CharacterSet) (kind : ℕ) (lines body : List ℕ) (i : ℕ) whe
   abbrev line : Entry
   line = entryOf (getD lines i 0)
 
-  wrong-line : i < length lines
-      → wrongField set kind (map entryOf (drop i lines)) body ≡ cond (isField kind line && not (fieldHolds set line body)) (line .number) (wrongField set kind (map entryOf (drop (i + 1) lines)) body)
-  unfolding wrongField
-  wrong-line h =
-      rw (rest lines i h)
-      (wrong-turn (isField kind line) (fieldHolds set line body) (line .number) (wrongField set kind (map entryOf (drop (i + 1) lines)) body))
+  abbrev left : List Entry
+  left = map entryOf (drop i lines)
 
-  pub wrong-here : i < length lines → isField kind line && not (fieldHolds set line body) ≡ true → wrongField set kind (map entryOf (drop i lines)) body ≡ line .number
-  wrong-here h e = wrong-line h ∙ rw e
+  abbrev later : List Entry
+  later = map entryOf (drop (i + 1) lines)
+
+  pub wrong-here : i < length lines → isField kind line && not (fieldHolds set line body) ≡ true → wrongField set (fieldsOf kind left) body ≡ line .number
+  wrong-here h t = rw (rest lines i h) (wrong-stop set line (fieldsOf kind later) body (isField kind line) t)
 
   pub wrong-later : i < length lines → isField kind line && not (fieldHolds set line body) ≡ false
-      → wrongField set kind (map entryOf (drop i lines)) body ≡ wrongField set kind (map entryOf (drop (i + 1) lines)) body
-  wrong-later h e = wrong-line h ∙ rw e
+      → wrongField set (fieldsOf kind left) body ≡ wrongField set (fieldsOf kind later) body
+  wrong-later h t = rw (rest lines i h) (wrong-pass set line (fieldsOf kind later) body (isField kind line) t)
 
-  pub wrong-none : length lines ≤ i → wrongField set kind (map entryOf (drop i lines)) body ≡ 0
+  pub wrong-none : length lines ≤ i → wrongField set (fieldsOf kind left) body ≡ 0
   unfolding wrongField
   wrong-none h = rw (drop-of-length-le lines h)
 
   pub stated-line : i < length lines
-      → stated set kind (map entryOf (drop i lines)) body ≡ cond (isPart kind line) (statedIn set line body) 0 + stated set kind (map entryOf (drop (i + 1) lines)) body
-  unfolding stated
-  stated-line h = rw (rest lines i h) (sum-turn (isPart kind line) (statedIn set line body) (stated set kind (map entryOf (drop (i + 1) lines)) body))
+      → stated set (partsOf kind left) body ≡ cond (isPart kind line) (statedIn set line body) 0 + stated set (partsOf kind later) body
+  stated-line h = rw (rest lines i h) (stated-pass set line (partsOf kind later) body (isPart kind line))
 
-  pub stated-none : length lines ≤ i → stated set kind (map entryOf (drop i lines)) body ≡ 0
+  pub stated-none : length lines ≤ i → stated set (partsOf kind left) body ≡ 0
   unfolding stated
   stated-none h = rw (drop-of-length-le lines h)
 
-  -- of a field behind the fixed part, by the size that was taken for it
   module _ (after : List ℕ) where
     pub part-here : i < length lines → isPart kind line && not (ofType set (line .dataType) (take (statedIn set line body) after)) ≡ true
-        → wrongPart set kind (map entryOf (drop i lines)) body after ≡ line .number
-    unfolding wrongPart
-    part-here h e =
-        rw (rest lines i h)
-        (part-stop (isPart kind line) (ofType set (line .dataType) (take (statedIn set line body) after)) (line .number)
-        (wrongPart set kind (map entryOf (drop (i + 1) lines)) body (drop (statedIn set line body) after))
-        (wrongPart set kind (map entryOf (drop (i + 1) lines)) body after)
-        e)
+        → wrongPart set (partsOf kind left) body after ≡ line .number
+    part-here h t = rw (rest lines i h) (part-stop set line (partsOf kind later) body after (isPart kind line) t)
 
     pub part-later : i < length lines → isPart kind line && not (ofType set (line .dataType) (take (statedIn set line body) after)) ≡ false
-        → wrongPart set kind (map entryOf (drop i lines)) body after
-        ≡ wrongPart set kind (map entryOf (drop (i + 1) lines)) body (drop (cond (isPart kind line) (statedIn set line body) 0) after)
-    unfolding wrongPart
-    part-later h e =
-        rw (rest lines i h)
-        (part-turn (isPart kind line) (ofType set (line .dataType) (take (statedIn set line body) after)) (line .number) (statedIn set line body)
-        (wrongPart set kind (map entryOf (drop (i + 1) lines)) body) after e)
+        → wrongPart set (partsOf kind left) body after
+        ≡ wrongPart set (partsOf kind later) body (drop (cond (isPart kind line) (statedIn set line body) 0) after)
+    part-later h t = rw (rest lines i h) (part-pass set line (partsOf kind later) body after (isPart kind line) t)
 
-    pub part-none : length lines ≤ i → wrongPart set kind (map entryOf (drop i lines)) body after ≡ 0
+    pub part-none : length lines ≤ i → wrongPart set (partsOf kind left) body after ≡ 0
     unfolding wrongPart
     part-none h = rw (drop-of-length-le lines h)
 

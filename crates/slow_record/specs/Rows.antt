@@ -92,31 +92,37 @@ fieldHolds set e body = holds set (usageOf (e .role)) (e .dataType) (e .rule) (c
 abbrev pub statedIn : CharacterSet → Entry → List ℕ → ℕ
 statedIn set e body = number set (charactersAt e body)
 
+-- those of a list that pass a test
+abbrev pub keep : (Entry → Bool) → List Entry → List Entry
+keep test [] = []
+keep test (e ∷ es) = cond (test e) (e ∷ keep test es) (keep test es)
+
+abbrev pub fieldsOf : ℕ → List Entry → List Entry
+fieldsOf kind es = keep (isField kind) es
+
+abbrev pub partsOf : ℕ → List Entry → List Entry
+partsOf kind es = keep (isPart kind) es
+
 -- the length of the fixed part, 0 of a kind that is not in the table
 unfoldable pub lengthOf : ℕ → List Entry → ℕ
 lengthOf kind [] = 0
 lengthOf kind (e ∷ es) = cond (isRecord kind e) (e .size) (lengthOf kind es)
 
 -- the first field of the fixed part that does not hold, or 0
-unfoldable pub wrongField : CharacterSet → ℕ → List Entry → List ℕ → ℕ
-wrongField set kind [] body = 0
-wrongField set kind (e ∷ es) body =
-    cond (isField kind e) (cond (fieldHolds set e body) (wrongField set kind es body) (e .number)) (wrongField set kind es body)
+unfoldable pub wrongField : CharacterSet → List Entry → List ℕ → ℕ
+wrongField set [] body = 0
+wrongField set (e ∷ es) body = cond (fieldHolds set e body) (wrongField set es body) (e .number)
 
 -- what the record states for the fields behind its fixed part, together
-unfoldable pub stated : CharacterSet → ℕ → List Entry → List ℕ → ℕ
-stated set kind [] body = 0
-stated set kind (e ∷ es) body = cond (isPart kind e) (statedIn set e body + stated set kind es body) (stated set kind es body)
+unfoldable pub stated : CharacterSet → List Entry → List ℕ → ℕ
+stated set [] body = 0
+stated set (e ∷ es) body = statedIn set e body + stated set es body
 
 -- the first of these that is not of its data type, or 0
-unfoldable pub wrongPart : CharacterSet → ℕ → List Entry → List ℕ → List ℕ → ℕ
-wrongPart set kind [] body rest = 0
-wrongPart set kind (e ∷ es) body rest =
-    cond (isPart kind e)
-    (cond (ofType set (e .dataType) (take (statedIn set e body) rest))
-    (wrongPart set kind es body (drop (statedIn set e body) rest))
-    (e .number))
-    (wrongPart set kind es body rest)
+unfoldable pub wrongPart : CharacterSet → List Entry → List ℕ → List ℕ → ℕ
+wrongPart set [] body rest = 0
+wrongPart set (e ∷ es) body rest =
+    cond (ofType set (e .dataType) (take (statedIn set e body) rest)) (wrongPart set es body (drop (statedIn set e body) rest)) (e .number)
 
 -- the kinds that have any
 abbrev pub isVariable : ℕ → Bool
@@ -128,6 +134,6 @@ judgedBy set kind es body =
     unless (not (eqb (lengthOf kind es) 0)) UnknownType
     (unless (leb (lengthOf kind es) (length body)) WrongLength
     (unless (isVariable kind || leb (length body) (lengthOf kind es)) WrongLength
-    (unlessField (wrongField set kind es body)
-    (unless (eqb (length body) (lengthOf kind es + stated set kind es body)) WrongLength
-    (unlessField (wrongPart set kind es body (drop (lengthOf kind es) body)) Sound)))))
+    (unlessField (wrongField set (fieldsOf kind es) body)
+    (unless (eqb (length body) (lengthOf kind es + stated set (partsOf kind es) body)) WrongLength
+    (unlessField (wrongPart set (partsOf kind es) body (drop (lengthOf kind es) body)) Sound)))))

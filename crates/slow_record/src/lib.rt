@@ -26,7 +26,7 @@ ghost use lib.ListN.{take};
 ghost use Rattle.text.specs.DataTypes.{ofType};
 ghost use Rattle.frame.specs.Frames.{part, lengthIn, frameAt};
 ghost use Rattle.judge.specs.Alone.{typeOf, judgedAs};
-ghost use Rattle.slow_record.specs.Rows.{entryOf, isField, isPart, fieldHolds, statedIn, lengthOf, wrongField, stated, wrongPart, judgedBy};
+ghost use Rattle.slow_record.specs.Rows.{entryOf, isField, isPart, fieldHolds, statedIn, fieldsOf, partsOf, lengthOf, wrongField, stated, wrongPart, judgedBy};
 
 // The bytes from a place on, as many as the size says or as there are.
 pub fn part_of(s: &[u8], start: usize, size: usize) -> &[u8]
@@ -105,7 +105,7 @@ fn is_wrong(set: CharacterSet, kind: u64, line: u64, body: &[u8]) -> bool
 
 // The number of the first field of the fixed part that is not right, or 0.
 fn first_wrong<'a>(set: CharacterSet, kind: u64, lines: &'a [u64], body: &'a [u8]) -> usize
-    ensures { λ r. ⌜ r ≡ wrongField set kind (map entryOf (now (lines .entry))) (now (body .entry)) ⌝ }
+    ensures { λ r. ⌜ r ≡ wrongField set (fieldsOf kind (map entryOf (now (lines .entry)))) (now (body .entry)) ⌝ }
 {
     let mut i = 0;
     while i < lines.len() {
@@ -130,7 +130,7 @@ fn stated_size(set: CharacterSet, kind: u64, line: u64, body: &[u8]) -> u64
 
 // Whether the stated sizes come to just what is left behind the fixed part.
 fn sizes_fill<'a>(set: CharacterSet, kind: u64, lines: &'a [u64], body: &'a [u8], left: u64) -> bool
-    ensures { λ r. ⌜ r ≡ eqb left (stated set kind (map entryOf (now (lines .entry))) (now (body .entry))) ⌝ }
+    ensures { λ r. ⌜ r ≡ eqb left (stated set (partsOf kind (map entryOf (now (lines .entry)))) (now (body .entry))) ⌝ }
 {
     let mut rest = left;
     let mut i = 0;
@@ -163,7 +163,7 @@ fn first_wrong_part<'a>(
     body: &'a [u8],
     parts: &'a [u8],
 ) -> usize
-    ensures { λ r. ⌜ r ≡ wrongPart set kind (map entryOf (now (lines .entry))) (now (body .entry)) (now (parts .entry)) ⌝ }
+    ensures { λ r. ⌜ r ≡ wrongPart set (partsOf kind (map entryOf (now (lines .entry)))) (now (body .entry)) (now (parts .entry)) ⌝ }
 {
     let mut rest = parts;
     let mut i = 0;

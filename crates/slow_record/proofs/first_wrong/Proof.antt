@@ -3,14 +3,14 @@ use mathlib.Core.Path.{_≡_, refl, sym, _∙_, ap}
 use mathlib.Core.List.{map}
 use lib.ListN.{length, getD, take, drop, length-drop}
 use denote.Ref.{now}
-use Rattle.slow_record.specs.Rows.{entryOf, wrongField}
+use Rattle.slow_record.specs.Rows.{entryOf, fieldsOf, wrongField}
 use Rattle.slow_record.proofs.Laws.{wrong-here, wrong-later, wrong-none}
 use borrow.Author.Needs.{needs}
 use Rattle.slow_record.proofs.first_wrong.Statement.{statement}
 use Rattle.slow_record.proofs.first_wrong.Tie as tie
 
 abbrev Inv-loop : tie.InvT-loop
-Inv-loop set kind lines body i₀ i = (i ≤ length lines) × (wrongField set kind (map entryOf (drop i lines)) body ≡ wrongField set kind (map entryOf lines) body)
+Inv-loop set kind lines body i₀ i = (i ≤ length lines) × (wrongField set (fieldsOf kind (map entryOf (drop i lines))) body ≡ wrongField set (fieldsOf kind (map entryOf lines)) body)
 
 abbrev μ-loop : tie.MeasureT-loop
 μ-loop set kind lines body i₀ i = length lines - i

@@ -4,14 +4,14 @@ use mathlib.Core.List.{map}
 use lib.ListN.{length, getD, take, drop, length-drop}
 use denote.Ref.{now}
 use Rattle.text.specs.DataTypes.{ofType}
-use Rattle.slow_record.specs.Rows.{entryOf, isPart, statedIn, wrongPart}
+use Rattle.slow_record.specs.Rows.{entryOf, partsOf, isPart, statedIn, wrongPart}
 use Rattle.slow_record.proofs.Laws.{part-here, part-later, part-none, part-told}
 use borrow.Author.Needs.{needs}
 use Rattle.slow_record.proofs.first_wrong_part.Statement.{statement}
 use Rattle.slow_record.proofs.first_wrong_part.Tie as tie
 
 abbrev Inv-loop : tie.InvT-loop
-Inv-loop set kind lines body parts rest₀ i₀ rest i = (i ≤ length lines) × (wrongPart set kind (map entryOf (drop i lines)) body rest ≡ wrongPart set kind (map entryOf lines) body parts)
+Inv-loop set kind lines body parts rest₀ i₀ rest i = (i ≤ length lines) × (wrongPart set (partsOf kind (map entryOf (drop i lines))) body rest ≡ wrongPart set (partsOf kind (map entryOf lines)) body parts)
 
 abbrev μ-loop : tie.MeasureT-loop
 μ-loop set kind lines body parts rest₀ i₀ rest i = length lines - i

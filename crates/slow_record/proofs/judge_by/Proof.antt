@@ -6,7 +6,7 @@ use mathlib.Core.Bool.{Bool, _||_}
 use lib.Dec.{leb}
 use borrow.Author.Tests.{eq-eqb, ne-eqb, not-true, not-false, lt-leb, le-leb}
 use Rattle.judge.proofs.Laws.{eqb-sub}
-use Rattle.slow_record.specs.Rows.{entryOf, stated, wrongPart, judgedBy}
+use Rattle.slow_record.specs.Rows.{entryOf, partsOf, stated, wrongPart, judgedBy}
 use borrow.Author.Needs.{needs}
 use Rattle.slow_record.proofs.judge_by.Statement.{statement}
 use Rattle.slow_record.proofs.judge_by.Tie as tie
@@ -44,7 +44,7 @@ sizes-fill-requires c κs = search needs
 
 returns-5 : tie.Need-returns-5
 unfolding judgedBy
-returns-5 c = simp (sym (c .before .before .before .before .before .before .before .before .fixed-length .ensures), ne-eqb _ _ (c .before .before .before .before .before .before .before .if1 .left), le-leb _ _ (c .before .before .before .before .before .before .if2 .left), ap (λ (b : Bool). b || leb (length (now (c .before .before .before .before .before .before .before .before .before .before .before .args .body))) (c .before .before .before .before .before .before .before .before .fixed-length .result)) (sym (c .before .before .before .before .before .is-variable .ensures)) ∙ not-false _ (c .before .before .before .before .if3 .left), sym (c .before .before .before .first-wrong .ensures), eq-eqb _ _ (c .before .before .if4 .left), eqb-sub (length (now (c .before .before .before .before .before .before .before .before .before .before .before .args .body))) (c .before .before .before .before .before .before .before .before .fixed-length .result) (stated (c .before .before .before .before .before .before .before .before .before .before .before .args .set) (c .before .before .before .before .before .before .before .before .before .before .before .args .kind) (map entryOf (now (c .before .before .before .before .before .before .before .before .before .before .before .args .lines))) (now (c .before .before .before .before .before .before .before .before .before .before .before .args .body))) (c .before .before .before .before .before .before .if2 .left) ∙ sym (c .before .sizes-fill .ensures) ∙ not-true _ (c .if5 .taken))
+returns-5 c = simp (sym (c .before .before .before .before .before .before .before .before .fixed-length .ensures), ne-eqb _ _ (c .before .before .before .before .before .before .before .if1 .left), le-leb _ _ (c .before .before .before .before .before .before .if2 .left), ap (λ (b : Bool). b || leb (length (now (c .before .before .before .before .before .before .before .before .before .before .before .args .body))) (c .before .before .before .before .before .before .before .before .fixed-length .result)) (sym (c .before .before .before .before .before .is-variable .ensures)) ∙ not-false _ (c .before .before .before .before .if3 .left), sym (c .before .before .before .first-wrong .ensures), eq-eqb _ _ (c .before .before .if4 .left), eqb-sub (length (now (c .before .before .before .before .before .before .before .before .before .before .before .args .body))) (c .before .before .before .before .before .before .before .before .fixed-length .result) (stated (c .before .before .before .before .before .before .before .before .before .before .before .args .set) (partsOf (c .before .before .before .before .before .before .before .before .before .before .before .args .kind) (map entryOf (now (c .before .before .before .before .before .before .before .before .before .before .before .args .lines)))) (now (c .before .before .before .before .before .before .before .before .before .before .before .args .body))) (c .before .before .before .before .before .before .if2 .left) ∙ sym (c .before .sizes-fill .ensures) ∙ not-true _ (c .if5 .taken))
 
 behind-requires : tie.Need-behind-requires
 behind-requires c κs = search needs
@@ -54,11 +54,11 @@ first-wrong-part-requires c κs = search needs
 
 returns-6 : tie.Need-returns-6
 unfolding judgedBy
-returns-6 c = simp (sym (c .before .before .before .before .before .before .before .before .before .before .before .fixed-length .ensures), ne-eqb _ _ (c .before .before .before .before .before .before .before .before .before .before .if1 .left), le-leb _ _ (c .before .before .before .before .before .before .before .before .before .if2 .left), ap (λ (b : Bool). b || leb (length (now (c .before .before .before .before .before .before .before .before .before .before .before .before .before .before .args .body))) (c .before .before .before .before .before .before .before .before .before .before .before .fixed-length .result)) (sym (c .before .before .before .before .before .before .before .before .is-variable .ensures)) ∙ not-false _ (c .before .before .before .before .before .before .before .if3 .left), sym (c .before .before .before .before .before .before .first-wrong .ensures), eq-eqb _ _ (c .before .before .before .before .before .if4 .left), eqb-sub (length (now (c .before .before .before .before .before .before .before .before .before .before .before .before .before .before .args .body))) (c .before .before .before .before .before .before .before .before .before .before .before .fixed-length .result) (stated (c .before .before .before .before .before .before .before .before .before .before .before .before .before .before .args .set) (c .before .before .before .before .before .before .before .before .before .before .before .before .before .before .args .kind) (map entryOf (now (c .before .before .before .before .before .before .before .before .before .before .before .before .before .before .args .lines))) (now (c .before .before .before .before .before .before .before .before .before .before .before .before .before .before .args .body))) (c .before .before .before .before .before .before .before .before .before .if2 .left) ∙ sym (c .before .before .before .before .sizes-fill .ensures) ∙ not-false _ (c .before .before .before .if5 .left), sym (c .before .first-wrong-part .ensures ∙ ap (wrongPart (c .before .before .before .before .before .before .before .before .before .before .before .before .before .before .args .set) (c .before .before .before .before .before .before .before .before .before .before .before .before .before .before .args .kind) (map entryOf (now (c .before .before .before .before .before .before .before .before .before .before .before .before .before .before .args .lines))) (now (c .before .before .before .before .before .before .before .before .before .before .before .before .before .before .args .body))) (c .before .before .behind .ensures)), ne-eqb _ _ (c .if6 .taken))
+returns-6 c = simp (sym (c .before .before .before .before .before .before .before .before .before .before .before .fixed-length .ensures), ne-eqb _ _ (c .before .before .before .before .before .before .before .before .before .before .if1 .left), le-leb _ _ (c .before .before .before .before .before .before .before .before .before .if2 .left), ap (λ (b : Bool). b || leb (length (now (c .before .before .before .before .before .before .before .before .before .before .before .before .before .before .args .body))) (c .before .before .before .before .before .before .before .before .before .before .before .fixed-length .result)) (sym (c .before .before .before .before .before .before .before .before .is-variable .ensures)) ∙ not-false _ (c .before .before .before .before .before .before .before .if3 .left), sym (c .before .before .before .before .before .before .first-wrong .ensures), eq-eqb _ _ (c .before .before .before .before .before .if4 .left), eqb-sub (length (now (c .before .before .before .before .before .before .before .before .before .before .before .before .before .before .args .body))) (c .before .before .before .before .before .before .before .before .before .before .before .fixed-length .result) (stated (c .before .before .before .before .before .before .before .before .before .before .before .before .before .before .args .set) (partsOf (c .before .before .before .before .before .before .before .before .before .before .before .before .before .before .args .kind) (map entryOf (now (c .before .before .before .before .before .before .before .before .before .before .before .before .before .before .args .lines)))) (now (c .before .before .before .before .before .before .before .before .before .before .before .before .before .before .args .body))) (c .before .before .before .before .before .before .before .before .before .if2 .left) ∙ sym (c .before .before .before .before .sizes-fill .ensures) ∙ not-false _ (c .before .before .before .if5 .left), sym (c .before .first-wrong-part .ensures ∙ ap (wrongPart (c .before .before .before .before .before .before .before .before .before .before .before .before .before .before .args .set) (partsOf (c .before .before .before .before .before .before .before .before .before .before .before .before .before .before .args .kind) (map entryOf (now (c .before .before .before .before .before .before .before .before .before .before .before .before .before .before .args .lines)))) (now (c .before .before .before .before .before .before .before .before .before .before .before .before .before .before .args .body))) (c .before .before .behind .ensures)), ne-eqb _ _ (c .if6 .taken))
 
 returns-7 : tie.Need-returns-7
 unfolding judgedBy
-returns-7 c = simp (sym (c .before .before .before .before .before .before .before .before .before .before .before .fixed-length .ensures), ne-eqb _ _ (c .before .before .before .before .before .before .before .before .before .before .if1 .left), le-leb _ _ (c .before .before .before .before .before .before .before .before .before .if2 .left), ap (λ (b : Bool). b || leb (length (now (c .before .before .before .before .before .before .before .before .before .before .before .before .before .before .args .body))) (c .before .before .before .before .before .before .before .before .before .before .before .fixed-length .result)) (sym (c .before .before .before .before .before .before .before .before .is-variable .ensures)) ∙ not-false _ (c .before .before .before .before .before .before .before .if3 .left), sym (c .before .before .before .before .before .before .first-wrong .ensures), eq-eqb _ _ (c .before .before .before .before .before .if4 .left), eqb-sub (length (now (c .before .before .before .before .before .before .before .before .before .before .before .before .before .before .args .body))) (c .before .before .before .before .before .before .before .before .before .before .before .fixed-length .result) (stated (c .before .before .before .before .before .before .before .before .before .before .before .before .before .before .args .set) (c .before .before .before .before .before .before .before .before .before .before .before .before .before .before .args .kind) (map entryOf (now (c .before .before .before .before .before .before .before .before .before .before .before .before .before .before .args .lines))) (now (c .before .before .before .before .before .before .before .before .before .before .before .before .before .before .args .body))) (c .before .before .before .before .before .before .before .before .before .if2 .left) ∙ sym (c .before .before .before .before .sizes-fill .ensures) ∙ not-false _ (c .before .before .before .if5 .left), sym (c .before .first-wrong-part .ensures ∙ ap (wrongPart (c .before .before .before .before .before .before .before .before .before .before .before .before .before .before .args .set) (c .before .before .before .before .before .before .before .before .before .before .before .before .before .before .args .kind) (map entryOf (now (c .before .before .before .before .before .before .before .before .before .before .before .before .before .before .args .lines))) (now (c .before .before .before .before .before .before .before .before .before .before .before .before .before .before .args .body))) (c .before .before .behind .ensures)), eq-eqb _ _ (c .if6 .left))
+returns-7 c = simp (sym (c .before .before .before .before .before .before .before .before .before .before .before .fixed-length .ensures), ne-eqb _ _ (c .before .before .before .before .before .before .before .before .before .before .if1 .left), le-leb _ _ (c .before .before .before .before .before .before .before .before .before .if2 .left), ap (λ (b : Bool). b || leb (length (now (c .before .before .before .before .before .before .before .before .before .before .before .before .before .before .args .body))) (c .before .before .before .before .before .before .before .before .before .before .before .fixed-length .result)) (sym (c .before .before .before .before .before .before .before .before .is-variable .ensures)) ∙ not-false _ (c .before .before .before .before .before .before .before .if3 .left), sym (c .before .before .before .before .before .before .first-wrong .ensures), eq-eqb _ _ (c .before .before .before .before .before .if4 .left), eqb-sub (length (now (c .before .before .before .before .before .before .before .before .before .before .before .before .before .before .args .body))) (c .before .before .before .before .before .before .before .before .before .before .before .fixed-length .result) (stated (c .before .before .before .before .before .before .before .before .before .before .before .before .before .before .args .set) (partsOf (c .before .before .before .before .before .before .before .before .before .before .before .before .before .before .args .kind) (map entryOf (now (c .before .before .before .before .before .before .before .before .before .before .before .before .before .before .args .lines)))) (now (c .before .before .before .before .before .before .before .before .before .before .before .before .before .before .args .body))) (c .before .before .before .before .before .before .before .before .before .if2 .left) ∙ sym (c .before .before .before .before .sizes-fill .ensures) ∙ not-false _ (c .before .before .before .if5 .left), sym (c .before .first-wrong-part .ensures ∙ ap (wrongPart (c .before .before .before .before .before .before .before .before .before .before .before .before .before .before .args .set) (partsOf (c .before .before .before .before .before .before .before .before .before .before .before .before .before .before .args .kind) (map entryOf (now (c .before .before .before .before .before .before .before .before .before .before .before .before .before .before .args .lines)))) (now (c .before .before .before .before .before .before .before .before .before .before .before .before .before .before .args .body))) (c .before .before .behind .ensures)), eq-eqb _ _ (c .if6 .left))
 
 pub judge-by-spec : {M : Type 1} → statement M
 judge-by-spec =
