@@ -5,16 +5,15 @@ use text::CharacterSet;
 use text::DataType;
 ghost use mathlib.Core.Path.{_≡_};
 ghost use Prim.Native.Nat.{_≤_};
-ghost use lib.ListN.{getD};
+ghost use lib.ListN.{take, drop};
 ghost use Rattle.text.specs.Characters.{isBlank, isDash};
 ghost use Rattle.text.specs.Number.{number};
-ghost use Rattle.frame.specs.Frames.{part};
 ghost use Rattle.field.specs.Formats.{isDate, isHoursMinutes, isHoursMinutesSeconds};
 ghost use Rattle.field.specs.RoutingForms.{place, weightedSum, isTTTTAAAAC, partedBy, isNNNNNNNNN, fitsSome};
 
 // The number in a part of a field.
 fn number_at(set: CharacterSet, s: &[u8], start: usize, size: usize) -> u64
-    ensures { λ r. ⌜ r ≡ number set (part start size (now (s .entry))) ⌝ }
+    ensures { λ r. ⌜ r ≡ number set (take size (drop start (now (s .entry)))) ⌝ }
 {
     slow_text::number_in(set, slow_text::part_of(s, start, size))
 }

@@ -14,7 +14,6 @@ use Rattle.layout.specs.Layouts.{layouts}
 use Rattle.layout.specs.Packing.{usageOf}
 use Rattle.judge.specs.Alone.{alone, amongLayouts, judgedAs, lineHolds, firstWrong, statedSize, statedSizes, firstWrongPart, judged}
 use Rattle.judge.specs.Alone as alone
-use Rattle.judge.specs.declared.Judged.{Judged}
 use Rattle.judge.specs.declared.Judged.the-variants.{UnknownType}
 use Rattle.slow_record.specs.Rows.{Entry, roleOf, ofLine, ofPart, entriesOf, fieldHolds, fieldsOf, partsOf, lengthOf, wrongField, stated, wrongPart, isVariable, judgedBy}
 
@@ -43,56 +42,83 @@ module _ (set : CharacterSet) (kind : ℕ) (body : List ℕ) where
   parts-alike [] rest = refl
   parts-alike (s ∷ ss) rest = rw (parts-alike ss (drop (statedSize set s body) rest))
 
--- entries have of a kind what its layout has
-pub record Same (es : List Entry) (k : Layout) : Type 0 where
-  pub long : lengthOf (k .typeNumber) es ≡ k .fixedLength
-  pub known : eqb (k .fixedLength) 0 ≡ false
-  pub variable : isVariable (k .typeNumber) ≡ alone.isVariable (sizedParts k)
-  pub lines : fieldsOf (k .typeNumber) es ≡ map (ofLine (k .typeNumber)) (k .lines)
-  pub parts : partsOf (k .typeNumber) es ≡ map (ofPart (k .typeNumber)) (sizedParts k)
+-- what entries have of a kind, and what its layout has
+record Had : Type 0 where
+  long : ℕ
+  unknown : Bool
+  variable : Bool
+  lines : List Entry
+  parts : List Entry
 
-same-judged : (set : CharacterSet) (es : List Entry) (k : Layout) (body : List ℕ) → Same es k → judgedBy set (k .typeNumber) es body ≡ alone set k body
+abbrev had : List Entry → ℕ → Had
+had es kind =
+    record {
+      long = lengthOf kind es;
+      unknown = eqb (lengthOf kind es) 0;
+      variable = isVariable kind;
+      lines = fieldsOf kind es;
+      parts = partsOf kind es;
+    }
+
+abbrev hadBy : Layout → Had
+hadBy k =
+    record {
+      long = k .fixedLength;
+      unknown = false;
+      variable = alone.isVariable (sizedParts k);
+      lines = map (ofLine (k .typeNumber)) (k .lines);
+      parts = map (ofPart (k .typeNumber)) (sizedParts k);
+    }
+
+same-judged : (set : CharacterSet) (es : List Entry) (k : Layout) (body : List ℕ) → had es (k .typeNumber) ≡ hadBy k
+    → judgedBy set (k .typeNumber) es body ≡ alone set k body
 unfolding judgedBy judged
-same-judged set es k body s =
+same-judged set es k body same =
     rw (
-      s .long,
-      s .known,
-      s .variable,
-      s .lines,
-      s .parts,
+      ap (λ (h : Had). h .unknown) same,
+      ap (λ (h : Had). h .long) same,
+      ap (λ (h : Had). h .variable) same,
+      ap (λ (h : Had). h .lines) same,
+      ap (λ (h : Had). h .parts) same,
       lines-alike set (k .typeNumber) body (k .lines),
       sizes-alike set (k .typeNumber) body (sizedParts k),
       parts-alike set (k .typeNumber) body (sizedParts k) (drop (k .fixedLength) body),
     )
 
--- of each kind; and the length that the layouts have for a kind, 0 for any other
+-- the same of every kind
 abbrev all : List Entry → List Layout → Type 0
-all es [] = Unit {0}
-all es (k ∷ ks) = Same es k × all es ks
+all es ls = map (λ (k : Layout). had es (k .typeNumber)) ls ≡ map hadBy ls
 
+first-of : {x y : Had} {xs ys : List Had} → x ∷ xs ≡ y ∷ ys → x ≡ y
+first-of e = cc
+
+others-of : {x y : Had} {xs ys : List Had} → x ∷ xs ≡ y ∷ ys → xs ≡ ys
+others-of e = cc
+
+-- the length that the layouts have for a kind, 0 for any other
 abbrev lengthAmong : ℕ → List Layout → ℕ
 lengthAmong kind [] = 0
 lengthAmong kind (k ∷ ks) = cond (eqb kind (k .typeNumber)) (k .fixedLength) (lengthAmong kind ks)
 
 module _ (set : CharacterSet) (kind : ℕ) (es : List Entry) (body : List ℕ) where
-  unknown : lengthOf kind es ≡ 0 → judgedBy set kind es body ≡ UnknownType
+  not-carried : lengthOf kind es ≡ 0 → judgedBy set kind es body ≡ UnknownType
   unfolding judgedBy
-  unknown z = rw z
+  not-carried z = rw z
 
   among : (ls : List Layout) → all es ls → (lengthAmong kind ls ≡ 0 → lengthOf kind es ≡ 0) → judgedBy set kind es body ≡ amongLayouts set ls kind body
-  among [] right none = unknown (none refl)
-  among (k ∷ ks) right none = on (eqb kind (k .typeNumber)) refl none (among ks (right .1))
+  among [] right none = not-carried (none refl)
+  among (k ∷ ks) right none = on (eqb kind (k .typeNumber)) refl none (among ks (others-of right))
     where
       on : (here : Bool) → eqb kind (k .typeNumber) ≡ here → (cond here (k .fixedLength) (lengthAmong kind ks) ≡ 0 → lengthOf kind es ≡ 0)
           → ((lengthAmong kind ks ≡ 0 → lengthOf kind es ≡ 0) → judgedBy set kind es body ≡ amongLayouts set ks kind body)
           → judgedBy set kind es body ≡ cond here (alone set k body) (amongLayouts set ks kind body)
-      on true q none later = ap (λ (n : ℕ). judgedBy set n es body) (eqb-true kind (k .typeNumber) q) ∙ same-judged set es k body (right .0)
+      on true q none later = ap (λ (n : ℕ). judgedBy set n es body) (eqb-true kind (k .typeNumber) q) ∙ same-judged set es k body (first-of right)
       on false q none later = later none
 
--- computed, kind by kind
+-- computed
 all-same : all (entriesOf layouts) layouts
 unfolding lengthOf
-all-same = (record { long = refl; known = refl; variable = refl; lines = refl; parts = refl }, (record { long = refl; known = refl; variable = refl; lines = refl; parts = refl }, (record { long = refl; known = refl; variable = refl; lines = refl; parts = refl }, (record { long = refl; known = refl; variable = refl; lines = refl; parts = refl }, (record { long = refl; known = refl; variable = refl; lines = refl; parts = refl }, (record { long = refl; known = refl; variable = refl; lines = refl; parts = refl }, (record { long = refl; known = refl; variable = refl; lines = refl; parts = refl }, (record { long = refl; known = refl; variable = refl; lines = refl; parts = refl }, (record { long = refl; known = refl; variable = refl; lines = refl; parts = refl }, (record { long = refl; known = refl; variable = refl; lines = refl; parts = refl }, (record { long = refl; known = refl; variable = refl; lines = refl; parts = refl }, (record { long = refl; known = refl; variable = refl; lines = refl; parts = refl }, (record { long = refl; known = refl; variable = refl; lines = refl; parts = refl }, (record { long = refl; known = refl; variable = refl; lines = refl; parts = refl }, (record { long = refl; known = refl; variable = refl; lines = refl; parts = refl }, (record { long = refl; known = refl; variable = refl; lines = refl; parts = refl }, (record { long = refl; known = refl; variable = refl; lines = refl; parts = refl }, (record { long = refl; known = refl; variable = refl; lines = refl; parts = refl }, (record { long = refl; known = refl; variable = refl; lines = refl; parts = refl }, tt)))))))))))))))))))
+all-same = refl
 
 lengths : (kind : ℕ) → lengthOf kind (entriesOf layouts) ≡ lengthAmong kind layouts
 unfolding lengthOf

@@ -1,14 +1,14 @@
 // Clause 5.3 for the slow reader: the field data types, by Table 2.
-use crate::characters::is_alphabetic;
-use crate::characters::is_amount_symbol;
-use crate::characters::is_blank;
-use crate::characters::is_cannot_read;
-use crate::characters::is_dash;
-use crate::characters::is_numeric;
-use crate::characters::is_on_us_symbol;
-use crate::characters::is_questionable;
-use crate::characters::is_special;
-use crate::characters::is_transit_symbol;
+use crate::basic_types::is_alphabetic;
+use crate::basic_types::is_amount_symbol;
+use crate::basic_types::is_blank;
+use crate::basic_types::is_cannot_read;
+use crate::basic_types::is_dash;
+use crate::basic_types::is_numeric;
+use crate::basic_types::is_on_us_symbol;
+use crate::basic_types::is_questionable;
+use crate::basic_types::is_special;
+use crate::basic_types::is_transit_symbol;
 use crate::numbers::behind;
 use text::CharacterSet;
 use text::DataType;

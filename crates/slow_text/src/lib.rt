@@ -1,11 +1,11 @@
 // Clause 5 for the slow reader (request 12). It calls nothing of `text` and shares its types and definitions.
-mod characters;
+mod basic_types;
 mod data_types;
 mod numbers;
 
-pub use characters::is_blank;
-pub use characters::is_dash;
-pub use characters::set_of;
+pub use basic_types::is_blank;
+pub use basic_types::is_dash;
+pub use basic_types::set_of;
 pub use data_types::all_blank;
 pub use data_types::all_digits;
 pub use data_types::digits_and_blanks;

@@ -3,8 +3,7 @@ use text::CharacterSet;
 ghost use mathlib.Core.Path.{_≡_};
 ghost use mathlib.Core.Bool.{cond};
 ghost use Prim.Native.Nat.{_+_, _-_, _≤_};
-ghost use lib.ListN.{length, getD, drop};
-ghost use Rattle.frame.specs.Frames.{part};
+ghost use lib.ListN.{length, getD, take, drop};
 ghost use Rattle.text.specs.Ranges.{within};
 ghost use Rattle.text.specs.Capitals.{capital};
 ghost use Rattle.text.specs.Number.{digit, valueAfter, number};
@@ -21,7 +20,7 @@ pub fn behind(s: &[u8], place: usize) -> &[u8]
 
 // The bytes from a place on, as many as the size says or as there are.
 pub fn part_of(s: &[u8], start: usize, size: usize) -> &[u8]
-    ensures { λ r. ⌜ now r ≡ part start size (now (s .entry)) ⌝ }
+    ensures { λ r. ⌜ now r ≡ take size (drop start (now (s .entry))) ⌝ }
 {
     let rest = behind(s, start);
     if rest.len() < size {

@@ -1,4 +1,4 @@
-use Rattle.field.specs.Rules.{follows, meets, holds}
+use Rattle.field.specs.Rules.{follows}
 use borrow.Author.Needs.{needs}
 use Rattle.slow_field.proofs.follows_rule.Statement.{statement}
 use Rattle.slow_field.proofs.follows_rule.Tie as tie

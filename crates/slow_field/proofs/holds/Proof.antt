@@ -1,4 +1,4 @@
-use Rattle.field.specs.Rules.{follows, meets, holds}
+use Rattle.field.specs.Rules.{holds}
 use borrow.Author.Needs.{needs}
 use Rattle.slow_field.proofs.holds.Statement.{statement}
 use Rattle.slow_field.proofs.holds.Tie as tie

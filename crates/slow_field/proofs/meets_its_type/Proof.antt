@@ -1,4 +1,4 @@
-use Rattle.field.specs.Rules.{follows, meets, holds}
+use Rattle.field.specs.Rules.{meets}
 use borrow.Author.Needs.{needs}
 use Rattle.slow_field.proofs.meets_its_type.Statement.{statement}
 use Rattle.slow_field.proofs.meets_its_type.Tie as tie

@@ -1,4 +1,3 @@
-use mathlib.Core.Path.{_≡_, refl, sym, _∙_, ap}
 use Rattle.slow_record.specs.Rows.{fieldHolds}
 use borrow.Author.Needs.{needs}
 use Rattle.slow_record.proofs.field_holds.Statement.{statement}

@@ -1,7 +1,7 @@
-use Prim.Native.Nat.{ℕ, _≤_, _-_, _+_, _<_}
-use mathlib.Core.Path.{_≡_, refl, sym, _∙_, ap}
+use Prim.Native.Nat.{_≤_, _-_}
+use mathlib.Core.Path.{_≡_, refl, sym, _∙_}
 use mathlib.Core.List.{map}
-use lib.ListN.{length, getD, take, drop, length-drop}
+use lib.ListN.{length, drop}
 use denote.Ref.{now}
 use Rattle.slow_record.specs.Rows.{entryOf, fieldsOf, wrongField}
 use Rattle.slow_record.proofs.Laws.{wrong-here, wrong-later, wrong-none}

@@ -1,8 +1,7 @@
-use mathlib.Core.Path.{_≡_, refl, sym, _∙_, ap}
+use mathlib.Core.Path.{_≡_, sym, _∙_, ap}
 use native.Mathlib.Omega.{arith}
-use Prim.Native.Nat.{ℕ, _≤_, _-_, _+_, _<_}
-use mathlib.Core.List.{map}
-use lib.ListN.{length, getD, take, drop, length-drop}
+use Prim.Native.Nat.{ℕ}
+use lib.ListN.{length, length-drop}
 use denote.Ref.{now}
 use Rattle.frame.specs.Frames.{lengthIn, lengthAt}
 use Rattle.frame.proofs.Laws.{cut-length, cut-body, whole}

@@ -1,4 +1,4 @@
-use mathlib.Core.Path.{_≡_, refl, sym, _∙_, ap}
+use mathlib.Core.Path.{_∙_, ap}
 use denote.Ref.{now}
 use mathlib.Core.List.{List}
 use Rattle.slow_record.specs.Rows.{Entry, judgedBy}

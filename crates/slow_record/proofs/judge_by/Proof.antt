@@ -1,7 +1,7 @@
-use mathlib.Core.Path.{_≡_, refl, sym, _∙_, ap}
+use mathlib.Core.Path.{sym, _∙_, ap}
 use denote.Ref.{now}
 use mathlib.Core.List.{map}
-use lib.ListN.{length, getD, take, drop, length-drop}
+use lib.ListN.{length}
 use mathlib.Core.Bool.{Bool, _||_}
 use lib.Dec.{leb}
 use borrow.Author.Tests.{eq-eqb, ne-eqb, not-true, not-false, lt-leb, le-leb}

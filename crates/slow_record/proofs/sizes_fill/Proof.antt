@@ -1,11 +1,11 @@
-use Prim.Native.Nat.{ℕ, _≤_, _-_, _+_, _<_}
+use Prim.Native.Nat.{_≤_, _-_, _+_}
 use mathlib.Core.Path.{_≡_, refl, sym, _∙_, ap}
 use native.Mathlib.Omega.{arith}
 use mathlib.Core.Bool.{cond}
 use lib.Dec.{eqb}
 use borrow.Author.Tests.{ne-eqb}
 use mathlib.Core.List.{map}
-use lib.ListN.{length, getD, take, drop, length-drop}
+use lib.ListN.{length, getD, drop}
 use denote.Ref.{now}
 use Rattle.judge.proofs.Laws.{eqb-sub}
 use Rattle.slow_record.specs.Rows.{entryOf, partsOf, isPart, statedIn, stated}

@@ -1,7 +1,4 @@
-use mathlib.Core.Path.{_≡_, refl, sym, _∙_, ap}
-use denote.Ref.{now}
-use mathlib.Core.List.{map}
-use lib.ListN.{length, getD, take, drop, length-drop}
+use mathlib.Core.Path.{sym, _∙_, ap}
 use borrow.Author.Tests.{lt-leb, le-leb, not-true, not-false}
 use Rattle.text.specs.Characters.{isNumeric}
 use Rattle.text.specs.DataTypes.{every}

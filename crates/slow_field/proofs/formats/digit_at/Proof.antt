@@ -1,4 +1,4 @@
-use mathlib.Core.Path.{_≡_, sym, _∙_, ap}
+use mathlib.Core.Path.{_∙_, ap}
 use Rattle.text.specs.Number.{digit}
 use borrow.Author.Needs.{needs}
 use Rattle.slow_field.proofs.formats.digit_at.Statement.{statement}

@@ -1,4 +1,4 @@
-use Rattle.field.specs.RoutingForms.{isTTTTAAAAC, partedBy, isNNNNNNNNN, fitsSome}
+use Rattle.field.specs.RoutingForms.{fitsSome}
 use borrow.Author.Needs.{needs}
 use Rattle.slow_field.proofs.formats.fits_a_form.Statement.{statement}
 use Rattle.slow_field.proofs.formats.fits_a_form.Tie as tie

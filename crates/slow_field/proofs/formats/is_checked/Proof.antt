@@ -1,4 +1,4 @@
-use Rattle.field.specs.RoutingForms.{isTTTTAAAAC, partedBy, isNNNNNNNNN, fitsSome}
+use Rattle.field.specs.RoutingForms.{isTTTTAAAAC}
 use borrow.Author.Needs.{needs}
 use Rattle.slow_field.proofs.formats.is_checked.Statement.{statement}
 use Rattle.slow_field.proofs.formats.is_checked.Tie as tie

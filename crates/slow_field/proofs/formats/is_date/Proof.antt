@@ -1,4 +1,4 @@
-use Rattle.field.specs.Formats.{isDate, isHoursMinutes, isHoursMinutesSeconds}
+use Rattle.field.specs.Formats.{isDate}
 use borrow.Author.Needs.{needs}
 use Rattle.slow_field.proofs.formats.is_date.Statement.{statement}
 use Rattle.slow_field.proofs.formats.is_date.Tie as tie

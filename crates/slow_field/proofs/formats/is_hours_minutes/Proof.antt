@@ -1,4 +1,4 @@
-use Rattle.field.specs.Formats.{isDate, isHoursMinutes, isHoursMinutesSeconds}
+use Rattle.field.specs.Formats.{isHoursMinutes}
 use borrow.Author.Needs.{needs}
 use Rattle.slow_field.proofs.formats.is_hours_minutes.Statement.{statement}
 use Rattle.slow_field.proofs.formats.is_hours_minutes.Tie as tie

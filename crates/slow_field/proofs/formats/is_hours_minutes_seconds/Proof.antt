@@ -1,4 +1,4 @@
-use Rattle.field.specs.Formats.{isDate, isHoursMinutes, isHoursMinutesSeconds}
+use Rattle.field.specs.Formats.{isHoursMinutesSeconds}
 use borrow.Author.Needs.{needs}
 use Rattle.slow_field.proofs.formats.is_hours_minutes_seconds.Statement.{statement}
 use Rattle.slow_field.proofs.formats.is_hours_minutes_seconds.Tie as tie

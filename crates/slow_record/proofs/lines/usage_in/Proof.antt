@@ -1,5 +1,4 @@
 use borrow.Author.Tests.{ne-eqb}
-use borrow.Author.Needs.{needs}
 use Rattle.slow_record.proofs.lines.usage_in.Statement.{statement}
 use Rattle.slow_record.proofs.lines.usage_in.Tie as tie
 

@@ -1,5 +1,4 @@
 use mathlib.Core.Path.{refl}
-use borrow.Author.Needs.{needs}
 use Rattle.slow_record.proofs.table.fields.Statement.{statement}
 use Rattle.slow_record.proofs.table.fields.Tie as tie
 

@@ -1,8 +1,8 @@
-use Prim.Native.Nat.{ℕ, _≤_, _-_, _+_, _<_}
+use Prim.Native.Nat.{_≤_, _-_}
 use mathlib.Core.Path.{_≡_, refl, sym, _∙_, ap}
-use lib.ListN.{length, getD, take, drop, drop-of-length-le, List·getD-eq-default}
+use lib.ListN.{length, drop}
 use denote.Ref.{now}
-use Rattle.text.specs.Characters.{isBlank, isNumeric}
+use Rattle.text.specs.Characters.{isNumeric}
 use Rattle.text.specs.DataTypes.{some, blankEmbedded, blankAfter}
 use Rattle.slow_text.proofs.Laws.{blank-found, blank-goes-on, blank-ends}
 use borrow.Author.Needs.{needs}

@@ -1,10 +1,9 @@
-use Prim.Native.Nat.{ℕ, _≤_, _-_, _+_, _*_, _^_, _<_}
-use mathlib.Core.Path.{_≡_, refl, sym, _∙_, ap}
-use borrow.Author.Tests.{eq-eqb, ne-eqb, not-true, not-false, lt-leb, le-leb}
-use lib.ListN.{length, getD, take, drop, drop-of-length-le, List·getD-eq-default}
+use Prim.Native.Nat.{_≤_, _-_}
+use mathlib.Core.Path.{_≡_, refl, sym, _∙_}
+use lib.ListN.{length, drop}
 use denote.Ref.{now}
-use Rattle.text.specs.Characters.{isBlank, isNumeric}
-use Rattle.text.specs.DataTypes.{every, some, admits, isMark, blankEmbedded, blankAfter}
+use Rattle.text.specs.Characters.{isNumeric}
+use Rattle.text.specs.DataTypes.{some}
 use Rattle.text.proofs.Laws.{some-found, some-goes-on, some-ends}
 use borrow.Author.Needs.{needs}
 use Rattle.slow_text.proofs.data_types.some_digit.Statement.{statement}

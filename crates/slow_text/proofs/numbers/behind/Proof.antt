@@ -1,8 +1,9 @@
-use mathlib.Core.Path.{_≡_, refl, sym, _∙_, ap}
+use mathlib.Core.Path.{sym}
 use denote.Ref.{now}
 use native.Mathlib.Omega.{arith}
-use lib.ListN.{length, getD, take, drop, drop-of-length-le, List·getD-eq-default}
-use Rattle.frame.proofs.Laws.{rest-whole}
+use lib.ListN.{length, drop, drop-of-length-le, length-drop}
+use Prim.Native.Nat.{_-_}
+use lib.Seq.{take-all}
 use borrow.Author.Needs.{needs}
 use Rattle.slow_text.proofs.numbers.behind.Statement.{statement}
 use Rattle.slow_text.proofs.numbers.behind.Tie as tie
@@ -29,7 +30,7 @@ part-result-end-2 : tie.Need-part-result-end-2
 part-result-end-2 c = search needs
 
 returns-2 : tie.Need-returns-2
-returns-2 c = rest-whole (now (c .before .before .args .s)) (c .before .before .args .place)
+returns-2 c = take-all (length (now (c .before .before .args .s)) - (c .before .before .args .place)) (drop (c .before .before .args .place) (now (c .before .before .args .s))) (omega (arith, length-drop (c .before .before .args .place) (now (c .before .before .args .s))))
 
 pub behind-spec : {M : Type 1} → statement M
 behind-spec =

@@ -1,4 +1,3 @@
-use mathlib.Core.Path.{_≡_, refl, sym, _∙_, ap}
 use Rattle.text.specs.Capitals.{capital}
 use borrow.Author.Needs.{needs}
 use Rattle.slow_text.proofs.numbers.capital_of.Statement.{statement}

@@ -1,5 +1,3 @@
-use mathlib.Core.Path.{_≡_, refl, sym, _∙_, ap}
-use Rattle.text.specs.Number.{digit}
 use borrow.Author.Needs.{needs}
 use Rattle.slow_text.proofs.numbers.digit_of.Statement.{statement}
 use Rattle.slow_text.proofs.numbers.digit_of.Tie as tie

@@ -1,9 +1,9 @@
-use mathlib.Core.Path.{_≡_, refl, sym, _∙_, ap}
+use mathlib.Core.Path.{_∙_, ap}
 use denote.Ref.{now}
 use native.Mathlib.Omega.{arith}
 use Prim.Native.Nat.{ℕ}
 use mathlib.Core.List.{List}
-use lib.ListN.{length, length-take}
+use lib.ListN.{length-take}
 use Rattle.text.specs.Number.{number, valueAfter}
 use borrow.Author.Needs.{needs}
 use Rattle.slow_text.proofs.numbers.number_in.Statement.{statement}

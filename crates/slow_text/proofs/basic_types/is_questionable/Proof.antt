@@ -1,6 +1,6 @@
 use borrow.Author.Needs.{needs}
-use Rattle.slow_text.proofs.characters.is_questionable.Statement.{statement}
-use Rattle.slow_text.proofs.characters.is_questionable.Tie as tie
+use Rattle.slow_text.proofs.basic_types.is_questionable.Statement.{statement}
+use Rattle.slow_text.proofs.basic_types.is_questionable.Tie as tie
 
 enum-told : tie.Need-enum-told
 enum-told c = search needs

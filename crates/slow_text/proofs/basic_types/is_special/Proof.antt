@@ -1,6 +1,6 @@
 use borrow.Author.Needs.{needs}
-use Rattle.slow_text.proofs.characters.is_special.Statement.{statement}
-use Rattle.slow_text.proofs.characters.is_special.Tie as tie
+use Rattle.slow_text.proofs.basic_types.is_special.Statement.{statement}
+use Rattle.slow_text.proofs.basic_types.is_special.Tie as tie
 
 enum-told : tie.Need-enum-told
 enum-told c = search needs

@@ -1,12 +1,12 @@
-use lib.ListN.{length, getD, take, drop, drop-of-length-le, List·getD-eq-default}
+use lib.ListN.{getD, List·getD-eq-default}
 use denote.Ref.{now}
-use borrow.Author.Tests.{eq-eqb, ne-eqb, not-true, not-false, lt-leb, le-leb}
+use borrow.Author.Tests.{eq-eqb, ne-eqb}
 use lib.Dec.{eqb}
 use Rattle.text.proofs.Classes.{never-both}
 use Rattle.text.specs.CharacterSet.{setOf}
 use borrow.Author.Needs.{needs}
-use Rattle.slow_text.proofs.characters.set_of.Statement.{statement}
-use Rattle.slow_text.proofs.characters.set_of.Tie as tie
+use Rattle.slow_text.proofs.basic_types.set_of.Statement.{statement}
+use Rattle.slow_text.proofs.basic_types.set_of.Tie as tie
 
 returns : tie.Need-returns
 unfolding setOf
