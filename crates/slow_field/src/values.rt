@@ -48,26 +48,16 @@ fn is_in_list(list: CodeList, x: u8) -> bool
     ensures { λ r. ⌜ r ≡ isCode list x ⌝ }
 {
     match list {
-        // 7.3
-        CodeList::FileTypes => (x == b'P') | ((x == b'T') | ((x == b'A') | (x == b'B'))),
-        // 7.8, 11.9, 13.6, 15.9, 18.6
-        CodeList::YesNo => (x == b'Y') | (x == b'N'),
-        // 10.11
-        CodeList::YesNoUnknown => (x == b'Y') | ((x == b'N') | (x == b'U')),
-        // 8.8
-        CodeList::RecordTypeIndicators => (x == b'N') | ((x == b'E') | ((x == b'I') | (x == b'F'))),
-        // 8.9
-        CodeList::CashLetterDocumentation => ((b'A' <= x) & (x <= b'M')) | (x == b'Z'),
-        // 10.8, 16.6, 26.9
-        CodeList::ItemDocumentation => (b'A' <= x) & (x <= b'M'),
-        // 10.9
-        CodeList::ReturnAcceptance => ((b'0' <= x) & (x <= b'9')) | ((b'A' <= x) & (x <= b'F')),
-        // 10.14, 16.7
-        CodeList::ArchiveTypes => (b'A' <= x) & (x <= b'I'),
-        // 21.20
-        CodeList::TestOverrides => (x == b'0') | ((b'A' <= x) & (x <= b'R')),
-        // 26.10
-        CodeList::AccountTypes => ((b'1' <= x) & (x <= b'5')) | ((b'A' <= x) & (x <= b'J')),
+        CodeList::FileTypes => (x == b'P') | ((x == b'T') | ((x == b'A') | (x == b'B'))), // 7.3
+        CodeList::YesNo => (x == b'Y') | (x == b'N'), // 7.8, 11.9, 13.6, 15.9, 18.6
+        CodeList::YesNoUnknown => (x == b'Y') | ((x == b'N') | (x == b'U')), // 10.11
+        CodeList::RecordTypeIndicators => (x == b'N') | ((x == b'E') | ((x == b'I') | (x == b'F'))), // 8.8
+        CodeList::CashLetterDocumentation => ((b'A' <= x) & (x <= b'M')) | (x == b'Z'), // 8.9
+        CodeList::ItemDocumentation => (b'A' <= x) & (x <= b'M'), // 10.8, 16.6, 26.9
+        CodeList::ReturnAcceptance => ((b'0' <= x) & (x <= b'9')) | ((b'A' <= x) & (x <= b'F')), // 10.9
+        CodeList::ArchiveTypes => (b'A' <= x) & (x <= b'I'), // 10.14, 16.7
+        CodeList::TestOverrides => (x == b'0') | ((b'A' <= x) & (x <= b'R')), // 21.20
+        CodeList::AccountTypes => ((b'1' <= x) & (x <= b'5')) | ((b'A' <= x) & (x <= b'J')), // 26.10
     }
 }
 

@@ -14,16 +14,44 @@ use Rattle.text.specs.Number.{number}
 use Rattle.field.specs.declared.Usage.{Usage}
 use Rattle.field.specs.declared.Usage.the-variants.{Mandatory, Conditional}
 use Rattle.field.specs.declared.Rule.{Rule}
-use Rattle.field.specs.declared.Rule.the-variants.{DataTypeAlone}
+use Rattle.field.specs.declared.Rule.the-variants.{DataTypeAlone, Numbers, AllDigits, OneOrTwoDigits, StandardLevel, CollectionType, BundleCollectionType, SourceOfWork, Date, HoursMinutes, HoursMinutesSeconds, Routing, ClippingCoordinate, Code}
+use Rattle.field.specs.declared.CodeList.{CodeList}
+use Rattle.field.specs.declared.CodeList.the-variants.{FileTypes, YesNo, YesNoUnknown, RecordTypeIndicators, CashLetterDocumentation, ItemDocumentation, ReturnAcceptance, ArchiveTypes, TestOverrides, AccountTypes}
 use Rattle.field.specs.Rules.{holds}
 use Rattle.frame.specs.Frames.{part}
 use Rattle.frame.specs.Unless.{unless}
 use Rattle.layout.specs.Layout.{Line, Sized, Layout, sizedParts}
 use Rattle.layout.specs.Layouts.{layouts}
-use Rattle.layout.specs.Packing.{usageOf, dataTypeOf, ruleOf}
+use Rattle.layout.specs.Packing.{usageOf, dataTypeOf, formsIn}
 use Rattle.judge.specs.Alone.{unlessField}
 use Rattle.judge.specs.declared.Judged.{Judged}
 use Rattle.judge.specs.declared.Judged.the-variants.{Sound, WrongLength, UnknownType}
+
+-- the lists of codes, and the rules of clauses 6.7 and 6.8, by their numbers in the table
+abbrev pub listOf : ℕ → CodeList
+listOf n =
+    cond (eqb n 1) FileTypes
+    (cond (eqb n 2) YesNo
+    (cond (eqb n 3) YesNoUnknown
+    (cond (eqb n 4) RecordTypeIndicators
+    (cond (eqb n 5) CashLetterDocumentation
+    (cond (eqb n 6) ItemDocumentation
+    (cond (eqb n 7) ReturnAcceptance (cond (eqb n 8) ArchiveTypes (cond (eqb n 9) TestOverrides AccountTypes))))))))
+
+abbrev pub ruleOf : ℕ → ℕ → ℕ → Rule
+ruleOf code low high =
+    cond (eqb code 1) (Numbers low high)
+    (cond (eqb code 2) AllDigits
+    (cond (eqb code 3) OneOrTwoDigits
+    (cond (eqb code 4) StandardLevel
+    (cond (eqb code 5) CollectionType
+    (cond (eqb code 6) BundleCollectionType
+    (cond (eqb code 7) SourceOfWork
+    (cond (eqb code 8) Date
+    (cond (eqb code 9) HoursMinutes
+    (cond (eqb code 10) HoursMinutesSeconds
+    (cond (eqb code 11) (Routing (formsIn high))
+    (cond (eqb code 12) (ClippingCoordinate (high - 1)) (cond (eqb code 13) (Code (listOf high)) DataTypeAlone))))))))))))
 
 -- what a line says: the kind of record, what the line is in it (0 and 1 a field of its fixed part, mandatory or conditional, 2 a field behind it,
 -- 3 the record itself), the field's number, its first position and its size, its data type, its Format or Defined Values

@@ -25,7 +25,8 @@ ghost use lib.Dec.{eqb};
 ghost use lib.ListN.{take};
 ghost use Rattle.text.specs.DataTypes.{ofType};
 ghost use Rattle.frame.specs.Frames.{part, lengthIn, frameAt};
-ghost use Rattle.judge.specs.Alone.{typeOf, judgedAs};
+ghost use Rattle.judge.specs.Alone.{unlessField, typeOf, judgedAs};
+ghost use Rattle.judge.specs.declared.Judged.the-variants.{Sound};
 ghost use Rattle.slow_record.specs.Rows.{entryOf, isField, isPart, fieldHolds, statedIn, fieldsOf, partsOf, lengthOf, wrongField, stated, wrongPart, judgedBy};
 
 // The bytes from a place on, as many as the size says or as there are.
@@ -193,6 +194,16 @@ fn fixed_length(kind: u64, lines: &[u64]) -> usize
     0
 }
 
+// Sound, unless a field is at fault.
+fn sound_unless(wrong: usize) -> Judged
+    ensures { λ r. ⌜ r ≡ unlessField wrong Sound ⌝ }
+{
+    if wrong == 0 {
+        return Judged::Sound;
+    }
+    Judged::WrongField(wrong)
+}
+
 // The checks of one record alone, in document 01's order.
 fn judge_by<'a>(set: CharacterSet, kind: u64, lines: &'a [u64], body: &'a [u8]) -> Judged
     ensures { λ r. ⌜ r ≡ judgedBy set kind (map entryOf (now (lines .entry))) (now (body .entry)) ⌝ }
@@ -214,11 +225,7 @@ fn judge_by<'a>(set: CharacterSet, kind: u64, lines: &'a [u64], body: &'a [u8]) 
     if !sizes_fill(set, kind, lines, body, (body.len() - fixed) as u64) {
         return Judged::WrongLength;
     }
-    let wrong_part = first_wrong_part(set, kind, lines, body, slow_text::behind(body, fixed));
-    if wrong_part != 0 {
-        return Judged::WrongField(wrong_part);
-    }
-    Judged::Sound
+    sound_unless(first_wrong_part(set, kind, lines, body, slow_text::behind(body, fixed)))
 }
 
 // A record judged alone as one of a kind.

@@ -6,8 +6,8 @@ use field::Usage;
 use text::DataType;
 ghost use mathlib.Core.Path.{_≡_};
 ghost use Prim.Native.Nat.{_-_};
-ghost use Rattle.layout.specs.Packing.{usageOf, dataTypeOf, formsIn, ruleOf};
-ghost use Rattle.slow_record.specs.Rows.{entryOf, isField, isPart, isRecord, isVariable};
+ghost use Rattle.layout.specs.Packing.{usageOf, dataTypeOf, formsIn};
+ghost use Rattle.slow_record.specs.Rows.{listOf, ruleOf, entryOf, isField, isPart, isRecord, isVariable};
 
 // The line has a field of the fixed part of a kind, a field behind it, or the record itself.
 pub fn is_field(kind: u64, line: u64) -> bool
@@ -116,6 +116,24 @@ fn coordinate_under(position: u64) -> usize
     (position - 1) as usize
 }
 
+// 6.8: the lists of codes
+fn list_of(n: u64) -> CodeList
+    ensures { λ r. ⌜ r ≡ listOf n ⌝ }
+{
+    match n {
+        1 => CodeList::FileTypes,
+        2 => CodeList::YesNo,
+        3 => CodeList::YesNoUnknown,
+        4 => CodeList::RecordTypeIndicators,
+        5 => CodeList::CashLetterDocumentation,
+        6 => CodeList::ItemDocumentation,
+        7 => CodeList::ReturnAcceptance,
+        8 => CodeList::ArchiveTypes,
+        9 => CodeList::TestOverrides,
+        _ => CodeList::AccountTypes,
+    }
+}
+
 // 6.7 and 6.8
 pub fn rule_of(code: u64, low: u64, high: u64) -> Rule
     ensures { λ r. ⌜ r ≡ ruleOf code low high ⌝ }
@@ -127,22 +145,13 @@ pub fn rule_of(code: u64, low: u64, high: u64) -> Rule
         4 => Rule::StandardLevel,
         5 => Rule::CollectionType,
         6 => Rule::BundleCollectionType,
-        7 => Rule::Date,
-        8 => Rule::HoursMinutes,
-        9 => Rule::HoursMinutesSeconds,
-        10 => Rule::Routing(forms_in(high)),
-        11 => Rule::ClippingCoordinate(coordinate_under(high)),
-        12 => Rule::SourceOfWork,
-        21 => Rule::Code(CodeList::FileTypes),
-        22 => Rule::Code(CodeList::YesNo),
-        23 => Rule::Code(CodeList::YesNoUnknown),
-        24 => Rule::Code(CodeList::RecordTypeIndicators),
-        25 => Rule::Code(CodeList::CashLetterDocumentation),
-        26 => Rule::Code(CodeList::ItemDocumentation),
-        27 => Rule::Code(CodeList::ReturnAcceptance),
-        28 => Rule::Code(CodeList::ArchiveTypes),
-        29 => Rule::Code(CodeList::TestOverrides),
-        30 => Rule::Code(CodeList::AccountTypes),
+        7 => Rule::SourceOfWork,
+        8 => Rule::Date,
+        9 => Rule::HoursMinutes,
+        10 => Rule::HoursMinutesSeconds,
+        11 => Rule::Routing(forms_in(high)),
+        12 => Rule::ClippingCoordinate(coordinate_under(high)),
+        13 => Rule::Code(list_of(high)),
         _ => Rule::DataTypeAlone,
     }
 }

@@ -57,14 +57,14 @@ const COLLECTION_TYPE: u64 = 5 * 10_000;
 
 const BUNDLE_COLLECTION_TYPE: u64 = 6 * 10_000;
 
-const DATE: u64 = 7 * 10_000;
+const DATE: u64 = 8 * 10_000;
 
-const HOURS_MINUTES: u64 = 8 * 10_000;
+const HOURS_MINUTES: u64 = 9 * 10_000;
 
-const HOURS_MINUTES_SECONDS: u64 = 9 * 10_000;
+const HOURS_MINUTES_SECONDS: u64 = 10 * 10_000;
 
 // a routing number of one of these forms
-const ROUTING: u64 = 10 * 10_000;
+const ROUTING: u64 = 11 * 10_000;
 
 const TTTTAAAAC: u64 = 1;
 
@@ -77,30 +77,32 @@ const B_TTTTAAAA: u64 = 8;
 const NNNNNNNNN: u64 = 16;
 
 // a coordinate, under the clipping origin at a position
-const CLIPPED_BY: u64 = 11 * 10_000;
+const CLIPPED_BY: u64 = 12 * 10_000;
 
-const SOURCE_OF_WORK: u64 = 12 * 10_000;
+const SOURCE_OF_WORK: u64 = 7 * 10_000;
 
 // one character of a list
-const FILE_TYPES: u64 = 21 * 10_000;
+const CODE: u64 = 13 * 10_000;
 
-const YES_NO: u64 = 22 * 10_000;
+const FILE_TYPES: u64 = CODE + 1;
 
-const YES_NO_UNKNOWN: u64 = 23 * 10_000;
+const YES_NO: u64 = CODE + 2;
 
-const RECORD_TYPE_INDICATORS: u64 = 24 * 10_000;
+const YES_NO_UNKNOWN: u64 = CODE + 3;
 
-const CASH_LETTER_DOCUMENTATION: u64 = 25 * 10_000;
+const RECORD_TYPE_INDICATORS: u64 = CODE + 4;
 
-const ITEM_DOCUMENTATION: u64 = 26 * 10_000;
+const CASH_LETTER_DOCUMENTATION: u64 = CODE + 5;
 
-const RETURN_ACCEPTANCE: u64 = 27 * 10_000;
+const ITEM_DOCUMENTATION: u64 = CODE + 6;
 
-const ARCHIVE_TYPES: u64 = 28 * 10_000;
+const RETURN_ACCEPTANCE: u64 = CODE + 7;
 
-const TEST_OVERRIDES: u64 = 29 * 10_000;
+const ARCHIVE_TYPES: u64 = CODE + 8;
 
-const ACCOUNT_TYPES: u64 = 30 * 10_000;
+const TEST_OVERRIDES: u64 = CODE + 9;
+
+const ACCOUNT_TYPES: u64 = CODE + 10;
 
 const FIELDS: [u64; 322] = [
     // Clause 7

@@ -33,26 +33,22 @@ pub fn may_stand(set: CharacterSet, t: DataType, x: u8) -> bool
     let alphabetic = is_alphabetic(set, x);
     let blank = is_blank(set, x);
     let numeric = is_numeric(set, x);
-    let special = is_special(set, x);
-    let questionable = is_questionable(set, x);
     let cannot_read = is_cannot_read(set, x);
     let dash = is_dash(set, x);
-    let on_us = is_on_us_symbol(set, x);
-    let micr = is_micr_symbol(set, x);
     match t {
         DataType::AB => blank,
         DataType::A => alphabetic,
         DataType::AN => alphabetic | numeric,
-        DataType::ANS => alphabetic | (numeric | special),
+        DataType::ANS => alphabetic | (numeric | is_special(set, x)),
         DataType::Binary => true,
         DataType::N => numeric,
         DataType::NB => numeric | blank,
         DataType::NBD => numeric | (blank | dash),
-        DataType::NBQ => numeric | (blank | questionable),
+        DataType::NBQ => numeric | (blank | is_questionable(set, x)),
         DataType::NBMc => numeric | (blank | cannot_read),
         DataType::NBMcd => numeric | (blank | (cannot_read | dash)),
-        DataType::NBMcdo => numeric | (blank | (cannot_read | (dash | on_us))),
-        DataType::NBMU => numeric | (blank | micr),
+        DataType::NBMcdo => numeric | (blank | (cannot_read | (dash | is_on_us_symbol(set, x)))),
+        DataType::NBMU => numeric | (blank | is_micr_symbol(set, x)),
     }
 }
 

@@ -9,6 +9,9 @@ forms-in-requires c κs = search needs
 coordinate-under-requires : tie.Need-coordinate-under-requires
 coordinate-under-requires c κs = search needs
 
+list-of-requires : tie.Need-list-of-requires
+list-of-requires c κs = search needs
+
 returns : tie.Need-returns
 returns c = rw (c .match .keys1)
 
@@ -37,46 +40,19 @@ returns-9 : tie.Need-returns-9
 returns-9 c = rw (c .match .keys9)
 
 returns-10 : tie.Need-returns-10
-returns-10 c = rw (c .before .match .keys10, c .forms-in .ensures)
+returns-10 c = rw (c .match .keys10)
 
 returns-11 : tie.Need-returns-11
-returns-11 c = rw (c .before .match .keys11, c .coordinate-under .ensures)
+returns-11 c = rw (c .before .match .keys11, c .forms-in .ensures)
 
 returns-12 : tie.Need-returns-12
-returns-12 c = rw (c .match .keys12)
+returns-12 c = rw (c .before .match .keys12, c .coordinate-under .ensures)
 
 returns-13 : tie.Need-returns-13
-returns-13 c = rw (c .match .keys13)
+returns-13 c = rw (c .before .match .keys13, c .list-of .ensures)
 
 returns-14 : tie.Need-returns-14
-returns-14 c = rw (c .match .keys14)
-
-returns-15 : tie.Need-returns-15
-returns-15 c = rw (c .match .keys15)
-
-returns-16 : tie.Need-returns-16
-returns-16 c = rw (c .match .keys16)
-
-returns-17 : tie.Need-returns-17
-returns-17 c = rw (c .match .keys17)
-
-returns-18 : tie.Need-returns-18
-returns-18 c = rw (c .match .keys18)
-
-returns-19 : tie.Need-returns-19
-returns-19 c = rw (c .match .keys19)
-
-returns-20 : tie.Need-returns-20
-returns-20 c = rw (c .match .keys20)
-
-returns-21 : tie.Need-returns-21
-returns-21 c = rw (c .match .keys21)
-
-returns-22 : tie.Need-returns-22
-returns-22 c = rw (c .match .keys22)
-
-returns-23 : tie.Need-returns-23
-returns-23 c = simp (ne-eqb _ _ (c .match .rest .1), ne-eqb _ _ (c .match .rest .0 .1), ne-eqb _ _ (c .match .rest .0 .0 .1), ne-eqb _ _ (c .match .rest .0 .0 .0 .1), ne-eqb _ _ (c .match .rest .0 .0 .0 .0 .1), ne-eqb _ _ (c .match .rest .0 .0 .0 .0 .0 .1), ne-eqb _ _ (c .match .rest .0 .0 .0 .0 .0 .0 .1), ne-eqb _ _ (c .match .rest .0 .0 .0 .0 .0 .0 .0 .1), ne-eqb _ _ (c .match .rest .0 .0 .0 .0 .0 .0 .0 .0 .1), ne-eqb _ _ (c .match .rest .0 .0 .0 .0 .0 .0 .0 .0 .0 .1), ne-eqb _ _ (c .match .rest .0 .0 .0 .0 .0 .0 .0 .0 .0 .0 .1), ne-eqb _ _ (c .match .rest .0 .0 .0 .0 .0 .0 .0 .0 .0 .0 .0 .1), ne-eqb _ _ (c .match .rest .0 .0 .0 .0 .0 .0 .0 .0 .0 .0 .0 .0 .1), ne-eqb _ _ (c .match .rest .0 .0 .0 .0 .0 .0 .0 .0 .0 .0 .0 .0 .0 .1), ne-eqb _ _ (c .match .rest .0 .0 .0 .0 .0 .0 .0 .0 .0 .0 .0 .0 .0 .0 .1), ne-eqb _ _ (c .match .rest .0 .0 .0 .0 .0 .0 .0 .0 .0 .0 .0 .0 .0 .0 .0 .1), ne-eqb _ _ (c .match .rest .0 .0 .0 .0 .0 .0 .0 .0 .0 .0 .0 .0 .0 .0 .0 .0 .1), ne-eqb _ _ (c .match .rest .0 .0 .0 .0 .0 .0 .0 .0 .0 .0 .0 .0 .0 .0 .0 .0 .0 .1), ne-eqb _ _ (c .match .rest .0 .0 .0 .0 .0 .0 .0 .0 .0 .0 .0 .0 .0 .0 .0 .0 .0 .0 .1), ne-eqb _ _ (c .match .rest .0 .0 .0 .0 .0 .0 .0 .0 .0 .0 .0 .0 .0 .0 .0 .0 .0 .0 .0 .1), ne-eqb _ _ (c .match .rest .0 .0 .0 .0 .0 .0 .0 .0 .0 .0 .0 .0 .0 .0 .0 .0 .0 .0 .0 .0 .1), ne-eqb _ _ (c .match .rest .0 .0 .0 .0 .0 .0 .0 .0 .0 .0 .0 .0 .0 .0 .0 .0 .0 .0 .0 .0 .0 .1))
+returns-14 c = simp (ne-eqb _ _ (c .match .rest .1), ne-eqb _ _ (c .match .rest .2), ne-eqb _ _ (c .match .rest .3), ne-eqb _ _ (c .match .rest .4), ne-eqb _ _ (c .match .rest .5), ne-eqb _ _ (c .match .rest .6), ne-eqb _ _ (c .match .rest .7), ne-eqb _ _ (c .match .rest .8), ne-eqb _ _ (c .match .rest .9), ne-eqb _ _ (c .match .rest .10), ne-eqb _ _ (c .match .rest .11), ne-eqb _ _ (c .match .rest .12), ne-eqb _ _ (c .match .rest .13))
 
 pub rule-of-spec : {M : Type 1} → statement M
 rule-of-spec =
@@ -84,6 +60,7 @@ rule-of-spec =
     (tie.spec
     forms-in-requires
     coordinate-under-requires
+    list-of-requires
     returns
     returns-2
     returns-3
@@ -97,13 +74,4 @@ rule-of-spec =
     returns-11
     returns-12
     returns-13
-    returns-14
-    returns-15
-    returns-16
-    returns-17
-    returns-18
-    returns-19
-    returns-20
-    returns-21
-    returns-22
-    returns-23)
+    returns-14)
