@@ -1,5 +1,4 @@
 use borrow.Author.Tests.{ne-eqb}
-use borrow.Author.Needs.{needs}
 use Rattle.slow_record.proofs.lines.list_of.Statement.{statement}
 use Rattle.slow_record.proofs.lines.list_of.Tie as tie
 
@@ -31,7 +30,7 @@ returns-9 : tie.Need-returns-9
 returns-9 c = rw (c .match .keys9)
 
 returns-10 : tie.Need-returns-10
-returns-10 c = simp (ne-eqb _ _ (c .match .rest .1), ne-eqb _ _ (c .match .rest .2), ne-eqb _ _ (c .match .rest .3), ne-eqb _ _ (c .match .rest .4), ne-eqb _ _ (c .match .rest .5), ne-eqb _ _ (c .match .rest .6), ne-eqb _ _ (c .match .rest .7), ne-eqb _ _ (c .match .rest .8), ne-eqb _ _ (c .match .rest .9))
+returns-10 c = simp (ne-eqb _ _ (c .match .rest .1), ne-eqb _ _ (c .match .rest .0 .1), ne-eqb _ _ (c .match .rest .0 .0 .1), ne-eqb _ _ (c .match .rest .0 .0 .0 .1), ne-eqb _ _ (c .match .rest .0 .0 .0 .0 .1), ne-eqb _ _ (c .match .rest .0 .0 .0 .0 .0 .1), ne-eqb _ _ (c .match .rest .0 .0 .0 .0 .0 .0 .1), ne-eqb _ _ (c .match .rest .0 .0 .0 .0 .0 .0 .0 .1), ne-eqb _ _ (c .match .rest .0 .0 .0 .0 .0 .0 .0 .0 .1))
 
 pub list-of-spec : {M : Type 1} → statement M
 list-of-spec =

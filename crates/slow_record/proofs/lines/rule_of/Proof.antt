@@ -52,7 +52,7 @@ returns-13 : tie.Need-returns-13
 returns-13 c = rw (c .before .match .keys13, c .list-of .ensures)
 
 returns-14 : tie.Need-returns-14
-returns-14 c = simp (ne-eqb _ _ (c .match .rest .1), ne-eqb _ _ (c .match .rest .2), ne-eqb _ _ (c .match .rest .3), ne-eqb _ _ (c .match .rest .4), ne-eqb _ _ (c .match .rest .5), ne-eqb _ _ (c .match .rest .6), ne-eqb _ _ (c .match .rest .7), ne-eqb _ _ (c .match .rest .8), ne-eqb _ _ (c .match .rest .9), ne-eqb _ _ (c .match .rest .10), ne-eqb _ _ (c .match .rest .11), ne-eqb _ _ (c .match .rest .12), ne-eqb _ _ (c .match .rest .13))
+returns-14 c = simp (ne-eqb _ _ (c .match .rest .1), ne-eqb _ _ (c .match .rest .0 .1), ne-eqb _ _ (c .match .rest .0 .0 .1), ne-eqb _ _ (c .match .rest .0 .0 .0 .1), ne-eqb _ _ (c .match .rest .0 .0 .0 .0 .1), ne-eqb _ _ (c .match .rest .0 .0 .0 .0 .0 .1), ne-eqb _ _ (c .match .rest .0 .0 .0 .0 .0 .0 .1), ne-eqb _ _ (c .match .rest .0 .0 .0 .0 .0 .0 .0 .1), ne-eqb _ _ (c .match .rest .0 .0 .0 .0 .0 .0 .0 .0 .1), ne-eqb _ _ (c .match .rest .0 .0 .0 .0 .0 .0 .0 .0 .0 .1), ne-eqb _ _ (c .match .rest .0 .0 .0 .0 .0 .0 .0 .0 .0 .0 .1), ne-eqb _ _ (c .match .rest .0 .0 .0 .0 .0 .0 .0 .0 .0 .0 .0 .1), ne-eqb _ _ (c .match .rest .0 .0 .0 .0 .0 .0 .0 .0 .0 .0 .0 .0 .1))
 
 pub rule-of-spec : {M : Type 1} → statement M
 rule-of-spec =
