@@ -1,34 +1,28 @@
+use mathlib.Core.Path.{refl}
 use borrow.Author.Needs.{needs}
+use Rattle.order.specs.MayFollow.{follows}
+use Rattle.slow_step.proofs.Cycle.{enters, stopped, turns-away}
 use Rattle.slow_cycle.proofs.file_control.Statement.{statement}
 use Rattle.slow_cycle.proofs.file_control.Tie as tie
-use Rattle.slow_cycle.proofs.file_control.Reads as reads
-use Rattle.slow_cycle.proofs.file_control.Lts as lts
-use Rattle.slow_step.proofs.enter.Reads as enter-reads
-use Rattle.slow_step.proofs.not_called_for.Reads as not-called-for-reads
 
--- src/lib.rt:396:11
 enter-requires : tie.Need-enter-requires
-enter-requires c κs = ?
+enter-requires c κs = enters (c .before .pre)
 
--- src/lib.rt:397:23
 enum-known-answer : tie.Need-enum-known-answer
 enum-known-answer c = search needs
 
--- src/lib.rt:398:21
 enum-known-here : tie.Need-enum-known-here
 enum-known-here c = search needs
 
--- src/lib.rt:398:39
 not-called-for-requires : tie.Need-not-called-for-requires
-not-called-for-requires c κs = ?
+unfolding follows
+not-called-for-requires c κs = turns-away (c .before .before .before .before .before .pre) (c .before .before .before .enter .ensures) (c .before .here .given .1) refl
 
--- src/lib.rt:392:1
 returns : tie.Need-returns
-returns c = ?
+returns c = stopped (c .before .before .before .before .before .pre) (c .before .before .before .enter .ensures) (c .before .answer .given .1)
 
--- src/lib.rt:392:1
 returns-2 : tie.Need-returns-2
-returns-2 c = search needs
+returns-2 c = c .not-called-for .ensures
 
 pub file-control-spec : {M : Type 1} → statement M
 file-control-spec =
