@@ -31,7 +31,7 @@ mul-table-2 : tie.Need-mul-table-2
 mul-table-2 c = search needs
 
 slice-write-table-2 : tie.Need-slice-write-table-2
-slice-write-table-2 c = simp length-set (omega (arith, @pre .0))
+slice-write-table-2 c = simp length-set (omega (arith, c .before .before .before .before .before .before .before .pre .0))
 
 add-table-2 : tie.Need-add-table-2
 add-table-2 c = search needs
@@ -40,7 +40,7 @@ mul-table-3 : tie.Need-mul-table-3
 mul-table-3 c = search needs
 
 slice-write-table-3 : tie.Need-slice-write-table-3
-slice-write-table-3 c = simp length-set (omega (arith, @pre .0))
+slice-write-table-3 c = simp length-set (omega (arith, c .before .before .before .before .before .before .before .pre .0))
 
 add-table-3 : tie.Need-add-table-3
 add-table-3 c = search needs
@@ -49,7 +49,7 @@ mul-table-4 : tie.Need-mul-table-4
 mul-table-4 c = search needs
 
 slice-write-table-4 : tie.Need-slice-write-table-4
-slice-write-table-4 c = simp length-set (omega (arith, @pre .0))
+slice-write-table-4 c = simp length-set (omega (arith, c .before .before .before .before .before .before .before .pre .0))
 
 add-table-4 : tie.Need-add-table-4
 add-table-4 c = search needs
@@ -58,7 +58,7 @@ mul-table-5 : tie.Need-mul-table-5
 mul-table-5 c = search needs
 
 slice-write-table-5 : tie.Need-slice-write-table-5
-slice-write-table-5 c = simp length-set (omega (arith, @pre .0))
+slice-write-table-5 c = simp length-set (omega (arith, c .before .before .before .before .before .before .before .pre .0))
 
 add-table-5 : tie.Need-add-table-5
 add-table-5 c = search needs
@@ -67,7 +67,7 @@ mul-table-6 : tie.Need-mul-table-6
 mul-table-6 c = search needs
 
 slice-write-table-6 : tie.Need-slice-write-table-6
-slice-write-table-6 c = simp length-set (omega (arith, @pre .0))
+slice-write-table-6 c = simp length-set (omega (arith, c .before .before .before .before .before .before .before .pre .0))
 
 add-table-6 : tie.Need-add-table-6
 add-table-6 c = search needs
@@ -76,13 +76,13 @@ mul-table-7 : tie.Need-mul-table-7
 mul-table-7 c = search needs
 
 slice-write-table-7 : tie.Need-slice-write-table-7
-slice-write-table-7 c = simp length-set (omega (arith, @pre .0))
+slice-write-table-7 c = simp length-set (omega (arith, c .before .before .before .before .before .before .before .pre .0))
 
 same-length : tie.Need-same-length
 same-length c = simp length-set
 
 returns : tie.Need-returns
-returns c = rw (sym (@letter-of .ensures), sym (@within .ensures), sym (@within2 .ensures), sym (@amount-of .ensures)) (simp (add-one, add-two, add-three, add-four, add-five, add-six))
+returns c = rw (sym (c .before .before .before .before .letter-of .ensures), sym (c .before .before .within .ensures), sym (c .before .within2 .ensures), sym (c .amount-of .ensures)) (simp (add-one, add-two, add-three, add-four, add-five, add-six))
 
 pub write-row-spec : {M : Type 1} → statement M
 write-row-spec =
