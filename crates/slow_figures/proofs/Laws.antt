@@ -21,9 +21,11 @@ of-item P t e check back credit = one (eqb t 25) refl
     three : (b : Bool) → eqb t 61 ≡ b → eqb t 25 ≡ false → eqb t 31 ≡ false → P t
     three true q no25 no31 = subst P (sym (eqb-true t 61 q)) credit
     three false q no25 no31 = let z : true ≡ false = sym e ∙ rw (no25, no31, q) in let y : _≡_ {A = ℕ} 0 1 = cc in absurd (omega arith)
+
     two : (b : Bool) → eqb t 31 ≡ b → eqb t 25 ≡ false → P t
     two true q no25 = subst P (sym (eqb-true t 31 q)) back
     two false q no25 = three (eqb t 61) refl no25 q
+
     one : (b : Bool) → eqb t 25 ≡ b → P t
     one true q = subst P (sym (eqb-true t 25 q)) check
     one false q = two (eqb t 31) refl q

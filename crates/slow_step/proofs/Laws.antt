@@ -59,6 +59,7 @@ misfits set file s at start size n w f = rw (n, w) (by (leb 2 (length body)) (is
   where
     body : List ℕ
     body = part start size file
+
     by : (a c : Bool) → follows (s .inside) (s .last) (cond (a && c) (typeOf set body) 0) ≡ false
         → ofTurn size
         (unless a (Faulty Length) (unless c (Faulty UnknownType) (unless (follows (s .inside) (s .last) (typeOf set body) && oneItemType (s .present) (typeOf set body)) (Faulty Place) (unlessAlone (judgedAs set (typeOf set body) body) (agreement set file s at (typeOf set body))))))
