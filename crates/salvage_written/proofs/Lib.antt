@@ -8,3 +8,4 @@ pub mod Control
 pub mod Addenda
 pub mod Going
 pub mod Groups
+pub mod Letters
