@@ -54,7 +54,7 @@ all-values : (set : CharacterSet) (bs : List Body) → map (valuesOfBody Ascii) 
 all-values set [] = refl
 all-values set (b ∷ bs) = ap₂ (λ (v : Values) (vs : List Values). v ∷ vs) (values-either set b) (all-values set bs)
 
-indicator-either : (set : CharacterSet) (b : Body) → indicatorOf Ascii (copied set b) ≡ indicator set b
+pub indicator-either : (set : CharacterSet) (b : Body) → indicatorOf Ascii (copied set b) ≡ indicator set b
 indicator-either Ascii b = refl
 indicator-either Ebcdic b =
     ap (λ (xs : List ℕ). capital Ascii (getD xs 0 0)) (field-copied b 42 1 (leb-true 43 139 refl)) ∙ getD-alike (fieldOf cashLetterHeader 8 b) 0
@@ -73,7 +73,7 @@ itself-plain past b vs g no-25 no-31 =
     } in
     itself-as (typeOf Ascii b) past b (addendaBehind (typeOf Ascii b) vs) (g .alone) told
 
-no-control : (b : Body) → Plain Ascii b → of Ascii (90 ∷ 99 ∷ []) b ≡ false
+pub no-control : (b : Body) → Plain Ascii b → of Ascii (90 ∷ 99 ∷ []) b ≡ false
 no-control b p = rw (p .0, p .1)
 
 -- a run
@@ -116,7 +116,7 @@ last-run P Q (bundle {b} {bs} e r) = last-onto Ascii bs (b ∷ P) (b ∷ Q) refl
 last-run P Q (credit {b} {bs} e r) = last-onto Ascii bs (b ∷ P) (b ∷ Q) refl
 
 -- what the marks keep
-kept-append : (ms ns : List Marked) → keptBodies (ms ++ ns) ≡ keptBodies ms ++ keptBodies ns
+pub kept-append : (ms ns : List Marked) → keptBodies (ms ++ ns) ≡ keptBodies ms ++ keptBodies ns
 kept-append [] ns = refl
 kept-append (m ∷ ms) ns = by (m .fate) (m .body) (kept-append ms ns)
   where
@@ -134,26 +134,26 @@ pub dropped-marked : (n : ℕ) (bs : List Body) → keptBodies (map (marked (dro
 dropped-marked n [] = refl
 dropped-marked n (b ∷ bs) = dropped-marked n bs
 
-map-append : {A B : Type 0} (f : A → B) (xs ys : List A) → map f (xs ++ ys) ≡ map f xs ++ map f ys
+pub map-append : {A B : Type 0} (f : A → B) (xs ys : List A) → map f (xs ++ ys) ≡ map f xs ++ map f ys
 map-append f [] ys = refl
 map-append f (x ∷ xs) ys = ap (λ (l : List _). f x ∷ l) (map-append f xs ys)
 
 -- the sound runs under a kept header
 module _ (set : CharacterSet) (t : Torn) (is-kept : isKept set t ≡ true) (alone : soundAlone set 10 (t .header) ≡ true) where
-  abbrev own : Body
+  abbrev pub own : Body
   own = copied set (t .header)
 
   abbrev sound : SoundAs set 10 (t .header)
   sound = sound-as set 10 (t .header) alone
 
   -- what follows a number of groups
-  abbrev After : List Body → Bool → List Values → List Body → Type 0
+  abbrev pub After : List Body → Bool → List Values → List Body → Type 0
   After past any ws ks =
       (past′ : List Body) → State past′ → Base Ascii own past′ → openedIn Ascii past ≤ openedIn Ascii past′ → (any ≡ true → 1 ≤ openedIn Ascii past′)
       → Going past′ ws ks
 
   -- what is left of some records, and then others
-  abbrev Goes : List Body → List Body → List Values → List Body → Type 0
+  abbrev pub Goes : List Body → List Body → List Values → List Body → Type 0
   Goes past bs ws ks = Going past (map (valuesOfBody set) bs ++ ws) (map (copied set) bs ++ ks)
 
   more-goes : (past bs cs : List Body) (ws : List Values) (ks : List Body)
@@ -190,7 +190,7 @@ module _ (set : CharacterSet) (t : Torn) (is-kept : isKept set t ≡ true) (alon
       opens bs past (bundle {b} {bs = cs} e r) base good h = bundle-opened Ascii own past (type-either set b ∙ e) (rest-either set r) base good
       opens bs past (credit {b} {bs = cs} e r) base good h = absurd (not-both (rw e at h))
 
-  groups-go : (gs : List Group) → All (GroupOk set) gs → (past : List Body) → State past → Base Ascii own past → (ws : List Values) (ks : List Body)
+  pub groups-go : (gs : List Group) → All (GroupOk set) gs → (past : List Body) → State past → Base Ascii own past → (ws : List Values) (ks : List Body)
       → After past (anyBundle set (t .header) gs) ws ks → Goes past (keptBodies (groupsMarks set t gs)) ws ks
   groups-go [] ok past s base ws ks later = later past s base (omega arith) (λ e. absurd (not-both e))
   groups-go (loose bs ∷ gs) ok past s base ws ks later =

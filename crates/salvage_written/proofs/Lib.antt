@@ -9,3 +9,5 @@ pub mod Addenda
 pub mod Going
 pub mod Groups
 pub mod Letters
+pub mod Left
+pub mod Refusals
