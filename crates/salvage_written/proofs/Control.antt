@@ -171,15 +171,41 @@ module _ (set : CharacterSet) (o : Option Body) where
 
   holding-90 : (addenda : ℕ) (s : Standing) → Holding v90 addenda s (cashLetterControl .lines) (freeFields set o (cashLetterControl .lines))
   unfolding controlValues number digits
-  holding-90 addenda s =
-      (type-holds 90 refl, (digits-hold _ _ _ _ 6 _, (digits-hold _ _ _ _ 8 _, (digits-hold _ _ _ _ 14 _, (digits-hold _ _ _ _ 9 _,
-      (typed-holds set o _ _ _ 16 ANS refl, (date-holds set o _ _ _ 8 NB refl, (digits-hold _ _ _ _ 8 _, (digits-hold _ _ _ _ 14 _, tt)))))))))
+  holding-90 addenda s = (
+    type-holds 90 refl,
+    (
+      digits-hold _ _ _ _ 6 _,
+      (
+        digits-hold _ _ _ _ 8 _,
+        (
+          digits-hold _ _ _ _ 14 _,
+          (
+            digits-hold _ _ _ _ 9 _,
+            (typed-holds set o _ _ _ 16 ANS refl, (date-holds set o _ _ _ 8 NB refl, (digits-hold _ _ _ _ 8 _, (digits-hold _ _ _ _ 14 _, tt)))),
+          ),
+        ),
+      ),
+    ),
+  )
 
   holding-99 : (addenda : ℕ) (s : Standing) → Holding v99 addenda s (fileControl .lines) (freeFields set o (fileControl .lines))
   unfolding controlValues number digits
-  holding-99 addenda s =
-      (type-holds 99 refl, (digits-hold _ _ _ _ 6 _, (digits-hold _ _ _ _ 8 _, (digits-hold _ _ _ _ 8 _, (digits-hold _ _ _ _ 16 _,
-      (typed-holds set o _ _ _ 14 ANS refl, (typed-holds set o _ _ _ 10 NB refl, (digits-hold _ _ _ _ 16 _, tt))))))))
+  holding-99 addenda s = (
+    type-holds 99 refl,
+    (
+      digits-hold _ _ _ _ 6 _,
+      (
+        digits-hold _ _ _ _ 8 _,
+        (
+          digits-hold _ _ _ _ 8 _,
+          (
+            digits-hold _ _ _ _ 16 _,
+            (typed-holds set o _ _ _ 14 ANS refl, (typed-holds set o _ _ _ 10 NB refl, (digits-hold _ _ _ _ 16 _, tt))),
+          ),
+        ),
+      ),
+    ),
+  )
 
   fit-90 : (addenda : ℕ) → firstUnfit v90 addenda (cashLetterControl .lines) (freeFields set o (cashLetterControl .lines)) ≡ 0
   unfolding controlValues firstUnfit fits

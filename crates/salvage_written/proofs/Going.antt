@@ -201,7 +201,7 @@ module _ (past : List Body) (s : State past) (t : ℕ) (v : Values) (new : NewCo
           let stops : turnOfRow v vs (before past) (entries Ascii past) (standing Ascii (before past) (entries Ascii past)) ≡ turns.Faulty (Total fault) =
           turn-is ∙ told ∙ ap (λ (c : Bool). unless c (turns.Faulty (Total fault)) (turns.Good t)) q in
           let answer : answerFrom (v ∷ vs) (before past) (entries Ascii past)
-              ≡ Refused (Total fault) (length (entries Ascii past) + 1) (offsetOf (length (before past))) =
+          ≡ Refused (Total fault) (length (entries Ascii past) + 1) (offsetOf (length (before past))) =
           ap
           (λ (turn : Turn).
           afterTurn (before past) (entries Ascii past) turn

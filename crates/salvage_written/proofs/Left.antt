@@ -227,7 +227,7 @@ module _ (set : CharacterSet) where
           let values : (letterValues set t ++ sv) ++ ws ≡ own-values ++ (sv ++ ws) =
           ap (λ (c : Bool). (cond c own-values [] ++ sv) ++ ws) k ∙ append-assoc own-values sv ws in
           let keeps : map (copied set) (keptBodies (sectionMarks set (letter t)) ++ kss) ++ ks
-              ≡ copied set (t .header) ∷ (map (copied set) kb ++ (map (copied set) kss ++ ks)) =
+          ≡ copied set (t .header) ∷ (map (copied set) kb ++ (map (copied set) kss ++ ks)) =
           ap (λ (l : List Body). map (copied set) (l ++ kss) ++ ks) (letter-kept set t k)
           ∙ ap (λ (l : List Body). copied set (t .header) ∷ l)
           (ap (λ (l : List Body). l ++ ks) (map-append (copied set) kb kss) ∙ append-assoc (map (copied set) kb) (map (copied set) kss) ks) in

@@ -38,7 +38,7 @@ use Rattle.salvage_model.specs.Runs.{of, Group, run, loose, soundAlone, runFaul
 use Rattle.salvage_model.specs.Kept.{Torn, isThrough, isSoundBundle, anyBundle, isKept, Fate, kept, renewed, dropped, Marked, marked, outOfPlace, runFate, groupMarks, groupsMarks, controlMarks, keptBodies, controlValues}
 use Rattle.salvage_model.specs.Promises.{copied}
 use Rattle.salvage_written.proofs.Carried.{GoodRun, Base, either-false, numbered-plain}
-use Rattle.salvage_written.proofs.Run.{BundleRest, closes, goes, AllViews, IsRun, bundle, credit, Plain, run-plain, run-same, run-left, bundle-opened, last-onto}
+use Rattle.salvage_written.proofs.Run.{BundleRest, closes, goes, AllViews, IsRun, bundle, credit, Plain, run-plain, run-same, run-left, bundle-opened, last-run}
 use Rattle.salvage_written.proofs.ReadRun.{SoundAs, sound-as, GoodThrough, through-good, base-header}
 use Rattle.salvage_written.proofs.Copies.{run-either, sound-either, type-either}
 use Rattle.salvage_written.proofs.Control.{new-90}
@@ -111,10 +111,6 @@ is-run-either : (set : CharacterSet) {bs : List Body} → IsRun set bs → IsRun
 is-run-either set (bundle {b} {bs} e r) = bundle (type-either set b ∙ e) (rest-either set r)
 is-run-either set (credit {b} {bs} e r) = credit (type-either set b ∙ e) (views-either set bs r)
 
-last-run : {r : List Body} (P Q : List Body) → IsRun Ascii r → lastIn Ascii (onto r P) ≡ lastIn Ascii (onto r Q)
-last-run P Q (bundle {b} {bs} e r) = last-onto Ascii bs (b ∷ P) (b ∷ Q) refl
-last-run P Q (credit {b} {bs} e r) = last-onto Ascii bs (b ∷ P) (b ∷ Q) refl
-
 -- what the marks keep
 pub kept-append : (ms ns : List Marked) → keptBodies (ms ++ ns) ≡ keptBodies ms ++ keptBodies ns
 kept-append [] ns = refl
@@ -176,7 +172,7 @@ module _ (set : CharacterSet) (t : Torn) (is-kept : isKept set t ≡ true) (alon
       let read = through-good Ascii own header cs (run-plain Ascii is) (run-either set (t .header) sound bs ∙ f) in
       let bare = base-header Ascii own [] (header .type) refl (omega arith) in
       let good = run-same Ascii own (own ∷ []) past bare base is (read .good) in
-      let ends : lastIn Ascii (onto cs past) ≡ 50 → ⊥ = λ e. read .ends (last-run (own ∷ []) past is ∙ e) in
+      let ends : lastIn Ascii (onto cs past) ≡ 50 → ⊥ = λ e. read .ends (last-run Ascii (own ∷ []) past is ∙ e) in
       let left = run-left Ascii own past is base good ends in
       let closed : (item : ℕ) → every (λ t. not (inRun item t)) (10 ∷ 52 ∷ 54 ∷ 61 ∷ 70 ∷ []) ≡ true → inRun item (lastIn Ascii (onto cs past)) ≡ false =
       λ item h. untrue (inRun item (lastIn Ascii (onto cs past))) (among (λ t. not (inRun item t)) (lastIn Ascii (onto cs past)) (10 ∷ 52 ∷ 54 ∷ 61 ∷ 70 ∷ []) h (left .base .ready)) in

@@ -50,9 +50,11 @@ module _ (P : Values → Type 0) where
             (cond c
             (valuesOfBody set (t .header) ∷ (map (valuesOfBody set) (keptBodies (groupsMarks set t (t .groups))) ++ (controlValues set cashLetterControl (t .control) ∷ [])))
             [])
-        by true =
-            (of-body (t .header), all-append (map (valuesOfBody set) (keptBodies (groupsMarks set t (t .groups))))
-            (controlValues set cashLetterControl (t .control) ∷ []) (all-bodies (keptBodies (groupsMarks set t (t .groups)))) (of-90 (t .control), tt))
+        by true = (
+          of-body (t .header),
+          all-append (map (valuesOfBody set) (keptBodies (groupsMarks set t (t .groups))))
+              (controlValues set cashLetterControl (t .control) ∷ []) (all-bodies (keptBodies (groupsMarks set t (t .groups)))) (of-90 (t .control), tt),
+        )
         by false = tt
 
     all-sections : (ss : List Section) → All P (sectionsValues set ss)
