@@ -27,7 +27,7 @@ use Rattle.arrangement.proofs.After.{onto-run}
 use Rattle.salvage_model.specs.Runs.{isRight, soundAlone, runFault, Group, run}
 use Rattle.salvage_model.specs.Kept.{Torn, isThrough, isSoundBundle, anyBundle, isKept}
 use Rattle.salvage_written.proofs.Carried.{GoodRun, Base, by-tables}
-use Rattle.salvage_written.proofs.Run.{IsRun, bundle, credit, run-plain, run-same, run-left, last-onto}
+use Rattle.salvage_written.proofs.Run.{IsRun, bundle, credit, run-plain, run-same, run-left, last-run}
 use Rattle.salvage_written.proofs.ReadRun.{two-long, SoundAs, sound-as, GoodThrough, good-through, base-header}
 use Rattle.salvage_same.proofs.Shape.{runOf, joined, contents-then, contents-run}
 use Rattle.salvage_same.proofs.Sections.{tornOf}
@@ -66,10 +66,6 @@ module _ (set : CharacterSet) where
   runs-begin [] a rest p = p
   runs-begin (r ∷ rs) a rest p = rw append-assoc (run-begins (joined rs ++ rest) (a .0))
 
-  last-run : {r : List Body} (P Q : List Body) → IsRun set r → lastIn set (onto r P) ≡ lastIn set (onto r Q)
-  last-run P Q (bundle {b} {bs} e r) = last-onto set bs (b ∷ P) (b ∷ Q) refl
-  last-run P Q (credit {b} {bs} e r) = last-onto set bs (b ∷ P) (b ∷ Q) refl
-
   -- the runs under a header
   record RunsThrough (header : Body) (rs : List (List Body)) (past rest : List Body) : Type 0 where
     each : All (λ (r : List Body). runFault set header r ≡ none) rs
@@ -88,7 +84,7 @@ module _ (set : CharacterSet) where
       let own : GoodThrough set (header ∷ []) r =
       record {
         good = run-same set header past (header ∷ []) base alone (a .0) (s .0);
-        ends = λ e. ends (last-run past (header ∷ []) (a .0) ∙ e);
+        ends = λ e. ends (last-run set past (header ∷ []) (a .0) ∙ e);
       } in
       let past-is = onto-run past r (joined rs) in
       record {

@@ -5,3 +5,4 @@ pub mod Letters
 pub mod Values
 pub mod Lost
 pub mod Again
+pub mod Promised

@@ -23,17 +23,10 @@ use Rattle.draft.specs.Values.{Piece, here, Values, isGiven, inAscii, fieldsGiv
 use Rattle.salvage_model.specs.Runs.{runFault, Group, run}
 use Rattle.salvage_model.specs.Kept.{Torn, Section, letter, ending, Fate, kept, renewed, dropped, Marked, marked, runFate, groupMarks, groupsMarks, sectionMarks, sectionsMarks, controlMarks, keptBodies, freeField, freeFields, controlValues, letterValues, sectionsValues, endingOf, anyKept}
 use Rattle.salvage_model.specs.Promises.{isDropped, noneDropped}
+use Rattle.salvage_written.proofs.Letters.{kept-marked, map-append}
 use Rattle.salvage_same.proofs.Shape.{runOf, joined, contents-then}
 use Rattle.salvage_same.proofs.Sections.{tornOf, sectionsFor}
 use Rattle.salvage_same.proofs.Letters.{KeptLetter}
-
-pub map-append : {A B : Type 0} (f : A → B) (xs ys : List A) → map f (xs ++ ys) ≡ map f xs ++ map f ys
-map-append f [] ys = refl
-map-append f (x ∷ xs) ys = ap (λ (l : List _). f x ∷ l) (map-append f xs ys)
-
-pub kept-bodies : (bs : List Body) → keptBodies (map (marked kept) bs) ≡ bs
-kept-bodies [] = refl
-kept-bodies (b ∷ bs) = ap (λ (l : List Body). b ∷ l) (kept-bodies bs)
 
 none-append : (xs ys : List Marked) → noneDropped xs → noneDropped ys → noneDropped (xs ++ ys)
 none-append [] ys p q = q
@@ -102,7 +95,7 @@ module _ (set : CharacterSet) where
     letter-values : Right set cashLetterControl (l .control)
         → letterValues set (tornOf set l) ≡ valuesOfBody set (l .header) ∷ (map (valuesOfBody set) (joined runs) ++ (valuesOfBody set (l .control) ∷ []))
     letter-values r =
-        rw (k .kept, letter-marks, kept-bodies (joined runs), own-90 set (l .control) r)
+        rw (k .kept, letter-marks, kept-marked (joined runs), own-90 set (l .control) r)
 
   pub none-dropped : (ls : List CashLetter) → All (KeptLetter set) ls → (c : Body) → noneDropped (sectionsMarks set (sectionsFor set ls c))
   none-dropped [] a c = (refl, tt)

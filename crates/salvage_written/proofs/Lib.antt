@@ -8,3 +8,6 @@ pub mod Control
 pub mod Addenda
 pub mod Going
 pub mod Groups
+pub mod Letters
+pub mod Left
+pub mod Refusals

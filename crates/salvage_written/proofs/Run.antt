@@ -144,9 +144,13 @@ record Under (set : CharacterSet) (header : Body) (past : List Body) : Type 0 wh
   indicator : indicatorIn set past ≡ indicatorOf set header
   heading : newest set (is 10) past ≡ header
 
-pub last-onto : (set : CharacterSet) (bs P Q : List Body) → lastIn set P ≡ lastIn set Q → lastIn set (onto bs P) ≡ lastIn set (onto bs Q)
+last-onto : (set : CharacterSet) (bs P Q : List Body) → lastIn set P ≡ lastIn set Q → lastIn set (onto bs P) ≡ lastIn set (onto bs Q)
 last-onto set [] P Q e = e
 last-onto set (b ∷ bs) P Q e = last-onto set bs (b ∷ P) (b ∷ Q) refl
+
+pub last-run : (set : CharacterSet) {r : List Body} (P Q : List Body) → IsRun set r → lastIn set (onto r P) ≡ lastIn set (onto r Q)
+last-run set P Q (bundle {b} {bs} e r) = last-onto set bs (b ∷ P) (b ∷ Q) refl
+last-run set P Q (credit {b} {bs} e r) = last-onto set bs (b ∷ P) (b ∷ Q) refl
 
 module _ (set : CharacterSet) (header : Body) where
   -- one record that opens and closes nothing
