@@ -1,8 +1,8 @@
 -- What is written of a torn file, salvaged again, is the same. Assumes nothing.
 use Prim.Native.Nat.{ℕ, _*_, _≤_}
 use native.Mathlib.Omega.{arith}
-use mathlib.Core.Path.{_≡_, refl, sym, ap, ap₂, _∙_, subst}
-use mathlib.Core.List.{List, [], _∷_, _++_}
+use mathlib.Core.Path.{_≡_, sym, ap, ap₂, _∙_, subst}
+use mathlib.Core.List.{List, [], _∷_}
 use lib.ListN.{length, take}
 use Rattle.text.specs.CharacterSet.{setOf}
 use Rattle.text.specs.declared.character_set.CharacterSet.{CharacterSet}
@@ -25,7 +25,7 @@ use Rattle.arrangement.proofs.Theorem.{arranged-accepted}
 use Rattle.same_bytes.proofs.Found.{accepted-good}
 use Rattle.draft.specs.declared.Outcome.the-variants.{Written}
 use Rattle.draft.specs.Values.{Values}
-use Rattle.draft.specs.Drafted.{completedFrom, made, answerFrom}
+use Rattle.draft.specs.Drafted.{made, answerFrom}
 use Rattle.draft.proofs.Shapes.{AllShaped}
 use Rattle.made_is_read.proofs.Whole.{accepted}
 use Rattle.values_back.proofs.Whole.{bodiesFrom, framed-from}

@@ -1,32 +1,28 @@
 -- Each cash letter of an accepted file is kept, with all its runs. Assumes nothing.
-use Prim.Native.Nat.{ℕ, zero, suc, _+_, _≤_}
+use Prim.Native.Nat.{ℕ, _≤_}
 use native.Mathlib.Omega.{arith}
-use mathlib.Core.Bool.{Bool, true, false, _&&_, _||_, not, cond}
+use mathlib.Core.Bool.{Bool, true, false, _||_, not}
 use mathlib.Core.Logic.{_⊎_, inl, inr}
-use mathlib.Core.Option.{Option, none, some}
-use mathlib.Core.Path.{_≡_, refl, sym, ap, ap₂, _∙_, subst}
+use mathlib.Core.Option.{none}
+use mathlib.Core.Path.{_≡_, refl, _∙_, subst}
 use mathlib.Core.List.{List, [], _∷_, _++_, map, append-assoc}
-use lib.Dec.{leb, eqb}
-use lib.ListN.{length}
+use lib.Dec.{eqb}
 use borrow.Author.Tests.{eq-eqb}
 use Rattle.text.specs.declared.character_set.CharacterSet.{CharacterSet}
-use Rattle.frame.specs.Unless.{unless}
-use Rattle.judge.specs.declared.Judged.{Judged}
-use Rattle.judge.specs.declared.Judged.the-variants.{Sound, WrongLength}
-use Rattle.judge.specs.Alone.{typeOf, judgedAs, judgedRecord}
+use Rattle.judge.specs.Alone.{typeOf, judgedRecord}
 use Rattle.file_as_records.specs.Framed.{Body}
 use Rattle.file_as_records.proofs.Figures.{lastIn, insideIn, presentIn, statedIn, addendaIn}
 use Rattle.file_as_records.proofs.Good.{Good, GoodAll, onto}
-use Rattle.file_as_records.proofs.Tests.{refuted, where-in, not-both}
-use Rattle.passes.specs.declared.Fault.{Fault}
+use Rattle.file_as_records.proofs.Tests.{refuted, where-in}
 use Rattle.arrangement.specs.Tree.{Content, bundled, direct, CashLetter}
-use Rattle.arrangement.specs.Written.{contentsThen, lettersThen}
+use Rattle.arrangement.specs.Written.{lettersThen}
 use Rattle.arrangement.specs.Sound.{All, total, isBundle, indicator, N, SoundLetter}
 use Rattle.arrangement.specs.TypesInPlace.{TypedContent, TypedLetter}
 use Rattle.arrangement.proofs.After.{onto-run}
-use Rattle.salvage_model.specs.Runs.{isRight, soundAlone, runFault, Group, run}
-use Rattle.salvage_model.specs.Kept.{Torn, isThrough, isSoundBundle, anyBundle, isKept}
-use Rattle.salvage_written.proofs.Carried.{GoodRun, Base, by-tables}
+use Rattle.salvage_model.specs.Runs.{soundAlone, runFault, run}
+use Rattle.salvage_model.specs.Kept.{isSoundBundle, anyBundle, isKept}
+use Rattle.same_bytes.proofs.Addenda.{GoodRun}
+use Rattle.salvage_written.proofs.Carried.{Base, by-tables}
 use Rattle.salvage_written.proofs.Run.{IsRun, bundle, credit, run-plain, run-same, run-left, last-run}
 use Rattle.salvage_written.proofs.ReadRun.{two-long, SoundAs, sound-as, GoodThrough, good-through, base-header}
 use Rattle.salvage_same.proofs.Shape.{runOf, joined, contents-then, contents-run}

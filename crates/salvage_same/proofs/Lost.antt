@@ -1,19 +1,18 @@
 -- An accepted file, salvaged with room, loses nothing: every record is kept or made new, and the bytes are its own, or those of its copy. Assumes nothing.
-use Prim.Native.Nat.{ℕ, _+_, _*_, _/_, _≤_}
+use Prim.Native.Nat.{ℕ, _*_, _/_, _≤_}
 use native.Mathlib.Omega.{arith}
-use mathlib.Core.Bool.{Bool, true, false, _&&_, cond}
+use mathlib.Core.Bool.{true}
 use mathlib.Core.Option.{some}
-use mathlib.Core.Path.{_≡_, refl, sym, ap, ap₂, _∙_, subst}
+use mathlib.Core.Path.{_≡_, refl, sym, ap, _∙_}
 use mathlib.Core.List.{List, [], _∷_, _++_, map}
 use lib.Dec.{leb}
-use lib.ListN.{length, take, drop}
+use lib.ListN.{length, take}
 use borrow.Author.Tests.{le-leb}
 use Rattle.text.specs.CharacterSet.{setOf}
 use Rattle.text.specs.declared.character_set.CharacterSet.{CharacterSet}
 use Rattle.layout.specs.Layouts.{cashLetterControl}
-use Rattle.judge.specs.Alone.{typeOf}
 use Rattle.ascii_copy.specs.AsciiCopy.{asciiCopy}
-use Rattle.file_as_records.specs.Framed.{Body, framed}
+use Rattle.file_as_records.specs.Framed.{Body}
 use Rattle.file_as_records.proofs.Good.{GoodAll}
 use Rattle.arrangement.specs.Tree.{CashLetter, File}
 use Rattle.arrangement.specs.Written.{lettersThen, records}
@@ -22,16 +21,14 @@ use Rattle.arrangement.specs.Arranged.{Arranges}
 use Rattle.arrangement.specs.RowsAndTotals.{totals}
 use Rattle.arrangement.proofs.SoundTyped.{sound-typed}
 use Rattle.arrangement.proofs.Goodness.{sound-good}
-use Rattle.passes.specs.declared.Totals.{Totals}
 use Rattle.draft.specs.declared.Outcome.{Outcome}
 use Rattle.draft.specs.declared.Outcome.the-variants.{Written}
 use Rattle.draft.specs.Values.{Values, valuesOfBody, valuesOf}
-use Rattle.draft.specs.Drafted.{made, outcomeOf, bufferAfter, bufferOf}
+use Rattle.draft.specs.Drafted.{made, bufferAfter, bufferOf}
 use Rattle.same_bytes.proofs.Either.{made-again}
-use Rattle.salvage_model.specs.Runs.{soundAlone}
 use Rattle.salvage_model.specs.Walked.{walked}
-use Rattle.salvage_model.specs.Kept.{Section, marksOf, sectionsMarks, sectionsOf, sectionsValues, endingOf, controlValues, salvagedValues, anyKept, isAnything}
-use Rattle.salvage_model.specs.Salvaged.{valuesLeft, inList, salvageOutcome, salvageBuffer}
+use Rattle.salvage_model.specs.Kept.{Section, marksOf, sectionsOf, sectionsValues, endingOf, controlValues, salvagedValues, isAnything}
+use Rattle.salvage_model.specs.Salvaged.{valuesLeft, salvageOutcome, salvageBuffer}
 use Rattle.salvage_model.specs.Promises.{noneDropped, NothingLost}
 use Rattle.salvage_same.proofs.Walk.{walked-records}
 use Rattle.salvage_same.proofs.Sections.{sections-of, sectionsFor}

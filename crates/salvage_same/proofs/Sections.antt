@@ -1,10 +1,10 @@
 -- Runs one behind the other are the groups of what lies under a header, and cash letters one behind the other are the sections of a file. Assumes nothing.
-use Prim.Native.Nat.{ℕ, zero, suc, _+_, _≤_}
+use Prim.Native.Nat.{ℕ, zero, suc, _≤_}
 use native.Mathlib.Omega.{arith}
-use mathlib.Core.Bool.{Bool, true, false, _&&_, _||_, not, cond}
-use mathlib.Core.Option.{Option, none, some}
-use mathlib.Core.Path.{_≡_, refl, sym, ap, ap₂, _∙_, subst}
-use mathlib.Core.List.{List, [], _∷_, _++_, map, append-assoc, append-nil}
+use mathlib.Core.Bool.{Bool, true, false, not}
+use mathlib.Core.Option.{some}
+use mathlib.Core.Path.{_≡_, refl, sym, ap, ap₂, _∙_}
+use mathlib.Core.List.{List, [], _∷_, _++_, map, append-assoc}
 use lib.Dec.{eqb}
 use lib.ListN.{length, length-append}
 use Rattle.text.specs.declared.character_set.CharacterSet.{CharacterSet}
@@ -12,13 +12,12 @@ use Rattle.judge.specs.Alone.{typeOf}
 use Rattle.order.specs.MayFollow.{isOneOf}
 use Rattle.order.proofs.Laws.{among}
 use Rattle.file_as_records.specs.Framed.{Body}
-use Rattle.file_as_records.proofs.Tests.{untrue}
 use Rattle.arrangement.specs.Tree.{CashLetter}
 use Rattle.arrangement.specs.Written.{contentsThen, lettersThen}
 use Rattle.arrangement.specs.Sound.{All}
 use Rattle.arrangement.specs.TypesInPlace.{TypedLetter}
-use Rattle.salvage_model.specs.Runs.{leading, following, of, notOf, Group, run, loose, stretchThen, groupsFrom, groupsOf}
-use Rattle.salvage_model.specs.Kept.{Torn, Section, letter, ending, stray, sectionsFrom, sectionsOf}
+use Rattle.salvage_model.specs.Runs.{leading, following, of, notOf, Group, run, stretchThen, groupsFrom, groupsOf}
+use Rattle.salvage_model.specs.Kept.{Torn, Section, letter, ending, sectionsFrom, sectionsOf}
 use Rattle.salvage_written.proofs.Carried.{either-false}
 use Rattle.salvage_written.proofs.Run.{BundleRest, closes, goes, AllViews, IsRun, bundle, credit}
 use Rattle.salvage_same.proofs.Shape.{runOf, joined, contents-then, contents-run}

@@ -1,22 +1,17 @@
 -- What a file consists of, as sections and groups: each cash letter one section, and each bundle and each credit under its header one run. Assumes nothing.
-use Prim.Native.Nat.{ℕ, zero, suc, _+_, _≤_}
-use native.Mathlib.Omega.{arith}
-use mathlib.Core.Bool.{Bool, true, false, _&&_, _||_, not, cond}
+use Prim.Native.Nat.{ℕ}
+use mathlib.Core.Bool.{false}
 use mathlib.Core.Option.{Option, none, some}
-use mathlib.Core.Path.{_≡_, refl, sym, ap, ap₂, _∙_, subst}
+use mathlib.Core.Path.{_≡_, refl, sym, ap, _∙_}
 use mathlib.Core.List.{List, [], _∷_, _++_, map, append-assoc, append-nil}
-use lib.Dec.{eqb}
-use lib.ListN.{length, length-append}
 use Rattle.text.specs.declared.character_set.CharacterSet.{CharacterSet}
 use Rattle.judge.specs.Alone.{typeOf}
 use Rattle.order.specs.MayFollow.{isOneOf}
-use Rattle.order.proofs.Laws.{among}
 use Rattle.file_as_records.specs.Framed.{Body}
-use Rattle.file_as_records.proofs.Tests.{untrue}
-use Rattle.arrangement.specs.Tree.{View, Addenda, ofCheck, ofReturn, ofCredit, Item, Bundle, Credit, Content, bundled, direct, CashLetter, File}
-use Rattle.arrangement.specs.Written.{optionalThen, viewThen, viewsThen, addendaThen, itemThen, itemsThen, bundleThen, creditThen, contentThen, contentsThen, letterThen, lettersThen, records}
+use Rattle.arrangement.specs.Tree.{View, Addenda, ofCheck, ofReturn, ofCredit, Item, Content, bundled, direct}
+use Rattle.arrangement.specs.Written.{optionalThen, viewsThen, addendaThen, itemThen, itemsThen, contentThen, contentsThen}
 use Rattle.arrangement.specs.Sound.{All, IfAny}
-use Rattle.arrangement.specs.TypesInPlace.{OfType, TypedView, TypedAddenda, TypedItem, TypedBundle, TypedCredit, TypedContent, TypedLetter, Typed}
+use Rattle.arrangement.specs.TypesInPlace.{OfType, TypedView, TypedAddenda, TypedItem, TypedContent}
 use Rattle.salvage_written.proofs.Run.{BundleRest, closes, goes, AllViews, IsRun, bundle, credit}
 use Rattle.arrangement.specs.Sound as sound
 

@@ -1,28 +1,28 @@
 -- What is kept and made new of an accepted file are its own values, and nothing is dropped. Assumes nothing.
-use Prim.Native.Nat.{ℕ, zero, suc, _+_, _-_, _≤_}
+use Prim.Native.Nat.{ℕ, _+_, _-_, _≤_}
 use native.Mathlib.Nat.{zero-add}
 use native.Mathlib.Omega.{arith}
-use mathlib.Core.Bool.{Bool, true, false, _&&_, _||_, not, cond}
-use mathlib.Core.Option.{Option, none, some}
-use mathlib.Core.Path.{_≡_, refl, sym, ap, ap₂, _∙_, subst}
+use mathlib.Core.Bool.{Bool, true, false, _||_, cond}
+use mathlib.Core.Option.{none, some}
+use mathlib.Core.Path.{_≡_, refl, sym, ap, ap₂, _∙_}
 use mathlib.Core.List.{List, [], _∷_, _++_, map, append-assoc}
 use lib.Dec.{leb, eqb}
 use lib.ListN.{length}
 use borrow.Author.Tests.{leb-true, le-leb}
 use Rattle.text.specs.declared.character_set.CharacterSet.{CharacterSet}
-use Rattle.layout.specs.Layout.{Line, Layout, sizedParts}
+use Rattle.layout.specs.Layout.{Line}
 use Rattle.layout.specs.Layouts.{cashLetterControl, fileControl}
-use Rattle.judge.specs.Alone.{typeOf, charactersOf, lineHolds, statedSizes}
+use Rattle.judge.specs.Alone.{lineHolds}
 use Rattle.judge.proofs.Laws.{both-true}
 use Rattle.file_as_records.specs.Framed.{Body}
 use Rattle.file_as_records.proofs.Held.{within}
 use Rattle.arrangement.specs.Tree.{CashLetter}
-use Rattle.arrangement.specs.Written.{contentsThen, lettersThen}
+use Rattle.arrangement.specs.Written.{lettersThen}
 use Rattle.arrangement.specs.Sound.{All, Right}
-use Rattle.draft.specs.Values.{Piece, here, Values, isGiven, inAscii, fieldsGiven, layoutOf, valuesAt, valuesOfBody}
-use Rattle.salvage_model.specs.Runs.{runFault, Group, run}
-use Rattle.salvage_model.specs.Kept.{Torn, Section, letter, ending, Fate, kept, renewed, dropped, Marked, marked, runFate, groupMarks, groupsMarks, sectionMarks, sectionsMarks, controlMarks, keptBodies, freeField, freeFields, controlValues, letterValues, sectionsValues, endingOf, anyKept}
-use Rattle.salvage_model.specs.Promises.{isDropped, noneDropped}
+use Rattle.draft.specs.Values.{Piece, Values, isGiven, fieldsGiven, layoutOf, valuesAt, valuesOfBody}
+use Rattle.salvage_model.specs.Runs.{runFault, run}
+use Rattle.salvage_model.specs.Kept.{letter, kept, renewed, Marked, marked, groupMarks, groupsMarks, sectionMarks, sectionsMarks, freeFields, controlValues, letterValues, sectionsValues, endingOf, anyKept}
+use Rattle.salvage_model.specs.Promises.{noneDropped}
 use Rattle.salvage_written.proofs.Letters.{kept-marked, map-append}
 use Rattle.salvage_same.proofs.Shape.{runOf, joined, contents-then}
 use Rattle.salvage_same.proofs.Sections.{tornOf, sectionsFor}

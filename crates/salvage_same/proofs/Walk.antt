@@ -1,21 +1,20 @@
 -- The records of an accepted file are those walked. Assumes nothing.
 use Prim.Native.Nat.{ℕ, zero, suc, _+_, _≤_}
 use native.Mathlib.Omega.{arith}
-use mathlib.Core.Bool.{Bool, true, false, _&&_, cond}
-use mathlib.Core.Path.{_≡_, refl, sym, ap, _∙_, subst}
-use mathlib.Core.List.{List, [], _∷_, _++_}
+use mathlib.Core.Bool.{Bool, true, false, cond}
+use mathlib.Core.Path.{_≡_, refl, sym, ap, _∙_}
+use mathlib.Core.List.{List, [], _∷_}
 use lib.Dec.{leb, eqb}
-use lib.ListN.{length, drop, length-append, length-drop}
-use borrow.Author.Tests.{eqb-true, le-leb, leb-true}
+use lib.ListN.{length, drop, length-drop}
+use borrow.Author.Tests.{leb-true}
 use Rattle.text.specs.CharacterSet.{setOf}
 use Rattle.text.specs.declared.character_set.CharacterSet.{CharacterSet}
 use Rattle.frame.specs.declared.Frame.{Frame}
 use Rattle.frame.specs.declared.Frame.the-variants.{Cut, Whole}
-use Rattle.frame.specs.Frames.{part, lengthAt, frameAt}
+use Rattle.frame.specs.Frames.{lengthAt, frameAt}
 use Rattle.frame.specs.Unless.{unless}
 use Rattle.judge.specs.Alone.{typeOf}
 use Rattle.file_as_records.specs.Framed.{Body, framed}
-use Rattle.file_as_records.proofs.Figures.{lastIn}
 use Rattle.file_as_records.proofs.Good.{GoodAll}
 use Rattle.file_as_records.proofs.Opened.{none-after}
 use Rattle.file_as_records.proofs.ReadThrough.{part-is, rest-is, frame-is, long}

@@ -5,8 +5,8 @@ use mathlib.Core.Bool.{Bool, true, false, _&&_, _||_, not, cond}
 use mathlib.Core.Path.{_≡_, refl, sym, ap, ap₂, _∙_, subst}
 use mathlib.Core.List.{List, [], _∷_, _++_}
 use mathlib.Core.Logic.{_⊎_}
-use lib.Dec.{leb, eqb}
-use borrow.Author.Tests.{eqb-true, leb-true, le-leb}
+use lib.Dec.{eqb}
+use borrow.Author.Tests.{eqb-true, le-leb}
 use Rattle.text.specs.declared.character_set.CharacterSet.{CharacterSet}
 use Rattle.text.specs.Characters.{isBlank}
 use Rattle.text.specs.DataTypes.{every}
@@ -15,22 +15,16 @@ use Rattle.layout.specs.Layouts.{cashLetterHeader, bundleHeader, bundleControl,
 use Rattle.judge.specs.Alone.{typeOf}
 use Rattle.order.specs.MayFollow.{outside, inside, table, isOneOf, inTable, follows, isCheckOrReturn, isItem, isAddendum, oneItemType, mayFollow}
 use Rattle.order.proofs.Pairs.{throughout, listed}
-use Rattle.order.proofs.Laws.{among}
 use Rattle.standing.specs.History.{one, isBofdAddendum, isEndorserAddendum}
 use Rattle.agree.specs.Links.{addendaKept, annexB}
 use Rattle.file_as_records.specs.Framed.{Body, fieldOf}
-use Rattle.file_as_records.proofs.CheckLists.{numberedAs, institutionIn, dateIn}
-use Rattle.file_as_records.proofs.Figures.{value, sumSince, newest, atNewest, is, count, indicatorOf, signatureOf, statedAs, micrAs, debitAs, creditAs, isDebitAs, isCreditAs, lastIn, insideIn, presentIn, holderIn, openedIn, debitsSince, debitSince, creditsSince, creditSince, viewsSince, micrIn, addendaIn, bofdIn, endorserIn, shownIn, statedIn, indicatorIn, signatureIn, sequenceOf}
-use Rattle.file_as_records.proofs.Good.{GoodAs, Good, Then}
+use Rattle.file_as_records.proofs.CheckLists.{numberedAs}
+use Rattle.file_as_records.proofs.Figures.{value, sumSince, newest, is, count, indicatorOf, signatureOf, statedAs, micrAs, debitAs, creditAs, isDebitAs, isCreditAs, lastIn, insideIn, presentIn, holderIn, openedIn, addendaIn, bofdIn, endorserIn, shownIn, statedIn, indicatorIn, signatureIn, sequenceOf}
+use Rattle.file_as_records.proofs.Good.{GoodAs}
 use Rattle.file_as_records.proofs.LinksByName.{Linked, ViewLinked}
-use Rattle.file_as_records.proofs.TotalsByName.{Totalled, BundleTotals}
-use Rattle.file_as_records.proofs.Opened.{has, inItem, Opened, opening}
+use Rattle.file_as_records.proofs.TotalsByName.{Totalled}
+use Rattle.file_as_records.proofs.Opened.{has, inItem}
 use Rattle.file_as_records.proofs.Tests.{both, refuted, under, where-in, untrue, not-both}
-
--- records one behind the other, each good behind those before it
-abbrev pub GoodRun : CharacterSet → List Body → List Body → Type 0
-GoodRun set past [] = Unit {0}
-GoodRun set past (b ∷ bs) = Then (Good set past b) (GoodRun set (b ∷ past) bs)
 
 -- what stands before a run, under a cash letter header
 pub record Base (set : CharacterSet) (header : Body) (past : List Body) : Type 0 where

@@ -1,10 +1,9 @@
 -- A new control keeps the rule of each of its fields: what is worked out is digits, and what is free holds or is blank. Assumes nothing.
-use Prim.Native.Nat.{ℕ, zero, suc, _+_, _-_, _≤_, min}
-use native.Mathlib.Omega.{arith}
-use mathlib.Core.Bool.{Bool, true, false, _&&_, _||_, cond}
+use Prim.Native.Nat.{ℕ, zero, suc, _+_, _-_}
+use mathlib.Core.Bool.{Bool, true, false, _&&_, cond}
 use mathlib.Core.Option.{Option, none, some}
-use mathlib.Core.Path.{_≡_, refl, sym, ap, ap₂, _∙_, subst}
-use mathlib.Core.List.{List, [], _∷_, _++_, map, append-assoc}
+use mathlib.Core.Path.{_≡_, refl, sym, ap, ap₂, _∙_}
+use mathlib.Core.List.{List, [], _∷_, _++_, append-assoc}
 use lib.Dec.{leb, eqb}
 use lib.ListN.{length, take, drop}
 use lib.Seq.{take-at, drop-at, drop-drop}
@@ -13,20 +12,20 @@ use Rattle.text.specs.declared.character_set.CharacterSet.{CharacterSet}
 use Rattle.text.specs.declared.character_set.CharacterSet.the-variants.{Ascii, Ebcdic}
 use Rattle.text.specs.declared.data_types.DataType.{DataType}
 use Rattle.text.specs.declared.data_types.DataType.the-variants.{N, NB, ANS}
-use Rattle.text.specs.Characters.{isNumeric, isBlank}
-use Rattle.text.specs.DataTypes.{every, some as any, isMark, ofType}
+use Rattle.text.specs.Characters.{isBlank}
+use Rattle.text.specs.DataTypes.{every, ofType}
 use Rattle.text.specs.Number.{number}
 use Rattle.decimal.specs.Digits.{digits, fits}
 use Rattle.decimal.proofs.Laws.{digits-long, digits-numeric}
 use Rattle.copying.specs.Times.{times}
-use Rattle.field.specs.declared.Usage.the-variants.{Mandatory, Conditional}
+use Rattle.field.specs.declared.Usage.the-variants.{Conditional}
 use Rattle.field.specs.declared.Rule.{Rule}
 use Rattle.field.specs.declared.Rule.the-variants.{DataTypeAlone, Date}
 use Rattle.field.specs.Rules.{follows, meets, holds}
 use Rattle.frame.specs.Frames.{part}
 use Rattle.layout.specs.declared.packing.Origin.{Origin}
 use Rattle.layout.specs.declared.packing.Origin.the-variants.{Given, TypeNumber}
-use Rattle.layout.specs.Layout.{Line, Layout, line, M, C, only, sizedParts}
+use Rattle.layout.specs.Layout.{Line, line, M, C, only, sizedParts}
 use Rattle.layout.specs.Layouts.{cashLetterControl, fileControl}
 use Rattle.judge.specs.Alone.{lineHolds, firstWrong}
 use Rattle.judge.proofs.Laws.{both-true}
@@ -36,7 +35,7 @@ use Rattle.standing.specs.declared.Standing.{Standing}
 use Rattle.standing.specs.Standing.{cappedFigures}
 use Rattle.file_as_records.specs.Framed.{Body}
 use Rattle.draft.specs.Values.{Piece, here, Values, isGiven, inAscii, layoutOf}
-use Rattle.draft.specs.Completed.{next, isHere, charactersOf, workedOut, statement, fixedPart, allParts, completed, firstUnfit, firstUnfitPart, lower}
+use Rattle.draft.specs.Completed.{next, isHere, charactersOf, workedOut, fixedPart, allParts, completed, firstUnfit, firstUnfitPart, lower}
 use Rattle.draft.specs.Drafted.{fieldFault}
 use Rattle.draft.specs.Promises.{everyHere}
 use Rattle.draft.proofs.Shapes.{Shaped, piece-long}

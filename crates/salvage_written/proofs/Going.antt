@@ -1,22 +1,20 @@
 -- The writer goes on over a kept record as over itself, and over a new control unless a total is too long. Assumes nothing.
-use Prim.Native.Nat.{ℕ, _+_, _≤_, _<_}
+use Prim.Native.Nat.{ℕ, _+_, _<_}
 use native.Mathlib.Omega.{arith}
-use mathlib.Core.Bool.{Bool, true, false, _&&_, _||_, cond}
+use mathlib.Core.Bool.{Bool, true, false, cond}
 use mathlib.Core.Path.{_≡_, refl, sym, ap, ap₂, _∙_, subst}
-use mathlib.Core.List.{List, [], _∷_, _++_, map}
-use lib.Dec.{leb, eqb}
-use lib.ListN.{length, drop}
+use mathlib.Core.List.{List, [], _∷_, _++_}
+use lib.Dec.{eqb}
+use lib.ListN.{length}
 use lib.Seq.{drop-at}
-use borrow.Author.Tests.{eq-eqb, le-leb}
+use borrow.Author.Tests.{eq-eqb}
 use Rattle.text.specs.declared.character_set.CharacterSet.the-variants.{Ascii}
 use Rattle.frame.specs.Unless.{unless}
-use Rattle.layout.specs.Layout.{sizedParts}
 use Rattle.judge.specs.declared.Judged.the-variants.{Sound}
 use Rattle.judge.specs.Alone.{typeOf, judgedAs}
 use Rattle.order.specs.MayFollow.{isOneOf, mayFollow, isCarried}
-use Rattle.standing.specs.History.{Entry, entry}
+use Rattle.standing.specs.History.{entry}
 use Rattle.standing.specs.Standing.{standing}
-use Rattle.standing.specs.declared.Standing.{Standing}
 use Rattle.agree.specs.Links.{linkFault}
 use Rattle.agree.specs.Totals.{totalFault}
 use Rattle.passes.specs.declared.Fault.{Fault}
@@ -32,9 +30,9 @@ use Rattle.file_as_records.proofs.Opened.{AllOpened, none-opened, all-opened}
 use Rattle.file_as_records.proofs.ReadThrough.{body-is}
 use Rattle.draft.specs.declared.Outcome.{Outcome}
 use Rattle.draft.specs.declared.Outcome.the-variants.{Written, Refused}
-use Rattle.draft.specs.Values.{Values, layoutOf, valuesAt, valuesOfBody}
-use Rattle.draft.specs.Completed.{addendaBehind, completed, firstUnfitPart}
-use Rattle.draft.specs.Drafted.{bodyOf, fileWith, pastWith, fieldFault, turnOfRow, offsetOf, afterTurn, rowsEnded, answerFrom}
+use Rattle.draft.specs.Values.{Values, valuesAt, valuesOfBody}
+use Rattle.draft.specs.Completed.{addendaBehind, completed}
+use Rattle.draft.specs.Drafted.{bodyOf, fileWith, pastWith, turnOfRow, offsetOf, afterTurn, rowsEnded, answerFrom}
 use Rattle.draft.proofs.Judged.{completed-type, completed-judged}
 use Rattle.same_bytes.proofs.Again.{before, long-before, held-more, held-here, held-older, agrees}
 use Rattle.same_bytes.proofs.Itself.{ItselfAs}

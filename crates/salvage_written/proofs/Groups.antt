@@ -1,8 +1,8 @@
 -- Every group of what is walked that is called a run is one. Assumes nothing.
 use Prim.Native.Nat.{ℕ, zero, suc}
-use mathlib.Core.Bool.{Bool, true, false, _&&_, _||_, not, cond}
+use mathlib.Core.Bool.{Bool, true, false, not, cond}
 use mathlib.Core.Option.{none, some}
-use mathlib.Core.Path.{_≡_, refl, sym, ap, _∙_}
+use mathlib.Core.Path.{_≡_, refl}
 use mathlib.Core.List.{List, [], _∷_, _++_}
 use lib.Dec.{eqb}
 use lib.ListN.{length}
@@ -11,12 +11,12 @@ use Rattle.text.specs.declared.character_set.CharacterSet.{CharacterSet}
 use Rattle.judge.specs.Alone.{typeOf}
 use Rattle.order.specs.MayFollow.{isOneOf}
 use Rattle.file_as_records.specs.Framed.{Body}
-use Rattle.file_as_records.proofs.Tests.{untrue, not-both}
+use Rattle.file_as_records.proofs.Tests.{untrue}
 use Rattle.arrangement.specs.Sound.{All}
 use Rattle.salvage_model.specs.Runs.{leading, following, of, notOf, Group, run, loose, stretchThen, groupsFrom, groupsOf}
-use Rattle.salvage_model.specs.Kept.{Torn, Section, letter, ending, stray, letterThen, sectionsFrom, sectionsOf}
+use Rattle.salvage_model.specs.Kept.{Section, letter, ending, stray, letterThen, sectionsFrom, sectionsOf}
 use Rattle.salvage_written.proofs.Carried.{either-false}
-use Rattle.salvage_written.proofs.Run.{BundleRest, closes, goes, AllViews, IsRun, bundle, credit}
+use Rattle.salvage_written.proofs.Run.{BundleRest, closes, goes, IsRun, bundle, credit}
 
 leading-passes : (test : Body → Bool) (bs : List Body) → All (λ (b : Body). test b ≡ true) (leading test bs)
 leading-passes test [] = tt

@@ -1,12 +1,11 @@
 -- The writer goes on over all that is left of a torn file: kept headers, their sound runs and new controls. Assumes nothing.
-use Prim.Native.Nat.{ℕ, zero, suc, _+_, _≤_}
+use Prim.Native.Nat.{ℕ, _≤_}
 use native.Mathlib.Omega.{arith}
 use mathlib.Core.Bool.{Bool, true, false, _&&_, _||_, not, cond}
 use mathlib.Core.Option.{Option, none, some}
 use mathlib.Core.Path.{_≡_, refl, sym, ap, ap₂, _∙_, subst}
 use mathlib.Core.List.{List, [], _∷_, _++_, map, append-assoc, append-nil}
-use lib.Dec.{leb, eqb}
-use lib.ListN.{length}
+use lib.Dec.{eqb}
 use borrow.Author.Tests.{le-leb, ne-eqb}
 use Rattle.text.specs.declared.character_set.CharacterSet.{CharacterSet}
 use Rattle.text.specs.declared.character_set.CharacterSet.the-variants.{Ascii}
@@ -18,7 +17,7 @@ use Rattle.order.proofs.Laws.{among}
 use Rattle.agree.specs.Links.{addendaKept, annexB, numberedOn, linkFault}
 use Rattle.passes.specs.declared.Fault.{Fault}
 use Rattle.file_as_records.specs.Framed.{Body}
-use Rattle.file_as_records.proofs.Figures.{indicatorOf, lastIn, insideIn, presentIn, holderIn, openedIn, addendaIn, shownIn, statedIn, indicatorIn}
+use Rattle.file_as_records.proofs.Figures.{lastIn, insideIn, presentIn, holderIn, openedIn, addendaIn, shownIn, statedIn, indicatorIn}
 use Rattle.file_as_records.proofs.Good.{GoodAs, Good}
 use Rattle.file_as_records.proofs.Held.{over}
 use Rattle.file_as_records.proofs.TotalsByName.{not-totalled}
@@ -26,7 +25,7 @@ use Rattle.file_as_records.proofs.Tests.{both, refuted, not-both}
 use Rattle.arrangement.specs.Sound.{All, indicator, N}
 use Rattle.draft.specs.Values.{Values, valuesOfBody}
 use Rattle.salvage_model.specs.Runs.{Group, run, loose, soundAlone, runFault}
-use Rattle.salvage_model.specs.Kept.{Torn, Section, letter, ending, stray, anyBundle, isKept, Fate, kept, renewed, dropped, Marked, marked, outOfPlace, runFate, groupMarks, groupsMarks, controlMarks, sectionMarks, sectionsMarks, sectionsOf, marksOf, keptBodies, controlValues, letterValues, sectionsValues, endingOf, salvagedValues, anyKept, isAnything}
+use Rattle.salvage_model.specs.Kept.{Torn, Section, letter, ending, stray, anyBundle, isKept, Fate, kept, marked, outOfPlace, runFate, groupMarks, groupsMarks, controlMarks, sectionMarks, sectionsMarks, sectionsOf, marksOf, keptBodies, controlValues, letterValues, sectionsValues, endingOf, salvagedValues, anyKept, isAnything}
 use Rattle.salvage_model.specs.Promises.{copied}
 use Rattle.salvage_written.proofs.Carried.{Base}
 use Rattle.salvage_written.proofs.Run.{Plain}

@@ -1,49 +1,43 @@
 -- The writer goes on over a kept run, over a kept cash letter with its new control, and over all that is left. Assumes nothing.
-use Prim.Native.Nat.{ℕ, zero, suc, _+_, _≤_}
+use Prim.Native.Nat.{ℕ, _≤_}
 use native.Mathlib.Omega.{arith}
-use mathlib.Core.Bool.{Bool, true, false, _&&_, _||_, not, cond}
+use mathlib.Core.Bool.{Bool, true, false, _&&_, _||_, not}
 use mathlib.Core.Option.{Option, none, some}
 use mathlib.Core.Path.{_≡_, refl, sym, ap, ap₂, _∙_, subst}
 use mathlib.Core.List.{List, [], _∷_, _++_, map, append-assoc}
-use lib.Dec.{leb, eqb}
-use lib.ListN.{length, getD}
-use borrow.Author.Tests.{eqb-true, eq-eqb, le-leb, leb-true, ne-eqb}
+use lib.Dec.{eqb}
+use lib.ListN.{getD}
+use borrow.Author.Tests.{leb-true}
 use Rattle.text.specs.declared.character_set.CharacterSet.{CharacterSet}
 use Rattle.text.specs.declared.character_set.CharacterSet.the-variants.{Ascii, Ebcdic}
 use Rattle.text.specs.Capitals.{capital}
 use Rattle.text.specs.DataTypes.{every}
-use Rattle.layout.specs.Layouts.{cashLetterHeader, cashLetterControl, fileControl}
-use Rattle.judge.specs.declared.Judged.the-variants.{Sound}
-use Rattle.judge.specs.Alone.{typeOf, judgedAs}
-use Rattle.order.specs.MayFollow.{isOneOf, follows, isCheckOrReturn, isAddendum, mayFollow, isCarried}
+use Rattle.layout.specs.Layouts.{cashLetterHeader}
+use Rattle.judge.specs.Alone.{typeOf}
+use Rattle.order.specs.MayFollow.{isOneOf}
 use Rattle.order.proofs.Laws.{among}
-use Rattle.agree.specs.Links.{addendaKept, annexB, numberedOn, linkFault}
-use Rattle.ascii_copy.specs.AsciiCopy.{copiedBody}
 use Rattle.ascii_copy.proofs.Fields.{getD-alike}
 use Rattle.ascii_copy.proofs.Records.{field-copied}
 use Rattle.passes.specs.declared.Fault.{Fault}
 use Rattle.file_as_records.specs.Framed.{Body, fieldOf}
-use Rattle.file_as_records.proofs.Figures.{is, indicatorOf, lastIn, insideIn, presentIn, holderIn, openedIn, addendaIn, bofdIn, endorserIn, shownIn, statedIn, indicatorIn}
-use Rattle.file_as_records.proofs.Good.{GoodAs, Good, onto}
-use Rattle.file_as_records.proofs.Held.{over}
-use Rattle.file_as_records.proofs.TotalsByName.{not-totalled}
-use Rattle.file_as_records.proofs.Tests.{refuted, untrue, not-both}
-use Rattle.arrangement.specs.Sound.{All, indicator, N}
+use Rattle.file_as_records.proofs.Figures.{is, indicatorOf, lastIn, openedIn}
+use Rattle.file_as_records.proofs.Good.{Good, onto}
+use Rattle.file_as_records.proofs.Tests.{untrue, not-both}
+use Rattle.arrangement.specs.Sound.{All, indicator}
 use Rattle.draft.specs.Values.{Values, valuesOfBody}
 use Rattle.draft.specs.Completed.{addendaBehind}
 use Rattle.same_bytes.proofs.Copied.{values-copied}
 use Rattle.same_bytes.proofs.Itself.{ItselfAs, type-told, itself-as}
 use Rattle.same_bytes.proofs.Stated.{Told}
 use Rattle.salvage_model.specs.Runs.{of, Group, run, loose, soundAlone, runFault}
-use Rattle.salvage_model.specs.Kept.{Torn, isThrough, isSoundBundle, anyBundle, isKept, Fate, kept, renewed, dropped, Marked, marked, outOfPlace, runFate, groupMarks, groupsMarks, controlMarks, keptBodies, controlValues}
+use Rattle.salvage_model.specs.Kept.{Torn, isSoundBundle, anyBundle, isKept, Fate, kept, renewed, dropped, Marked, marked, outOfPlace, runFate, groupMarks, groupsMarks, keptBodies}
 use Rattle.salvage_model.specs.Promises.{copied}
-use Rattle.salvage_written.proofs.Carried.{GoodRun, Base, either-false, numbered-plain}
+use Rattle.same_bytes.proofs.Addenda.{GoodRun, inRun, check-states, return-states}
+use Rattle.salvage_written.proofs.Carried.{Base}
 use Rattle.salvage_written.proofs.Run.{BundleRest, closes, goes, AllViews, IsRun, bundle, credit, Plain, run-plain, run-same, run-left, bundle-opened, last-run}
-use Rattle.salvage_written.proofs.ReadRun.{SoundAs, sound-as, GoodThrough, through-good, base-header}
+use Rattle.salvage_written.proofs.ReadRun.{SoundAs, sound-as, through-good, base-header}
 use Rattle.salvage_written.proofs.Copies.{run-either, sound-either, type-either}
-use Rattle.salvage_written.proofs.Control.{new-90}
-use Rattle.salvage_written.proofs.Addenda.{inRun, check-states, return-states}
-use Rattle.salvage_written.proofs.Going.{State, state-on, Going, body-going, control-going}
+use Rattle.salvage_written.proofs.Going.{State, state-on, Going, body-going}
 use Rattle.salvage_written.proofs.Groups.{GroupOk}
 
 pub values-either : (set : CharacterSet) (b : Body) → valuesOfBody Ascii (copied set b) ≡ valuesOfBody set b

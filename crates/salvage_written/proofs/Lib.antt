@@ -5,7 +5,6 @@ pub mod Run
 pub mod ReadRun
 pub mod Copies
 pub mod Control
-pub mod Addenda
 pub mod Going
 pub mod Groups
 pub mod Letters

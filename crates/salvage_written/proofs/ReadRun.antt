@@ -2,12 +2,12 @@
 use Prim.Native.Nat.{ℕ, _+_, _≤_}
 use native.Mathlib.Omega.{arith}
 use mathlib.Core.Bool.{Bool, true, false, _&&_, cond}
-use mathlib.Core.Option.{Option, none, some}
-use mathlib.Core.Path.{_≡_, refl, sym, ap, ap₂, _∙_, subst}
+use mathlib.Core.Option.{none, some}
+use mathlib.Core.Path.{_≡_, refl, sym, ap, _∙_}
 use mathlib.Core.List.{List, [], _∷_, _++_}
 use lib.Dec.{leb, eqb}
 use lib.ListN.{length, take, drop}
-use borrow.Author.Tests.{eqb-true, eqb-false, ne-eqb, leb-true}
+use borrow.Author.Tests.{eqb-true, ne-eqb, leb-true}
 use Rattle.text.specs.declared.character_set.CharacterSet.{CharacterSet}
 use Rattle.text.specs.Characters.{isNumeric}
 use Rattle.text.specs.DataTypes.{every}
@@ -24,21 +24,21 @@ use Rattle.standing.specs.declared.Standing.{Standing}
 use Rattle.standing.proofs.Laws.{standing-onward}
 use Rattle.agree.specs.Links.{linkFault}
 use Rattle.agree.specs.Totals.{totalFault}
-use Rattle.passes.specs.declared.Fault.{Fault}
 use Rattle.passes.specs.declared.Fault.the-variants.{Place}
 use Rattle.passes.specs.declared.Turn.{Turn}
 use Rattle.passes.specs.CheckOrder.{agreement, turnOf}
 use Rattle.file_as_records.specs.Framed.{Body, framed}
 use Rattle.file_as_records.proofs.Figures.{lastIn, insideIn, statedIn, addendaIn}
 use Rattle.file_as_records.proofs.Good.{Good, onto}
-use Rattle.file_as_records.proofs.Held.{HeldAt, Held, extent, entries, over, stands}
+use Rattle.file_as_records.proofs.Held.{Held, extent, entries, over, stands}
 use Rattle.file_as_records.proofs.Opened.{AllOpened, all-opened, inItem}
 use Rattle.file_as_records.proofs.ReadThrough.{body-is, rest-is}
 use Rattle.file_as_records.proofs.Steps.{turn-good, good-turn}
 use Rattle.file_as_records.proofs.Tests.{both, refuted, not-both}
 use Rattle.arrangement.specs.Sound.{All}
 use Rattle.salvage_model.specs.Runs.{isRight, soundAlone, orFault, readOn, runFault}
-use Rattle.salvage_written.proofs.Carried.{GoodRun, Base}
+use Rattle.same_bytes.proofs.Addenda.{GoodRun}
+use Rattle.salvage_written.proofs.Carried.{Base}
 use Rattle.salvage_written.proofs.Run.{Plain}
 use Rattle.passes.specs.declared.Turn.the-variants as turns
 use Rattle.measure.specs.Measures as measures

@@ -1,9 +1,9 @@
 -- PLACE, FIELD and LINK never come; and what is kept is written as it stands. Assumes nothing.
-use Prim.Native.Nat.{ℕ, _/_, _≤_}
+use Prim.Native.Nat.{ℕ, _/_}
 use native.Mathlib.Omega.{arith}
 use mathlib.Core.Bool.{Bool, true, false, _&&_}
-use mathlib.Core.List.{List, [], _∷_, _++_, map}
-use mathlib.Core.Path.{_≡_, refl, sym, ap, _∙_, subst}
+use mathlib.Core.List.{List, [], map}
+use mathlib.Core.Path.{_≡_, refl, ap, _∙_, subst}
 use lib.Dec.{leb}
 use lib.ListN.{length, take}
 use Rattle.text.specs.CharacterSet.{setOf}
@@ -15,11 +15,11 @@ use Rattle.file_as_records.specs.Framed.{Body, framed}
 use Rattle.file_as_records.proofs.LengthFields.{one-framing}
 use Rattle.draft.specs.declared.Outcome.{Outcome}
 use Rattle.draft.specs.declared.Outcome.the-variants.{Written, Refused}
-use Rattle.draft.specs.Drafted.{completedFrom, made, answerFrom, inRoom, outcomeOf}
+use Rattle.draft.specs.Drafted.{made, answerFrom, inRoom, outcomeOf}
 use Rattle.made_is_read.proofs.Whole.{accepted}
 use Rattle.values_back.proofs.Whole.{bodiesFrom, framed-from}
 use Rattle.salvage_model.specs.Walked.{walked}
-use Rattle.salvage_model.specs.Kept.{marksOf, keptBodies, salvagedValues, isAnything}
+use Rattle.salvage_model.specs.Kept.{marksOf, keptBodies, isAnything}
 use Rattle.salvage_model.specs.Salvaged.{valuesLeft, inList, salvageOutcome, salvageBuffer}
 use Rattle.salvage_model.specs.Promises.{canCome, copied, withoutControls}
 use Rattle.salvage_written.proofs.Values.{shaped-left}

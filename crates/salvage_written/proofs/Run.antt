@@ -1,26 +1,26 @@
 -- A whole run that is good behind one past of its cash letter is good behind any other, and leaves the cash letter as it found it. Assumes nothing.
-use Prim.Native.Nat.{ℕ, _+_, _≤_}
+use Prim.Native.Nat.{ℕ, _≤_}
 use native.Mathlib.Omega.{arith}
-use mathlib.Core.Bool.{Bool, true, false, _&&_, _||_, not, cond}
-use mathlib.Core.Path.{_≡_, refl, sym, ap, ap₂, _∙_, subst}
+use mathlib.Core.Bool.{Bool, true, false, _&&_, _||_, not}
+use mathlib.Core.Path.{_≡_, refl, sym, ap, _∙_, subst}
 use mathlib.Core.List.{List, [], _∷_, _++_}
-use lib.Dec.{leb, eqb}
+use lib.Dec.{eqb}
 use borrow.Author.Tests.{eqb-true, eq-eqb, leb-true, le-leb}
 use Rattle.text.specs.declared.character_set.CharacterSet.{CharacterSet}
 use Rattle.text.specs.DataTypes.{every}
 use Rattle.judge.specs.Alone.{typeOf}
-use Rattle.order.specs.MayFollow.{isOneOf, follows, isCheckOrReturn, isItem, isAddendum, oneItemType, mayFollow}
+use Rattle.order.specs.MayFollow.{isOneOf, follows, isCheckOrReturn, isItem, isAddendum, mayFollow}
 use Rattle.order.proofs.Laws.{among}
 use Rattle.agree.specs.Links.{addendaKept, annexB}
 use Rattle.file_as_records.specs.Framed.{Body}
 use Rattle.file_as_records.proofs.Figures.{newest, is, indicatorOf, lastIn, insideIn, presentIn, holderIn, openedIn, addendaIn, bofdIn, endorserIn, shownIn, statedIn, indicatorIn}
-use Rattle.file_as_records.proofs.Good.{GoodAs, Good, Then, onto}
-use Rattle.file_as_records.proofs.LinksByName.{Linked}
+use Rattle.file_as_records.proofs.Good.{GoodAs, Good, onto}
 use Rattle.file_as_records.proofs.TotalsByName.{not-totalled}
 use Rattle.file_as_records.proofs.Opened.{has, inItem, opening}
-use Rattle.file_as_records.proofs.Tests.{refuted, where-in, untrue, not-both}
+use Rattle.file_as_records.proofs.Tests.{refuted, where-in, untrue}
 use Rattle.arrangement.specs.Sound.{All}
-use Rattle.salvage_written.proofs.Carried.{GoodRun, Base, good-same, either-false, by-tables, annex-same, numbered-plain}
+use Rattle.same_bytes.proofs.Addenda.{GoodRun}
+use Rattle.salvage_written.proofs.Carried.{Base, good-same, either-false, by-tables, annex-same, numbered-plain}
 
 -- what a run is: from a 20 to its 70; or a 61 and its views
 pub data BundleRest (set : CharacterSet) : List Body → Type 0 where

@@ -6,22 +6,20 @@ use mathlib.Core.List.{List, [], _∷_, _++_, map}
 use mathlib.Core.Option.{Option, none, some}
 use mathlib.Core.Path.{_≡_, refl, ap, ap₂, _∙_}
 use lib.Dec.{leb}
-use lib.ListN.{length, drop, length-take, length-drop}
+use lib.ListN.{length, length-take, length-drop}
 use borrow.Author.Tests.{leb-true}
 use Rattle.text.specs.CharacterSet.{setOf}
 use Rattle.text.specs.declared.character_set.CharacterSet.{CharacterSet}
 use Rattle.text.specs.declared.character_set.CharacterSet.the-variants.{Ascii, Ebcdic}
 use Rattle.text.specs.declared.data_types.DataType.{DataType}
 use Rattle.copying.specs.Times.{times}
-use Rattle.frame.specs.Frames.{part}
-use Rattle.layout.specs.Layout.{Line, Layout}
+use Rattle.layout.specs.Layout.{Line}
 use Rattle.layout.specs.Layouts.{cashLetterControl, fileControl}
 use Rattle.judge.specs.Alone.{charactersOf, lineHolds}
-use Rattle.judge.proofs.Laws.{both-true}
 use Rattle.ascii_copy.proofs.Records.{length-as}
 use Rattle.file_as_records.specs.Framed.{Body}
 use Rattle.arrangement.specs.Sound.{All}
-use Rattle.draft.specs.Values.{Piece, here, Values, isGiven, inAscii, layoutOf, valuesOfBody}
+use Rattle.draft.specs.Values.{here, Values, isGiven, inAscii, layoutOf, valuesOfBody}
 use Rattle.draft.specs.Completed.{sizeOf}
 use Rattle.draft.proofs.Shapes.{Shaped, AllShaped, givenSizes, shaped-body}
 use Rattle.values_back.proofs.Record.{Asked}
