@@ -1,2 +1,3 @@
 pub mod Sections
 pub mod Theorem
+pub mod Addenda

@@ -70,7 +70,7 @@ module _ (set : CharacterSet) where
         ((6, rw e), dropped-append (groupsMarks set t (t .groups)) (controlMarks (isKept set t) (t .control)) (groups-dropped (t .groups)) (control-dropped (t .control)))
 
   -- records of runs: kept or dropped, and none of them a 10
-  abbrev InRuns : List Marked → Type 0
+  abbrev pub InRuns : List Marked → Type 0
   InRuns [] = Unit {0}
   InRuns (m ∷ ms) = ((m .fate ≡ renewed → ⊥) × (eqb (typeOf set (m .body)) 10 ≡ false)) × InRuns ms
 
@@ -85,7 +85,7 @@ module _ (set : CharacterSet) where
       by true e = sym e
       by false e = refl
 
-  in-map : (f : Fate) → (f ≡ renewed → ⊥) → (bs : List Body) → Every set (under set) bs → InRuns (map (marked f) bs)
+  pub in-map : (f : Fate) → (f ≡ renewed → ⊥) → (bs : List Body) → Every set (under set) bs → InRuns (map (marked f) bs)
   in-map f e [] h = tt
   in-map f e (b ∷ bs) h = ((e, not-10 (typeOf set b) (h .0)), in-map f e bs (h .1))
 
@@ -106,7 +106,7 @@ module _ (set : CharacterSet) where
       by true = in-map (runFate (isKept set t) (runFault set (t .header) bs)) (run-never (isKept set t) (runFault set (t .header) bs)) bs (h .0)
       by false = in-map outOfPlace place-never bs (h .0)
 
-  past-runs : (isOpen : Bool) (xs ys : List Marked) → InRuns xs
+  pub past-runs : (isOpen : Bool) (xs ys : List Marked) → InRuns xs
       → byMarks set isOpen (xs ++ ys) ≡ map (valuesOfBody set) (keptBodies xs) ++ byMarks set isOpen ys
   unfolding byMarks
   past-runs isOpen [] ys h = refl

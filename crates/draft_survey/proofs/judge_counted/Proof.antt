@@ -8,13 +8,13 @@ use borrow.Author.Needs.{needs}
 use Rattle.draft_survey.proofs.judge_counted.Statement.{statement}
 use Rattle.draft_survey.proofs.judge_counted.Tie as tie
 
-filled : (c : tie.After-complete) → Filled (@args .set) (now (@args .text)) (now (@args .rows)) (now (@args .sheet)) (@args .s) (@args .addenda) (@slot-of .result) (@complete .result) (@complete .last .1 .1 .1 .1 .1 .1 .0)
+filled : (c : tie.After-complete) → Filled (c .before .before .before .before .before .before .before .before .before .before .args .set) (now (c .before .before .before .before .before .before .before .before .before .before .args .text)) (now (c .before .before .before .before .before .before .before .before .before .before .args .rows)) (now (c .before .before .before .before .before .before .before .before .before .before .args .sheet)) (c .before .before .before .before .before .before .before .before .before .before .args .s) (c .before .before .before .before .before .before .before .before .before .before .args .addenda) (c .before .before .slot-of .result) (c .complete .result) (c .complete .last .1 .1 .1 .1 .1 .1 .0)
 filled c = record {
-  may = sym (@may-follow .ensures) ∙ not-false _ (@if1 .left);
-  slot = @slot-of .ensures;
-  room = @pre .3;
-  stored = @complete .ensures .0;
-  long = @complete .ensures .1;
+  may = sym (c .before .before .before .before .may-follow .ensures) ∙ not-false _ (c .before .before .before .if1 .left);
+  slot = c .before .before .slot-of .ensures;
+  room = c .before .before .before .before .before .before .before .before .before .before .pre .3;
+  stored = c .complete .ensures .0;
+  long = c .complete .ensures .1;
 }
 
 shared-slice-read-kind : tie.Need-shared-slice-read-kind
@@ -24,16 +24,16 @@ may-follow-requires : tie.Need-may-follow-requires
 may-follow-requires c κs = search needs
 
 returns : tie.Need-returns
-returns c = row-place (@args .set) (now (@args .text)) (now (@args .rows)) (@args .addenda) (now (@args .sheet)) (@args .s) (sym (@may-follow .ensures) ∙ not-true _ (@if1 .taken)) _
+returns c = row-place (c .before .before .before .before .before .before .before .args .set) (now (c .before .before .before .before .before .before .before .args .text)) (now (c .before .before .before .before .before .before .before .args .rows)) (c .before .before .before .before .before .before .before .args .addenda) (now (c .before .before .before .before .before .before .before .args .sheet)) (c .before .before .before .before .before .before .before .args .s) (sym (c .before .may-follow .ensures) ∙ not-true _ (c .if1 .taken)) _
 
 slot-of-requires : tie.Need-slot-of-requires
 slot-of-requires c κs = search needs
 
 add-body : tie.Need-add-body
-add-body c = record { fits = omega (arith, row-room (@args .s) (getD (now (@args .rows)) 0 0) (@slot-of .result) (sym (@may-follow .ensures) ∙ not-false _ (@if1 .left)) (@slot-of .ensures)) }
+add-body c = record { fits = omega (arith, row-room (c .before .before .before .before .before .before .before .before .args .s) (getD (now (c .before .before .before .before .before .before .before .before .args .rows)) 0 0) (c .slot-of .result) (sym (c .before .before .may-follow .ensures) ∙ not-false _ (c .before .if1 .left)) (c .slot-of .ensures)) }
 
 complete-requires : tie.Need-complete-requires
-complete-requires c κs = (@pre .0 (row-carried (@args .s) (getD (now (@args .rows)) 0 0) (sym (@may-follow .ensures) ∙ not-false _ (@if1 .left))), @pre .2, @pre .1, omega (arith, @pre .3, row-room (@args .s) (getD (now (@args .rows)) 0 0) (@slot-of .result) (sym (@may-follow .ensures) ∙ not-false _ (@if1 .left)) (@slot-of .ensures)))
+complete-requires c κs = (c .before .before .before .before .before .before .before .before .before .pre .0 (row-carried (c .before .before .before .before .before .before .before .before .before .args .s) (getD (now (c .before .before .before .before .before .before .before .before .before .args .rows)) 0 0) (sym (c .before .before .before .may-follow .ensures) ∙ not-false _ (c .before .before .if1 .left))), c .before .before .before .before .before .before .before .before .before .pre .2, c .before .before .before .before .before .before .before .before .before .pre .1, omega (arith, c .before .before .before .before .before .before .before .before .before .pre .3, row-room (c .before .before .before .before .before .before .before .before .before .args .s) (getD (now (c .before .before .before .before .before .before .before .before .before .args .rows)) 0 0) (c .before .slot-of .result) (sym (c .before .before .before .may-follow .ensures) ∙ not-false _ (c .before .before .if1 .left)) (c .before .slot-of .ensures)))
 
 add-end : tie.Need-add-end
 add-end c = record { fits = omega (arith, row-fits (filled (c .before .before))) }
@@ -48,22 +48,22 @@ part-field-fault-end : tie.Need-part-field-fault-end
 part-field-fault-end c = row-within (filled (c .before .before .before))
 
 field-fault-requires : tie.Need-field-fault-requires
-field-fault-requires c κs = (@pre .0 (row-carried (@args .s) (getD (now (@args .rows)) 0 0) (sym (@may-follow .ensures) ∙ not-false _ (@if1 .left))), @pre .2, row-long (filled (c .before .before .before .before)))
+field-fault-requires c κs = (c .before .before .before .before .before .before .before .before .before .before .before .before .before .before .pre .0 (row-carried (c .before .before .before .before .before .before .before .before .before .before .before .before .before .before .args .s) (getD (now (c .before .before .before .before .before .before .before .before .before .before .before .before .before .before .args .rows)) 0 0) (sym (c .before .before .before .before .before .before .before .before .may-follow .ensures) ∙ not-false _ (c .before .before .before .before .before .before .before .if1 .left))), c .before .before .before .before .before .before .before .before .before .before .before .before .before .before .pre .2, row-long (filled (c .before .before .before .before)))
 
 same-length : tie.Need-same-length
 same-length c = search needs
 
 returns-2 : tie.Need-returns-2
-returns-2 c = row-field (filled (c .before .before .before .before .before .before)) (@field-fault .result) (@field-fault .ensures (@args .set)) (@if2 .taken)
+returns-2 c = row-field (filled (c .before .before .before .before .before .before)) (c .before .field-fault .result) (c .before .field-fault .ensures (c .before .before .before .before .before .before .before .before .before .before .before .before .before .before .before .before .args .set)) (c .if2 .taken)
 
 part-fault-requires : tie.Need-part-fault-requires
-part-fault-requires c κs = (@pre .0 (row-carried (@args .s) (getD (now (@args .rows)) 0 0) (sym (@may-follow .ensures) ∙ not-false _ (@if1 .left))), @pre .2)
+part-fault-requires c κs = (c .before .before .before .before .before .before .before .before .before .before .before .before .before .before .before .before .pre .0 (row-carried (c .before .before .before .before .before .before .before .before .before .before .before .before .before .before .before .before .args .s) (getD (now (c .before .before .before .before .before .before .before .before .before .before .before .before .before .before .before .before .args .rows)) 0 0) (sym (c .before .before .before .before .before .before .before .before .before .before .may-follow .ensures) ∙ not-false _ (c .before .before .before .before .before .before .before .before .before .if1 .left))), c .before .before .before .before .before .before .before .before .before .before .before .before .before .before .before .before .pre .2)
 
 same-length-2 : tie.Need-same-length-2
 same-length-2 c = search needs
 
 returns-3 : tie.Need-returns-3
-returns-3 c = row-part (filled (c .before .before .before .before .before .before .before .before)) (@field-fault .result) (@field-fault .ensures (@args .set)) (@if2 .left) (@part-fault .result) (@part-fault .ensures) (@if3 .taken)
+returns-3 c = row-part (filled (c .before .before .before .before .before .before .before .before)) (c .before .before .before .field-fault .result) (c .before .before .before .field-fault .ensures (c .before .before .before .before .before .before .before .before .before .before .before .before .before .before .before .before .before .before .args .set)) (c .before .before .if2 .left) (c .before .part-fault .result) (c .before .part-fault .ensures) (c .if3 .taken)
 
 agrees-requires : tie.Need-agrees-requires
 agrees-requires c κs = search needs
@@ -72,7 +72,7 @@ same-length-3 : tie.Need-same-length-3
 same-length-3 c = search needs
 
 returns-4 : tie.Need-returns-4
-returns-4 c = row-agrees (filled (c .before .before .before .before .before .before .before .before .before .before)) (@field-fault .result) (@field-fault .ensures (@args .set)) (@if2 .left) (@part-fault .result) (@part-fault .ensures) (@if3 .left) (@agrees .result) (@agrees .ensures)
+returns-4 c = row-agrees (filled (c .before .before .before .before .before .before .before .before .before .before)) (c .before .before .before .before .before .field-fault .result) (c .before .before .before .before .before .field-fault .ensures (c .before .before .before .before .before .before .before .before .before .before .before .before .before .before .before .before .before .before .before .before .args .set)) (c .before .before .before .before .if2 .left) (c .before .before .before .part-fault .result) (c .before .before .before .part-fault .ensures) (c .before .before .if3 .left) (c .agrees .result) (c .agrees .ensures)
 
 pub judge-counted-spec : {M : Type 1} → statement M
 judge-counted-spec =

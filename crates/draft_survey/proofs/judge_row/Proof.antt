@@ -8,10 +8,10 @@ addenda-behind-requires : tie.Need-addenda-behind-requires
 addenda-behind-requires c κs = search needs
 
 judge-counted-requires : tie.Need-judge-counted-requires
-judge-counted-requires c κs = @pre
+judge-counted-requires c κs = c .before .before .before .before .before .before .pre
 
 returns : tie.Need-returns
-returns c = found-row (@args .set) (now (@args .text)) (now (@args .rows)) (now (@args .sheet)) (@args .s) _ _ _ (@addenda-behind .ensures .0 (@args .set) (now (@args .text))) (@judge-counted .ensures)
+returns c = found-row (c .before .before .before .before .before .before .before .before .before .args .set) (now (c .before .before .before .before .before .before .before .before .before .args .text)) (now (c .before .before .before .before .before .before .before .before .before .args .rows)) (now (c .before .before .before .before .before .before .before .before .before .args .sheet)) (c .before .before .before .before .before .before .before .before .before .args .s) _ _ _ (c .before .before .before .before .addenda-behind .ensures .0 (c .before .before .before .before .before .before .before .before .before .args .set) (now (c .before .before .before .before .before .before .before .before .before .args .text))) (c .before .before .judge-counted .ensures)
 
 pub judge-row-spec : {M : Type 1} → statement M
 judge-row-spec = tie.close (tie.spec addenda-behind-requires judge-counted-requires returns)

@@ -14,7 +14,7 @@ returns c = number-loose (c .before .before .before .before .before .args .set) 
 
 -- src/lib.rt:185:9
 run-fault-requires : tie.Need-run-fault-requires
-run-fault-requires c κs = (c .before .before .before .before .before .pre .0, c .before .before .before .before .before .pre .1 (both-hold _ _ (not-false _ (c .if1 .left))))
+run-fault-requires c κs = (c .before .before .before .before .before .pre .0, c .before .before .before .before .before .pre .1 (both-hold (c .before .before .before .before .before .args .group .run) (c .before .before .before .before .before .args .plan .sound) (not-false _ (c .if1 .left))))
 
 -- src/lib.rt:187:9
 returns-2 : tie.Need-returns-2
