@@ -17,8 +17,8 @@ use Rattle.draft.specs.Values.{Values, valuesAt, valuesOfBody}
 use Rattle.draft.specs.Completed.{isOwnAddendum, addendaBehind}
 use Rattle.salvage_model.specs.Runs.{leading, following, of, notOf, Group, run, loose, stretchThen, groupsFrom, groupsOf, soundAlone, runFault}
 use Rattle.salvage_model.specs.Kept.{Torn, Section, letter, ending, stray, letterThen, sectionsFrom, sectionsOf, isKept, Fate, kept, renewed, dropped, Marked, marked, outOfPlace, runFate, groupMarks, groupsMarks, controlMarks, sectionMarks, sectionsMarks, keptBodies}
-use Rattle.salvage_made.specs.ByMarks.{byMarks, bodiesIn, addendaAmong, CountedAlike}
-use Rattle.salvage_made.proofs.Sections.{Every, EveryGroup, under, WellLetter, Well}
+use Rattle.salvage_made.specs.ByMarks.{byMarks, bodiesIn, addendaAmong, CountedAlike, OnlyLast}
+use Rattle.salvage_made.proofs.Sections.{Every, EveryGroup, under, WellLetter, Well, well}
 use Rattle.salvage_made.proofs.Theorem.{InRuns, in-map, past-runs}
 
 -- only checks and returns have addenda
@@ -191,3 +191,59 @@ module _ (set : CharacterSet) where
       let f : Fate = cond (soundAlone set 10 (t .header)) (runFate (isKept set t) (runFault set (t .header) bs)) outOfPlace in
       subst (CountedAlike set) (sym (append-assoc (map (marked f) bs) (groupsMarks set t gs) ms))
       (run-alike bs (s .0) (h .0) f (groupsMarks set t gs ++ ms) (groups-alike t gs (s .1) (h .1) ms a))
+
+  -- all sections
+  abbrev ShapedAll : List Section → Type 0
+  ShapedAll [] = Unit {0}
+  ShapedAll (letter t ∷ ss) = Shapes (t .groups) × ShapedAll ss
+  ShapedAll (ending b ∷ ss) = ShapedAll ss
+  ShapedAll (stray b ∷ ss) = ShapedAll ss
+
+  shaped-from : (n : ℕ) (bs : List Body) → ShapedAll (sectionsFrom set n bs)
+  unfolding sectionsFrom groupsOf
+  shaped-from zero bs = tt
+  shaped-from (suc n) [] = tt
+  shaped-from (suc n) (b ∷ bs) = by (eqb (typeOf set b) 10) (eqb (typeOf set b) 99) (λ cs. shaped-from n cs)
+    where
+      inside : Shapes (groupsOf set (leading (under set) bs))
+      inside = shapes (length (leading (under set) bs)) (leading (under set) bs)
+
+      closes : ((cs : List Body) → ShapedAll (sectionsFrom set n cs)) → (c : Body) (cs : List Body) (d : Bool)
+          → ShapedAll (cond d (letter (record { header = b; groups = groupsOf set (leading (under set) bs); control = some c }) ∷ sectionsFrom set n cs)
+          (letter (record { header = b; groups = groupsOf set (leading (under set) bs); control = none }) ∷ sectionsFrom set n (c ∷ cs)))
+      closes others c cs true = (inside, others cs)
+      closes others c cs false = (inside, others (c ∷ cs))
+
+      torn : ((cs : List Body) → ShapedAll (sectionsFrom set n cs)) → (rest : List Body)
+          → ShapedAll (letterThen set b (groupsOf set (leading (under set) bs)) rest (sectionsFrom set n))
+      torn others [] = (inside, tt)
+      torn others (c ∷ cs) = closes others c cs (eqb (typeOf set c) 90)
+
+      by : (c d : Bool) → ((cs : List Body) → ShapedAll (sectionsFrom set n cs))
+          → ShapedAll (cond c (letterThen set b (groupsOf set (leading (under set) bs)) (following (under set) bs) (sectionsFrom set n))
+          (cond d (ending b ∷ sectionsFrom set n bs) (stray b ∷ sectionsFrom set n bs)))
+      by true d others = torn others (following (under set) bs)
+      by false true others = others bs
+      by false false others = others bs
+
+  control-alike : (k : Bool) (c : Option Body) (ms : List Marked) → CountedAlike set ms → CountedAlike set (controlMarks k c ++ ms)
+  control-alike k none ms a = a
+  control-alike true (some b) ms a = ((λ e. absurd (renewed-never e)), a)
+  control-alike false (some b) ms a = ((λ e. absurd (place-never e)), a)
+
+  sections-alike : (ss : List Section) → Well set ss → ShapedAll ss → CountedAlike set (sectionsMarks set ss)
+  sections-alike [] h s = tt
+  sections-alike (letter t ∷ ss) h s = (
+    (λ e isOpen.
+    let later = (groupsMarks set t (t .groups) ++ controlMarks (isKept set t) (t .control)) ++ sectionsMarks set ss in
+    rw (h .0 .header) (behind-none 10 refl (byMarks set isOpen later) ∙ sym (among-none set 10 refl (bodiesIn later)))),
+    subst (CountedAlike set) (sym (append-assoc (groupsMarks set t (t .groups)) (controlMarks (isKept set t) (t .control)) (sectionsMarks set ss)))
+    (groups-alike t (t .groups) (s .0) (h .0 .groups) (controlMarks (isKept set t) (t .control) ++ sectionsMarks set ss)
+    (control-alike (isKept set t) (t .control) (sectionsMarks set ss) (sections-alike ss (h .1) (s .1)))),
+  )
+  sections-alike (ending b ∷ ss) h s = ((λ e. absurd (renewed-never e)), subst (λ (rs : List Section). CountedAlike set (sectionsMarks set rs)) (sym (h .1)) tt)
+  sections-alike (stray b ∷ ss) h s = ((λ e. absurd (place-never e)), sections-alike ss h s)
+
+  pub counted-alike : (bs : List Body) → OnlyLast set bs → CountedAlike set (sectionsMarks set (sectionsOf set bs))
+  unfolding sectionsOf
+  counted-alike bs h = sections-alike (sectionsFrom set (length bs) bs) (well set bs h) (shaped-from (length bs) bs)
