@@ -24,19 +24,19 @@ is-own-addendum-requires : tie.Need-is-own-addendum-requires Inv-loop μ-loop
 is-own-addendum-requires c κs = search needs
 
 returns : tie.Need-returns Inv-loop μ-loop
-returns c = counts-stop _ _ _ _ _ (@loop .inv) (@loop-test .taken) (@seen-at .result) (@seen-at .ensures .0) (sym (@is-own-addendum .ensures) ∙ not-true _ (@if1 .taken))
+returns c = counts-stop _ _ _ _ _ (c .before .before .before .before .loop .inv) (c .before .before .before .loop-test .taken) (c .before .before .seen-at .result) (c .before .before .seen-at .ensures .0) (sym (c .before .is-own-addendum .ensures) ∙ not-true _ (c .if1 .taken))
 
 add-count : tie.Need-add-count Inv-loop μ-loop
-add-count c = omega (arith, @loop .inv .few, @loop-test .taken, @fits .end)
+add-count c = omega (arith, c .before .before .before .before .loop .inv .few, c .before .before .before .loop-test .taken, c .before .before .before .before .before .before .fits .end)
 
 loop-less : tie.Need-loop-less Inv-loop μ-loop
-loop-less c = omega (arith, @loop-test .taken, @seen-at .ensures .1 (@loop-test .taken))
+loop-less c = omega (arith, c .before .before .before .loop-test .taken, c .before .before .seen-at .ensures .1 (c .before .before .before .loop-test .taken))
 
 loop-again : tie.Need-loop-again Inv-loop μ-loop
-loop-again c = counts-on _ _ _ _ _ (@loop .inv) (@loop-test .taken) (@seen-at .result) (@seen-at .ensures .0) (@seen-at .ensures .1 (@loop-test .taken)) (sym (@is-own-addendum .ensures) ∙ not-false _ (@if1 .left))
+loop-again c = counts-on _ _ _ _ _ (c .before .before .before .before .loop .inv) (c .before .before .before .loop-test .taken) (c .before .before .seen-at .result) (c .before .before .seen-at .ensures .0) (c .before .before .seen-at .ensures .1 (c .before .before .before .loop-test .taken)) (sym (c .before .is-own-addendum .ensures) ∙ not-false _ (c .if1 .left))
 
 returns-2 : tie.Need-returns-2 Inv-loop μ-loop
-returns-2 c = counts-end _ _ _ _ _ (@loop .inv) (@loop-test .left)
+returns-2 c = counts-end _ _ _ _ _ (c .before .loop .inv) (c .loop-test .left)
 
 pub addenda-among-spec : {M : Type 1} → statement M
 addenda-among-spec =
