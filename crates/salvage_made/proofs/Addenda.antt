@@ -103,8 +103,8 @@ module _ (set : CharacterSet) where
   others-alike [] h f ms a = a
   others-alike (b ∷ bs) h f ms a = (
     (λ e isOpen.
-    let no = not-held (isCheckOrReturn (typeOf set b)) (h .0) in
-    behind-none (typeOf set b) no (byMarks set isOpen (map (marked f) bs ++ ms)) ∙ sym (among-none set (typeOf set b) no (bodiesIn (map (marked f) bs ++ ms)))),
+        let no = not-held (isCheckOrReturn (typeOf set b)) (h .0) in
+        behind-none (typeOf set b) no (byMarks set isOpen (map (marked f) bs ++ ms)) ∙ sym (among-none set (typeOf set b) no (bodiesIn (map (marked f) bs ++ ms)))),
     others-alike bs (h .1) f ms a,
   )
 
@@ -235,11 +235,11 @@ module _ (set : CharacterSet) where
   sections-alike [] h s = tt
   sections-alike (letter t ∷ ss) h s = (
     (λ e isOpen.
-    let later = (groupsMarks set t (t .groups) ++ controlMarks (isKept set t) (t .control)) ++ sectionsMarks set ss in
-    rw (h .0 .header) (behind-none 10 refl (byMarks set isOpen later) ∙ sym (among-none set 10 refl (bodiesIn later)))),
+        let later = (groupsMarks set t (t .groups) ++ controlMarks (isKept set t) (t .control)) ++ sectionsMarks set ss in
+        rw (h .0 .header) (behind-none 10 refl (byMarks set isOpen later) ∙ sym (among-none set 10 refl (bodiesIn later)))),
     subst (CountedAlike set) (sym (append-assoc (groupsMarks set t (t .groups)) (controlMarks (isKept set t) (t .control)) (sectionsMarks set ss)))
-    (groups-alike t (t .groups) (s .0) (h .0 .groups) (controlMarks (isKept set t) (t .control) ++ sectionsMarks set ss)
-    (control-alike (isKept set t) (t .control) (sectionsMarks set ss) (sections-alike ss (h .1) (s .1)))),
+        (groups-alike t (t .groups) (s .0) (h .0 .groups) (controlMarks (isKept set t) (t .control) ++ sectionsMarks set ss)
+        (control-alike (isKept set t) (t .control) (sectionsMarks set ss) (sections-alike ss (h .1) (s .1)))),
   )
   sections-alike (ending b ∷ ss) h s = ((λ e. absurd (renewed-never e)), subst (λ (rs : List Section). CountedAlike set (sectionsMarks set rs)) (sym (h .1)) tt)
   sections-alike (stray b ∷ ss) h s = ((λ e. absurd (place-never e)), sections-alike ss h s)
