@@ -18,6 +18,19 @@ extern "C" {
     fn x9_tiff(image: *const u8, image_len: usize, answer: *mut u64) -> u64;
 }
 
+#[cfg(feature = "salvage")]
+extern "C" {
+    fn x9_salvage(
+        file: *const u8,
+        file_len: usize,
+        out: *mut u8,
+        out_len: usize,
+        list: *mut u64,
+        list_len: usize,
+        answer: *mut u64,
+    ) -> u64;
+}
+
 /// What an answer holds before a call.
 const UNTOUCHED: u64 = 0xA5A5_A5A5_A5A5_A5A5;
 
@@ -76,5 +89,17 @@ pub fn tiff(image: &[u8]) -> Result<(u64, [u64; 2]), String> {
     let mut answer = [UNTOUCHED; 2 + GUARD];
     // SAFETY: the pointer goes with its slice's own length, and the answer holds more than the two numbers the call fills.
     let number = unsafe { x9_tiff(image.as_ptr(), image.len(), answer.as_mut_ptr()) };
+    unguarded(number, &answer)
+}
+
+/// Salvages a file into a buffer and a list.
+#[cfg(feature = "salvage")]
+pub fn salvage(file: &[u8], out: &mut [u8], list: &mut [u64]) -> Result<Listed, String> {
+    let mut answer = [UNTOUCHED; LISTED + GUARD];
+    // SAFETY: each pointer goes with its slice's own length, and the answer holds more than the twelve numbers the call fills.
+    let number = unsafe {
+        let (file_at, out_at, list_at) = (file.as_ptr(), out.as_mut_ptr(), list.as_mut_ptr());
+        x9_salvage(file_at, file.len(), out_at, out.len(), list_at, list.len(), answer.as_mut_ptr())
+    };
     unguarded(number, &answer)
 }

@@ -1,5 +1,6 @@
-//! The two writings of the layouts, line by line: the definitions (crates/layout/specs/Layouts.antt) and the numbers of the code
-//! (crates/layout/src/packed.rt). The prover refuses the crate where they differ, but says only that they do; this says where.
+//! The writings of the layouts, line by line: the definitions (crates/layout/specs/Layouts.antt), the numbers of the code
+//! (crates/layout/src/packed.rt) and those of the slow reader (crates/slow_record/src/table.rt). The prover refuses the crate where they
+//! differ, but says only that they do; this says where.
 use std::fs;
 use std::path::Path;
 
@@ -83,6 +84,39 @@ fn coded_line(line: &str) -> Option<Written> {
     }
     let words = cells[2..].iter().map(|word| word.to_string()).collect();
     Some(Written { place: format!("{} + {}", cells[0], cells[1]), words, name: name.to_string() })
+}
+
+/// A line of the definitions as the slow reader writes it, which makes out no record and so says nothing of origins.
+fn defined_for_reading(line: &str) -> Option<Written> {
+    let origin = line.split_whitespace().nth(3)?;
+    defined_line(&line.replacen(origin, "Given", 1))
+}
+
+/// `    25_10_075_001 * AT + C + NB + NUMBERS + 1 * LOW + 4, // MICR Valid Indicator`
+fn slow_line(line: &str) -> Option<Written> {
+    let (code, name) = line.trim().split_once(", // ")?;
+    let mut cells = code.split(" + ");
+    let columns: Vec<&str> = cells.next()?.strip_suffix(" * AT")?.split('_').collect();
+    let words: Vec<String> = cells.map(str::to_string).collect();
+    if words.is_empty() || !["M", "C"].contains(&words[0].as_str()) {
+        return None;
+    }
+    let number = |at: usize| columns[at].trim_start_matches('0').to_string();
+    let place = format!("{} * FIRST + {} * SIZE", number(2), number(3));
+    Some(Written { place, words, name: format!("{} {name}", number(1)) })
+}
+
+#[test]
+fn definition_and_slow_reader_write_the_same_layouts() {
+    let definitions = text("crates/layout/specs/Layouts.antt");
+    let code = text("crates/slow_record/src/table.rt");
+    let defined: Vec<Written> = definitions.lines().filter_map(defined_for_reading).collect();
+    let coded: Vec<Written> = code.lines().filter_map(slow_line).collect();
+    assert!(defined.len() > 200, "only {} lines were read", defined.len());
+    for (one, other) in defined.iter().zip(&coded) {
+        assert_eq!(one, other, "the definition (left) and the slow reader (right) write this field differently");
+    }
+    assert_eq!(defined.len(), coded.len(), "one of the two has more fields in fixed parts");
 }
 
 #[test]

@@ -12,7 +12,7 @@ use Rattle.layout.specs.Layouts.{checkDetailAddendumA, checkDetailAddendumB, ch
 use Rattle.judge.specs.Alone.{typeOf}
 use Rattle.file_as_records.specs.Framed.{Body}
 use Rattle.file_as_records.proofs.Figures.{value, addendaIn, bofdIn, endorserIn}
-use Rattle.file_as_records.proofs.Good.{Good, GoodAll, onto}
+use Rattle.file_as_records.proofs.Good.{Good, GoodTo, onto}
 use Rattle.file_as_records.proofs.CheckLists.{numberedAs}
 use Rattle.arrangement.specs.Tree.{Addenda, ofCheck, ofReturn, ofCredit}
 use Rattle.arrangement.specs.Written.{optionalThen, addendaThen}
@@ -26,10 +26,10 @@ use Rattle.arrangement.proofs.Turns.{as-type, short-in}
 use Rattle.arrangement.proofs.OwnAddenda.{nextAddenda, nextStated, nextBofd, nextEndorser, Short, Adds, adds-26, adds-27, adds-28, adds-32, adds-33, adds-34, adds-35, endorser-check, endorser-return}
 
 -- addenda found sound, no more of them so far than the item states, and the records behind them good
-pub record AddendaFound (set : CharacterSet) (Part : Type 0) (past rest : List Body) : Type 0 where
+pub record AddendaFound (End : List Body → Type 0) (set : CharacterSet) (Part : Type 0) (past rest : List Body) : Type 0 where
   pub sound : Part
   pub short : Short set past
-  pub behind : GoodAll set past rest
+  pub behind : GoodTo End set past rest
 
 module _ (set : CharacterSet) (k : Layout) (adds : Adds set k) where
   short-on : (past : List Body) (b : Body) → typeOf set b ≡ k .typeNumber → Good set past b → Short set (b ∷ past)
@@ -44,8 +44,8 @@ module _ (set : CharacterSet) (k : Layout) (adds : Adds set k) where
   adds-right : (past : List Body) (b : Body) → typeOf set b ≡ k .typeNumber → Good set past b → Right set k b
   adds-right past b typed good = right-in set k b (adds .known) typed (as-type set (k .typeNumber) past b typed good .alone)
 
-  optional-sound : (past : List Body) (o : Option Body) (rest : List Body) → IfAny (OfType set (k .typeNumber)) o → Short set past
-      → GoodAll set past (optionalThen o rest) → AddendaFound set (IfAny (Right set k) o) (afterOptional past o) rest
+  optional-sound : {End : List Body → Type 0} (past : List Body) (o : Option Body) (rest : List Body) → IfAny (OfType set (k .typeNumber)) o → Short set past
+      → GoodTo End set past (optionalThen o rest) → AddendaFound End set (IfAny (Right set k) o) (afterOptional past o) rest
   optional-sound past none rest typed short good = record { sound = tt; short = short; behind = good }
   optional-sound past (some b) rest typed short good =
       record { sound = adds-right past b typed (good .first); short = short-on past b typed (good .first); behind = good .rest }
@@ -53,8 +53,8 @@ module _ (set : CharacterSet) (k : Layout) (adds : Adds set k) where
   -- a run of them, numbered on from a figure
   module _ (next : ℕ → Body → ℕ → ℕ) (counts : Counts next (k .typeNumber))
       (numbered : (past : List Body) (b : Body) → numberedAs set (k .typeNumber) past b ≡ eqb (stated set k 2 b) (value set 0 next past + 1)) where
-    run-sound : (past bs rest : List Body) (n : ℕ) → All (OfType set (k .typeNumber)) bs → value set 0 next past + 1 ≡ n → Short set past
-        → GoodAll set past (bs ++ rest) → AddendaFound set (Numbered set k n bs) (onto bs past) rest
+    run-sound : {End : List Body → Type 0} (past bs rest : List Body) (n : ℕ) → All (OfType set (k .typeNumber)) bs → value set 0 next past + 1 ≡ n → Short set past
+        → GoodTo End set past (bs ++ rest) → AddendaFound End set (Numbered set k n bs) (onto bs past) rest
     run-sound past [] rest n typed e short good = record { sound = tt; short = short; behind = good }
     run-sound past (b ∷ bs) rest n typed e short good =
         let here = as-type set (k .typeNumber) past b (typed .0) (good .first) in
@@ -69,9 +69,9 @@ module _ (set : CharacterSet) (k : Layout) (adds : Adds set k) where
         }
 
 -- the addenda of an item, behind its first record
-pub addenda-sound : (set : CharacterSet) (past : List Body) (a : Addenda) (rest : List Body) → TypedAddenda set a → bofdIn set past ≡ 0
+pub addenda-sound : {End : List Body → Type 0} (set : CharacterSet) (past : List Body) (a : Addenda) (rest : List Body) → TypedAddenda set a → bofdIn set past ≡ 0
     → endorserIn set past ≡ 0 → Short set past
-    → GoodAll set past (addendaThen a rest) → AddendaFound set (SoundAddenda set a) (afterAddenda past a) rest
+    → GoodTo End set past (addendaThen a rest) → AddendaFound End set (SoundAddenda set a) (afterAddenda past a) rest
 addenda-sound set past (ofCheck a b c) rest typed bofd endorser short good =
     let x =
     run-sound set checkDetailAddendumA (adds-26 set) nextBofd (λ d y. refl) (λ p d. refl)

@@ -8,7 +8,7 @@ use Rattle.judge.specs.Alone.{typeOf}
 use Rattle.order.specs.MayFollow.{isCheckOrReturn, isOneOf, follows}
 use Rattle.file_as_records.specs.Framed.{Body}
 use Rattle.file_as_records.proofs.Figures.{holderIn, is, newest}
-use Rattle.file_as_records.proofs.Good.{GoodAll}
+use Rattle.file_as_records.proofs.Good.{GoodTo}
 use Rattle.file_as_records.proofs.Tests.{refuted}
 use Rattle.file_as_records.proofs.TotalsByName.{BundleTotals}
 use Rattle.arrangement.specs.Tree.{Addenda, ofCheck, ofReturn, ofCredit, Bundle, Credit, Content, bundled, direct}
@@ -59,9 +59,9 @@ views-end : Ends false (20 ∷ 61 ∷ 90 ∷ [])
 unfolding follows
 views-end = record { behind-50 = refl; behind-52 = refl; behind-54 = refl }
 
-module _ (set : CharacterSet) (letter : Body) where
+module _ (End : List Body → Type 0) (set : CharacterSet) (letter : Body) where
   bundle-good : (b : Bundle) (past rest : List Body) → SoundBundle set letter b → Holding set letter past
-      → (Holding set letter (afterBundle past b) → GoodAll set (afterBundle past b) rest) → GoodAll set past (bundleThen b rest)
+      → (Holding set letter (afterBundle past b) → GoodTo End set (afterBundle past b) rest) → GoodTo End set past (bundleThen b rest)
   unfolding follows
   bundle-good b past rest sound h on =
       let typed = bundle-typed set letter b sound in
@@ -84,7 +84,7 @@ module _ (set : CharacterSet) (letter : Body) where
             made-20 set past (b .header) (sound .header) (h .next .may 20 refl) (h .settled)
             (λ e. sound .allowed (sym (indicator-is set past (h .here .letter-is)) ∙ e));
         rest =
-            items-good set letter (b .header) (b .items) (b .header ∷ past) (c ∷ rest) (sound .items) (rw none-yet (sound .one-item-type))
+            items-good End set letter (b .header) (b .items) (b .header ∷ past) (c ∷ rest) (sound .items) (rw none-yet (sound .one-item-type))
             (started set letter (b .header) past (typed .header) h) (λ e. absurd (omega (arith, sound .filled, e)))
             (λ w ends. record {
               first = made-70 set before c (sound .control) ends (w .settled) (w .viewed) totals;
@@ -100,7 +100,7 @@ module _ (set : CharacterSet) (letter : Body) where
       }
 
   credit-good : (c : Credit) (past rest : List Body) → SoundCredit set letter c → Holding set letter past
-      → (Holding set letter (afterCredit past c) → GoodAll set (afterCredit past c) rest) → GoodAll set past (creditThen c rest)
+      → (Holding set letter (afterCredit past c) → GoodTo End set (afterCredit past c) rest) → GoodTo End set past (creditThen c rest)
   unfolding follows
   credit-good c past rest sound h on =
       let typed = credit-typed set letter c sound in
@@ -110,7 +110,7 @@ module _ (set : CharacterSet) (letter : Body) where
         first =
             made-item set ofCredit (c .detail) past (sound .detail) (h .next .may 61 refl) (h .settled) (none-owed set past (h .unheld)) refl;
         rest =
-            views-good set false (20 ∷ 61 ∷ 90 ∷ []) views-end letter (inLetter letter c) (c .detail ∷ past) (c .views) rest (sound .views) within
+            views-good End set false (20 ∷ 61 ∷ 90 ∷ []) views-end letter (inLetter letter c) (c .detail ∷ past) (c .views) rest (sound .views) within
             (sound .unseen) (omega (arith, new .stated-is)) (allow-at set (50 ∷ 20 ∷ 61 ∷ 90 ∷ []) (within .inside-is) (typed .detail) refl)
             (λ settled ends. on
             (record {
@@ -121,13 +121,13 @@ module _ (set : CharacterSet) (letter : Body) where
             }));
       }
 
-  content-good : (c : Content) (past rest : List Body) → SoundContent set letter c → Holding set letter past
-      → (Holding set letter (afterContent past c) → GoodAll set (afterContent past c) rest) → GoodAll set past (contentThen c rest)
+  pub content-good : (c : Content) (past rest : List Body) → SoundContent set letter c → Holding set letter past
+      → (Holding set letter (afterContent past c) → GoodTo End set (afterContent past c) rest) → GoodTo End set past (contentThen c rest)
   content-good (bundled b) past rest sound h on = bundle-good b past rest sound h on
   content-good (direct c) past rest sound h on = credit-good c past rest sound h on
 
   pub contents-good : (cs : List Content) (past rest : List Body) → All (SoundContent set letter) cs → Holding set letter past
-      → (Holding set letter (afterContents past cs) → GoodAll set (afterContents past cs) rest) → GoodAll set past (contentsThen cs rest)
+      → (Holding set letter (afterContents past cs) → GoodTo End set (afterContents past cs) rest) → GoodTo End set past (contentsThen cs rest)
   contents-good [] past rest sound h on = on h
   contents-good (c ∷ cs) past rest sound h on =
       content-good c past (contentsThen cs rest) (sound .0) h (λ h₁. contents-good cs (afterContent past c) rest (sound .1) h₁ on)

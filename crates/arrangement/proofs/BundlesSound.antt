@@ -11,7 +11,7 @@ use Rattle.judge.specs.Alone.{typeOf}
 use Rattle.order.specs.MayFollow.{follows}
 use Rattle.file_as_records.specs.Framed.{Body}
 use Rattle.file_as_records.proofs.Figures.{is, newest}
-use Rattle.file_as_records.proofs.Good.{GoodAll}
+use Rattle.file_as_records.proofs.Good.{GoodTo}
 use Rattle.arrangement.specs.Tree.{Item, Bundle, Credit, Content, bundled, direct}
 use Rattle.arrangement.specs.Written.{itemsThen, bundleThen, creditThen, contentThen, contentsThen}
 use Rattle.arrangement.specs.Sound.{All, inLetter, SoundBundle, SoundCredit, SoundContent}
@@ -32,15 +32,15 @@ unfolding follows
 never-70 true = refl
 never-70 false = refl
 
-some-item : (set : CharacterSet) (its : List Item) (header c : Body) (past rest : List Body) → typeOf set header ≡ 20 → typeOf set c ≡ 70
-    → GoodAll set (header ∷ past) (itemsThen its (c ∷ rest)) → 1 ≤ length its
-some-item set [] header c past rest begins ends good = absurd (not-after set 70 20 past header c begins ends never-70 (good .first))
-some-item set (i ∷ its) header c past rest begins ends good = omega arith
+some-item : (End : List Body → Type 0) (set : CharacterSet) (its : List Item) (header c : Body) (past rest : List Body) → typeOf set header ≡ 20 → typeOf set c ≡ 70
+    → GoodTo End set (header ∷ past) (itemsThen its (c ∷ rest)) → 1 ≤ length its
+some-item End set [] header c past rest begins ends good = absurd (not-after set 70 20 past header c begins ends never-70 (good .first))
+some-item End set (i ∷ its) header c past rest begins ends good = omega arith
 
 module _ (set : CharacterSet) (letter : Body) where
-  bundle-sound : (b : Bundle) (past rest : List Body) → TypedBundle set b → InLetter set letter past → GoodAll set past (bundleThen b rest)
-      → Found set (SoundBundle set letter b) (afterBundle past b) rest
-  bundle-sound b past rest typed here good =
+  bundle-sound : {End : List Body → Type 0} (b : Bundle) (past rest : List Body) → TypedBundle set b → InLetter set letter past → GoodTo End set past (bundleThen b rest)
+      → Found End set (SoundBundle set letter b) (afterBundle past b) rest
+  bundle-sound {End} b past rest typed here good =
       let header = as-type set 20 past (b .header) (typed .header) (good .first) in
       let around = bundle-begun set letter (b .header) past (typed .header) here in
       let its =
@@ -54,7 +54,7 @@ module _ (set : CharacterSet) (letter : Body) where
             record {
               header = right-in set bundleHeader (b .header) (known-20 set) (typed .header) (header .alone);
               allowed = λ e. bundle-in set past (b .header) header (indicator-is set past (here .letter-is) ∙ e);
-              filled = some-item set (b .items) (b .header) (b .control) past rest (typed .header) (typed .control) (good .rest);
+              filled = some-item End set (b .items) (b .header) (b .control) past rest (typed .header) (typed .control) (good .rest);
               items = its .items;
               one-item-type = rw (step set 0 nextPresent past (b .header) 20 (typed .header)) at (its .one-item-type);
               control = right-in set bundleControl (b .control) (known-70 set) (typed .control) (control .alone);
@@ -68,21 +68,21 @@ module _ (set : CharacterSet) (letter : Body) where
         behind = its .behind .rest;
       }
 
-  credit-sound : (c : Credit) (past rest : List Body) → TypedCredit set c → InLetter set letter past → GoodAll set past (creditThen c rest)
-      → Found set (SoundCredit set letter c) (afterCredit past c) rest
+  credit-sound : {End : List Body → Type 0} (c : Credit) (past rest : List Body) → TypedCredit set c → InLetter set letter past → GoodTo End set past (creditThen c rest)
+      → Found End set (SoundCredit set letter c) (afterCredit past c) rest
   credit-sound c past rest typed here good =
       let within = in-letter set letter (newest set (is 20) past) c past typed (around-credit set letter past here) in
       let found = item-sound set false letter (inLetter letter c) (asItem c) past rest (item-of set c typed) within good in
       record { sound = record { detail = found .first .right; views = found .views; unseen = found .unseen }; behind = found .behind }
 
-  content-sound : (c : Content) (past rest : List Body) → TypedContent set c → InLetter set letter past → GoodAll set past (contentThen c rest)
-      → Found set (SoundContent set letter c) (afterContent past c) rest
+  pub content-sound : {End : List Body → Type 0} (c : Content) (past rest : List Body) → TypedContent set c → InLetter set letter past → GoodTo End set past (contentThen c rest)
+      → Found End set (SoundContent set letter c) (afterContent past c) rest
   content-sound (bundled b) past rest typed here good = bundle-sound b past rest typed here good
   content-sound (direct c) past rest typed here good = credit-sound c past rest typed here good
 
-  pub contents-sound : (cs : List Content) (past rest : List Body) → All (TypedContent set) cs → InLetter set letter past
-      → GoodAll set past (contentsThen cs rest)
-      → Found set (All (SoundContent set letter) cs) (afterContents past cs) rest
+  pub contents-sound : {End : List Body → Type 0} (cs : List Content) (past rest : List Body) → All (TypedContent set) cs → InLetter set letter past
+      → GoodTo End set past (contentsThen cs rest)
+      → Found End set (All (SoundContent set letter) cs) (afterContents past cs) rest
   contents-sound [] past rest typed here good = record { sound = tt; behind = good }
   contents-sound (c ∷ cs) past rest typed here good =
       let first = content-sound c past (contentsThen cs rest) (typed .0) here good in

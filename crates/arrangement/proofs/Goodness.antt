@@ -11,7 +11,7 @@ use Rattle.layout.specs.Layouts.{fileHeader, cashLetterHeader}
 use Rattle.order.specs.MayFollow.{isCheckOrReturn, isCarried, follows}
 use Rattle.file_as_records.specs.Framed.{Body}
 use Rattle.file_as_records.proofs.Figures.{insideIn}
-use Rattle.file_as_records.proofs.Good.{GoodAll}
+use Rattle.file_as_records.proofs.Good.{At99, GoodAll}
 use Rattle.file_as_records.proofs.TotalsByName.{FileTotals, LetterTotals}
 use Rattle.arrangement.specs.Tree.{CashLetter, File}
 use Rattle.arrangement.specs.Written.{letterThen, lettersThen, records}
@@ -61,7 +61,7 @@ letter-good set l past rest sound h on =
           made-plain set cashLetterHeader (known-10 set) refl refl past (l .header) (sound .header)
           (h .next) (settled-kept set 10 past refl (h .settled)) refl;
       rest =
-          contents-good set (l .header) (l .contents) (l .header ∷ past) (c ∷ rest) (sound .contents)
+          contents-good (At99 set) set (l .header) (l .contents) (l .header ∷ past) (c ∷ rest) (sound .contents)
           (record {
             here = begun;
             settled = settled-on set past (l .header) 10 (typed .header) refl refl (h .settled);

@@ -10,7 +10,7 @@ use Rattle.text.specs.declared.character_set.CharacterSet.{CharacterSet}
 use Rattle.order.specs.MayFollow.{isOneOf, follows, oneItemType}
 use Rattle.file_as_records.specs.Framed.{Body}
 use Rattle.file_as_records.proofs.Figures.{presentIn}
-use Rattle.file_as_records.proofs.Good.{GoodAll}
+use Rattle.file_as_records.proofs.Good.{GoodTo}
 use Rattle.arrangement.specs.Tree.{Addenda, ofCheck, ofReturn, ofCredit, Item}
 use Rattle.arrangement.specs.Written.{viewsThen, itemThen, itemsThen}
 use Rattle.arrangement.specs.Sound.{All, layoutIn, layoutOf, I, F, inBundle, itemTypes, AllTheFirst, SoundItem}
@@ -55,11 +55,11 @@ item-ends ofCredit (ofCheck d e f) present h = refl
 item-ends ofCredit (ofReturn d e f g) present h = refl
 item-ends ofCredit ofCredit present h = refl
 
-module _ (set : CharacterSet) (letter header : Body) where
+module _ (End : List Body → Type 0) (set : CharacterSet) (letter header : Body) where
   item-good : (i : Item) (past rest : List Body) → SoundItem set letter header i → Between set letter header past
       → oneItemType (presentIn set past) (layoutOf i .typeNumber) ≡ true
-      → (Between set letter header (afterItem past i) → Follows set (afterItem past i) 70 → GoodAll set (afterItem past i) rest)
-      → GoodAll set past (itemThen i rest)
+      → (Between set letter header (afterItem past i) → Follows set (afterItem past i) 70 → GoodTo End set (afterItem past i) rest)
+      → GoodTo End set past (itemThen i rest)
   item-good i past rest sound b same on =
       let d = i .detail ∷ past in
       let before = afterAddenda d (i .addenda) in
@@ -76,9 +76,9 @@ module _ (set : CharacterSet) (letter header : Body) where
       record {
         first = made-item set (i .addenda) (i .detail) past (sound .detail) (b .next (i .addenda) same) (b .settled) (b .viewed) same;
         rest =
-            addenda-good set d (i .addenda) (viewsThen (i .views) rest) (sound .addenda) (typed .detail) (new .bofd) (new .endorser)
+            addenda-good End set d (i .addenda) (viewsThen (i .views) rest) (sound .addenda) (typed .detail) (new .bofd) (new .endorser)
             (record { count = omega (arith, sound .number, new .addenda, new .stated-is); inside = within .inside-is })
-            (λ begins owes. views-good set true (endsOf (i .addenda)) (views-end (i .addenda)) letter (inBundle header i) before (i .views) rest
+            (λ begins owes. views-good End set true (endsOf (i .addenda)) (views-end (i .addenda)) letter (inBundle header i) before (i .views) rest
             (sound .views) inside (sound .unseen) (omega (arith, owes .count)) begins
             (λ settled ends. on
             (record {
@@ -93,8 +93,8 @@ module _ (set : CharacterSet) (letter header : Body) where
   -- the 70 may come behind an item: where there is none, that it may come is asked for
   pub items-good : (its : List Item) (past rest : List Body) → All (SoundItem set letter header) its
       → AllTheFirst (typesFrom (presentIn set past) (itemTypes its)) → Between set letter header past → (length its ≡ 0 → Follows set past 70)
-      → (Between set letter header (afterItems past its) → Follows set (afterItems past its) 70 → GoodAll set (afterItems past its) rest)
-      → GoodAll set past (itemsThen its rest)
+      → (Between set letter header (afterItems past its) → Follows set (afterItems past its) 70 → GoodTo End set (afterItems past its) rest)
+      → GoodTo End set past (itemsThen its rest)
   items-good [] past rest sound same b ends on = on b (ends refl)
   items-good (i ∷ its) past rest sound same b ends on =
       let kinds = one-type-out (i .addenda) (presentIn set past) (itemTypes its) same in

@@ -13,7 +13,7 @@ use Rattle.judge.specs.Alone.{typeOf}
 use Rattle.order.specs.MayFollow.{isItem, isAddendum, oneItemType}
 use Rattle.file_as_records.specs.Framed.{Body}
 use Rattle.file_as_records.proofs.Figures.{presentIn}
-use Rattle.file_as_records.proofs.Good.{Good, GoodAll}
+use Rattle.file_as_records.proofs.Good.{Good, GoodTo}
 use Rattle.arrangement.specs.Tree.{Addenda, ofCheck, ofReturn, ofCredit, Item}
 use Rattle.arrangement.specs.Written.{viewsThen, itemThen, itemsThen}
 use Rattle.arrangement.specs.Sound.{All, Right, layoutIn, indicator, E, I, F, Owner, inBundle, itemTypes, AllTheFirst, SoundAddenda, SoundView, SoundItem}
@@ -63,16 +63,16 @@ first-sound set a d past typed good =
     }
 
 -- an item: all of it but what only the record behind it shows
-pub record ItemFound (set : CharacterSet) (letter : Body) (o : Owner) (i : Item) (past rest : List Body) : Type 0 where
+pub record ItemFound (End : List Body → Type 0) (set : CharacterSet) (letter : Body) (o : Owner) (i : Item) (past rest : List Body) : Type 0 where
   pub first : First set (i .addenda) (i .detail) past
   pub addenda : SoundAddenda set (i .addenda)
   pub short : Short set (afterItem past i)
   pub views : All (SoundView set o) (i .views)
   pub unseen : indicator set letter ≡ E → length (i .views) ≡ 0
-  pub behind : GoodAll set (afterItem past i) rest
+  pub behind : GoodTo End set (afterItem past i) rest
 
-pub item-sound : (set : CharacterSet) (inside : Bool) (letter : Body) (o : Owner) (i : Item) (past rest : List Body) → TypedItem set i
-    → InItem set inside letter o (i .detail ∷ past) → GoodAll set past (itemThen i rest) → ItemFound set letter o i past rest
+pub item-sound : {End : List Body → Type 0} (set : CharacterSet) (inside : Bool) (letter : Body) (o : Owner) (i : Item) (past rest : List Body) → TypedItem set i
+    → InItem set inside letter o (i .detail ∷ past) → GoodTo End set past (itemThen i rest) → ItemFound End set letter o i past rest
 item-sound set inside letter o i past rest typed within good =
     let d = i .detail ∷ past in
     let new = fresh set (i .addenda) (i .detail) past (typed .detail) in
@@ -94,17 +94,17 @@ item-sound set inside letter o i past rest typed within good =
     }
 
 -- items of a bundle, up to its control, behind those of `past`
-pub record ItemsFound (set : CharacterSet) (letter header : Body) (its : List Item) (past rest : List Body) : Type 0 where
+pub record ItemsFound (End : List Body → Type 0) (set : CharacterSet) (letter header : Body) (its : List Item) (past rest : List Body) : Type 0 where
   pub settled : Settled set past
   pub viewed : Viewed set past
   pub items : All (SoundItem set letter header) its
   pub one-item-type : AllTheFirst (typesFrom (presentIn set past) (itemTypes its))
-  pub behind : GoodAll set (afterItems past its) rest
+  pub behind : GoodTo End set (afterItems past its) rest
 
 module _ (set : CharacterSet) (letter header : Body) where
   -- and with that
-  item-whole : (i : Item) (past rest : List Body) → TypedItem set i → Around set true letter header (afterItem past i)
-      → ItemFound set letter (inBundle header i) i past rest → Settled set (afterItem past i) → Viewed set (afterItem past i)
+  item-whole : {End : List Body → Type 0} (i : Item) (past rest : List Body) → TypedItem set i → Around set true letter header (afterItem past i)
+      → ItemFound End set letter (inBundle header i) i past rest → Settled set (afterItem past i) → Viewed set (afterItem past i)
       → SoundItem set letter header i
   item-whole i past rest typed behind found settled viewed =
       let f = item-figures set i past typed in
@@ -118,8 +118,8 @@ module _ (set : CharacterSet) (letter header : Body) where
         seen = λ d e. omega (arith, f .shown, viewed (f .demands ∙ d) (subst (λ (n : ℕ). (n ≡ I) ⊎ (n ≡ F)) (sym letter-is) e));
       }
 
-  pub items-sound : (its : List Item) (past : List Body) (c : Body) (rest : List Body) → All (TypedItem set) its → typeOf set c ≡ 70
-      → Around set true letter header past → GoodAll set past (itemsThen its (c ∷ rest)) → ItemsFound set letter header its past (c ∷ rest)
+  pub items-sound : {End : List Body → Type 0} (its : List Item) (past : List Body) (c : Body) (rest : List Body) → All (TypedItem set) its → typeOf set c ≡ 70
+      → Around set true letter header past → GoodTo End set past (itemsThen its (c ∷ rest)) → ItemsFound End set letter header its past (c ∷ rest)
   items-sound [] past c rest typed ends around good =
       let g = as-type set 70 past c ends (good .first) in
       record {

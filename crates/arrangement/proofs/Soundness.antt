@@ -12,7 +12,7 @@ use Rattle.judge.specs.Alone.{typeOf}
 use Rattle.order.specs.MayFollow.{follows}
 use Rattle.file_as_records.specs.Framed.{Body}
 use Rattle.file_as_records.proofs.Figures.{insideIn, indicatorIn, openedIn}
-use Rattle.file_as_records.proofs.Good.{GoodAll}
+use Rattle.file_as_records.proofs.Good.{At99, GoodAll}
 use Rattle.arrangement.specs.Tree.{CashLetter, File}
 use Rattle.arrangement.specs.Written.{letterThen, lettersThen, records}
 use Rattle.arrangement.specs.Sound.{All, indicator, N, bundleCount, SoundLetter, Sound}
@@ -71,7 +71,7 @@ letter-sound set l past rest typed outside good =
 
 letters-sound : (set : CharacterSet) (ls : List CashLetter) (past rest : List Body) → All (TypedLetter set) ls → insideIn set past ≡ false
     → GoodAll set past (lettersThen ls rest)
-    → Found set (All (SoundLetter set) ls) (afterLetters past ls) rest
+    → Found (At99 set) set (All (SoundLetter set) ls) (afterLetters past ls) rest
 letters-sound set [] past rest typed outside good = record { sound = tt; behind = good }
 letters-sound set (l ∷ ls) past rest typed outside good =
     let here = letter-sound set l past (lettersThen ls rest) (typed .0) outside good in

@@ -12,7 +12,7 @@ use Rattle.judge.specs.Alone.{typeOf}
 use Rattle.order.specs.MayFollow.{isCheckOrReturn, isItem, isAddendum, mayFollow, follows, oneItemType}
 use Rattle.agree.specs.Links.{addendaKept, annexB}
 use Rattle.file_as_records.specs.Framed.{Body}
-use Rattle.file_as_records.proofs.Good.{Good, GoodAs, GoodAll}
+use Rattle.file_as_records.proofs.Good.{Good, GoodAs, GoodTo}
 use Rattle.file_as_records.proofs.Figures.{statedIn, addendaIn, shownIn, openedIn, indicatorIn, insideIn, holderIn, lastIn, presentIn}
 use Rattle.file_as_records.proofs.Tests.{both, not-both}
 use Rattle.arrangement.specs.Sound.{N, E, I, F}
@@ -146,6 +146,6 @@ not-after set t n past b c e k f g =
     not-both (sym (f opened) ∙ ap (λ (l : ℕ). follows opened l t) (sym e) ∙ follows-in set t (b ∷ past) c (as-type set t (b ∷ past) c k g))
 
 -- a part of an arrangement found sound, and the records behind it good
-pub record Found (set : CharacterSet) (Part : Type 0) (past rest : List Body) : Type 0 where
+pub record Found (End : List Body → Type 0) (set : CharacterSet) (Part : Type 0) (past rest : List Body) : Type 0 where
   pub sound : Part
-  pub behind : GoodAll set past rest
+  pub behind : GoodTo End set past rest

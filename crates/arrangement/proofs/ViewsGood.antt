@@ -12,7 +12,7 @@ use Rattle.layout.specs.Layouts.{bundleHeader, imageViewData, imageViewAnalysis
 use Rattle.order.specs.MayFollow.{isCarried, follows}
 use Rattle.file_as_records.specs.Framed.{Body, fieldOf}
 use Rattle.file_as_records.proofs.Figures.{insideIn, is, newest, lastIn}
-use Rattle.file_as_records.proofs.Good.{GoodAll}
+use Rattle.file_as_records.proofs.Good.{GoodTo}
 use Rattle.file_as_records.proofs.LinksByName.{ViewLinked}
 use Rattle.arrangement.specs.Tree.{View}
 use Rattle.arrangement.specs.Written.{optionalThen, viewThen, viewsThen}
@@ -36,11 +36,11 @@ cycle-out : (inside : Bool) (xs ys : List ℕ) → Equals (cond inside (some ys)
 cycle-out true xs ys h e = h
 cycle-out false xs ys h e = cc
 
-module _ (set : CharacterSet) (inside : Bool) (ends : List ℕ) (order : Ends inside ends) (letter : Body) (o : Owner) where
+module _ (End : List Body → Type 0) (set : CharacterSet) (inside : Bool) (ends : List ℕ) (order : Ends inside ends) (letter : Body) (o : Owner) where
   analysis-good : (past : List Body) (x : Option Body) (rest : List Body) → IfAny (Right set imageViewAnalysis) x → InItem set inside letter o past
       → Settled set past → lastIn set past ≡ 52
-      → (Settled set (afterOptional past x) → Allow set (50 ∷ ends) (afterOptional past x) → GoodAll set (afterOptional past x) rest)
-      → GoodAll set past (optionalThen x rest)
+      → (Settled set (afterOptional past x) → Allow set (50 ∷ ends) (afterOptional past x) → GoodTo End set (afterOptional past x) rest)
+      → GoodTo End set past (optionalThen x rest)
   unfolding isCarried
   analysis-good past none rest right within settled last on =
       on settled (allow-rest set (allow-at set (54 ∷ 50 ∷ ends) (within .inside-is) last (order .behind-52)))
@@ -56,8 +56,8 @@ module _ (set : CharacterSet) (inside : Bool) (ends : List ℕ) (order : Ends in
 
   view-good : (past : List Body) (v : View) (rest : List Body) → SoundView set o v → InItem set inside letter o past → (indicator set letter ≡ E → ⊥)
       → Settled set past → Allow set (50 ∷ ends) past
-      → (Settled set (afterView past v) → Allow set (50 ∷ ends) (afterView past v) → GoodAll set (afterView past v) rest)
-      → GoodAll set past (viewThen v rest)
+      → (Settled set (afterView past v) → Allow set (50 ∷ ends) (afterView past v) → GoodTo End set (afterView past v) rest)
+      → GoodTo End set past (viewThen v rest)
   view-good past v rest sound within seen settled allowed on =
       let d = v .detail ∷ past in
       let typed = view-typed set o v sound in
@@ -91,8 +91,8 @@ module _ (set : CharacterSet) (inside : Bool) (ends : List ℕ) (order : Ends in
 
   pub views-good : (past : List Body) (vs : List View) (rest : List Body) → All (SoundView set o) vs → InItem set inside letter o past
       → (indicator set letter ≡ E → length vs ≡ 0) → Settled set past → Allow set (50 ∷ ends) past
-      → (Settled set (afterViews past vs) → Allow set (50 ∷ ends) (afterViews past vs) → GoodAll set (afterViews past vs) rest)
-      → GoodAll set past (viewsThen vs rest)
+      → (Settled set (afterViews past vs) → Allow set (50 ∷ ends) (afterViews past vs) → GoodTo End set (afterViews past vs) rest)
+      → GoodTo End set past (viewsThen vs rest)
   views-good past [] rest sound within unseen settled allowed on = on settled allowed
   views-good past (v ∷ vs) rest sound within unseen settled allowed on =
       let seen : indicator set letter ≡ E → ⊥ = λ e. omega (arith, unseen e) in

@@ -9,7 +9,7 @@ use Rattle.text.specs.declared.character_set.CharacterSet.{CharacterSet}
 use Rattle.layout.specs.Layouts.{bundleHeader, imageViewDetail, imageViewData, imageViewAnalysis}
 use Rattle.file_as_records.specs.Framed.{Body, fieldOf}
 use Rattle.file_as_records.proofs.Figures.{insideIn, is, newest}
-use Rattle.file_as_records.proofs.Good.{GoodAll}
+use Rattle.file_as_records.proofs.Good.{GoodTo}
 use Rattle.arrangement.specs.Tree.{View}
 use Rattle.arrangement.specs.Written.{optionalThen, viewThen, viewsThen}
 use Rattle.arrangement.specs.Sound.{All, IfAny, Right, indicator, E, Owner, Equals, SoundView}
@@ -21,19 +21,19 @@ use Rattle.arrangement.proofs.Turns.{as-type, view-in, Found}
 use Rattle.arrangement.proofs.InItem.{InItem, in-step, in-view, indicator-is, nextSignature}
 
 -- a view found sound, in a cash letter that may have one
-record ViewFound (set : CharacterSet) (letter : Body) (o : Owner) (v : View) (past rest : List Body) : Type 0 where
+record ViewFound (End : List Body → Type 0) (set : CharacterSet) (letter : Body) (o : Owner) (v : View) (past rest : List Body) : Type 0 where
   sound : SoundView set o v
   allowed : indicator set letter ≡ E → ⊥
-  behind : GoodAll set (afterView past v) rest
+  behind : GoodTo End set (afterView past v) rest
 
-pub record ViewsFound (set : CharacterSet) (letter : Body) (o : Owner) (vs : List View) (past rest : List Body) : Type 0 where
+pub record ViewsFound (End : List Body → Type 0) (set : CharacterSet) (letter : Body) (o : Owner) (vs : List View) (past rest : List Body) : Type 0 where
   pub sound : All (SoundView set o) vs
   pub unseen : indicator set letter ≡ E → length vs ≡ 0
-  pub behind : GoodAll set (afterViews past vs) rest
+  pub behind : GoodTo End set (afterViews past vs) rest
 
-analysis-sound : (set : CharacterSet) (past : List Body) (o : Option Body) (rest : List Body) → IfAny (OfType set 54) o
-    → GoodAll set past (optionalThen o rest)
-    → Found set (IfAny (Right set imageViewAnalysis) o) (afterOptional past o) rest
+analysis-sound : {End : List Body → Type 0} (set : CharacterSet) (past : List Body) (o : Option Body) (rest : List Body) → IfAny (OfType set 54) o
+    → GoodTo End set past (optionalThen o rest)
+    → Found End set (IfAny (Right set imageViewAnalysis) o) (afterOptional past o) rest
 analysis-sound set past none rest typed good = record { sound = tt; behind = good }
 analysis-sound set past (some b) rest typed good =
     record { sound = right-in set imageViewAnalysis b (known-54 set) typed (as-type set 54 past b typed (good .first) .alone); behind = good .rest }
@@ -44,9 +44,9 @@ cycle-in true xs ys h = h refl
 cycle-in false xs ys h = tt
 
 module _ (set : CharacterSet) (inside : Bool) (letter : Body) (o : Owner) where
-  view-sound : (past : List Body) (v : View) (rest : List Body) → TypedView set v → InItem set inside letter o past
-      → GoodAll set past (viewThen v rest)
-      → ViewFound set letter o v past rest
+  view-sound : {End : List Body → Type 0} (past : List Body) (v : View) (rest : List Body) → TypedView set v → InItem set inside letter o past
+      → GoodTo End set past (viewThen v rest)
+      → ViewFound End set letter o v past rest
   view-sound past v rest typed within good =
       let detail = as-type set 50 past (v .detail) (typed .detail) (good .first) in
       let image = as-type set 52 (v .detail ∷ past) (v .image) (typed .image) (good .rest .first) in
@@ -73,8 +73,8 @@ module _ (set : CharacterSet) (inside : Bool) (letter : Body) (o : Owner) where
         behind = analysis .behind;
       }
 
-  pub views-sound : (past : List Body) (vs : List View) (rest : List Body) → All (TypedView set) vs → InItem set inside letter o past
-      → GoodAll set past (viewsThen vs rest) → ViewsFound set letter o vs past rest
+  pub views-sound : {End : List Body → Type 0} (past : List Body) (vs : List View) (rest : List Body) → All (TypedView set) vs → InItem set inside letter o past
+      → GoodTo End set past (viewsThen vs rest) → ViewsFound End set letter o vs past rest
   views-sound past [] rest typed within good = record { sound = tt; unseen = λ e. refl; behind = good }
   views-sound past (v ∷ vs) rest typed within good =
       let here = view-sound past v (viewsThen vs rest) (typed .0) within good in

@@ -35,10 +35,17 @@ pub record Then (First Rest : Type 0) : Type 0 where
   pub first : First
   pub rest : Rest
 
--- all the records of a file, behind those of past, to the 99
+-- records behind those of past, to an end that is asked for
+abbrev pub GoodTo : (List Body → Type 0) → CharacterSet → List Body → List Body → Type 0
+GoodTo End set past [] = End past
+GoodTo End set past (b ∷ bs) = Then (Good set past b) (GoodTo End set (b ∷ past) bs)
+
+-- all the records of a file, to the 99
+abbrev pub At99 : CharacterSet → List Body → Type 0
+At99 set past = lastIn set past ≡ 99
+
 abbrev pub GoodAll : CharacterSet → List Body → List Body → Type 0
-GoodAll set past [] = lastIn set past ≡ 99
-GoodAll set past (b ∷ bs) = Then (Good set past b) (GoodAll set (b ∷ past) bs)
+GoodAll set past bs = GoodTo (At99 set) set past bs
 
 -- records read after those of past
 abbrev pub onto : List Body → List Body → List Body

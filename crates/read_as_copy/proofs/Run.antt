@@ -55,7 +55,7 @@ width-in (k ∷ ks) t e =
     pick true h l = h
     pick false h l = l
 
-width-small : (t : ℕ) → widthOf t ≤ 139
+pub width-small : (t : ℕ) → widthOf t ≤ 139
 width-small t = width-in layouts t refl
 
 -- a type may come next, where s stands before it

@@ -42,22 +42,22 @@ use Rattle.same_bytes.proofs.Itself.{completed-itself}
 use Rattle.passes.specs.declared.Turn.the-variants as turns
 
 -- the bytes of records, the newest first
-abbrev before : List Body → List ℕ
+abbrev pub before : List Body → List ℕ
 before [] = []
 before (b ∷ past) = before past ++ framed (b ∷ [])
 
-long-before : (past : List Body) → length (before past) ≡ extent past
+pub long-before : (past : List Body) → length (before past) ≡ extent past
 long-before [] = refl
 long-before (b ∷ past) = omega (arith, long-before past, length-append (before past) (framed (b ∷ [])), length-append b [])
 
-before-onto : (bs past : List Body) → before (onto bs past) ≡ before past ++ framed bs
+pub before-onto : (bs past : List Body) → before (onto bs past) ≡ before past ++ framed bs
 before-onto [] past = sym (append-nil (before past))
 before-onto (b ∷ bs) past =
     before-onto bs (b ∷ past) ∙ append-assoc (before past) (framed (b ∷ [])) (framed bs)
     ∙ ap (λ (x : List ℕ). before past ++ (lengthField (length b) ++ x)) (append-assoc b [] (framed bs))
 
 -- what stands in a file stands in a longer one
-held-more : (file more : List ℕ) (past : List Body) → extent past ≤ length file → Held Ascii file past → Held Ascii (file ++ more) past
+pub held-more : (file more : List ℕ) (past : List Body) → extent past ≤ length file → Held Ascii file past → Held Ascii (file ++ more) past
 held-more file more [] long h = tt
 held-more file more (b ∷ past) long h = (
   record {
@@ -71,7 +71,7 @@ held-more file more (b ∷ past) long h = (
 )
 
 module _ (past : List Body) (older : Held Ascii (before past) past) (b : Body) (g : Good Ascii past b) where
-  held-here : HeldAt Ascii (before (b ∷ past)) (extent past) b
+  pub held-here : HeldAt Ascii (before (b ∷ past)) (extent past) b
   held-here =
       record {
         rest = [];
@@ -79,10 +79,10 @@ module _ (past : List Body) (older : Held Ascii (before past) past) (b : Body) (
         sound = g .alone;
       }
 
-  held-older : Held Ascii (before (b ∷ past)) past
+  pub held-older : Held Ascii (before (b ∷ past)) past
   held-older = held-more (before past) (framed (b ∷ [])) past (omega (arith, long-before past)) older
 
-  agrees : AllOpened Ascii past → agreement Ascii (before (b ∷ past)) (over Ascii past) (extent past) (typeOf Ascii b) ≡ turns.Good (typeOf Ascii b)
+  pub agrees : AllOpened Ascii past → agreement Ascii (before (b ∷ past)) (over Ascii past) (extent past) (typeOf Ascii b) ≡ turns.Good (typeOf Ascii b)
   unfolding agreement
   agrees opened =
       let p = passed Ascii
@@ -91,7 +91,7 @@ module _ (past : List Body) (older : Held Ascii (before past) past) (b : Body) (
 
 -- a row whose record is completed as b
 module _ (v : Values) (vs : List Values) (file : List ℕ) (es : List Entry) (b : Body) (same : bodyOf v vs file es ≡ b) where
-  turn-good : (s : Standing) → standing Ascii file es ≡ s → mayFollow (s .inside) (s .last) (s .present) (v .type) ≡ true
+  pub turn-good : (s : Standing) → standing Ascii file es ≡ s → mayFollow (s .inside) (s .last) (s .present) (v .type) ≡ true
       → firstUnfit v (addendaBehind (v .type) vs) (layoutOf (v .type) .lines) (v .fields) ≡ 0 → firstWrong Ascii (layoutOf (v .type) .lines) b ≡ 0
       → firstUnfitPart (sizedParts (layoutOf (v .type))) (v .parts) ≡ 0
       → agreement Ascii (file ++ framed (b ∷ [])) s (length file) (v .type) ≡ turns.Good (v .type)

@@ -4,7 +4,7 @@ use native.Mathlib.Nat.{zero-add}
 use native.Mathlib.Omega.{arith}
 use mathlib.Core.Bool.{Bool, true, false, _&&_, _||_, cond}
 use mathlib.Core.Path.{_≡_, refl, sym, ap, ap₂, _∙_}
-use mathlib.Core.List.{List, [], _∷_, _++_, map}
+use mathlib.Core.List.{List, [], _∷_, _++_, map, append-nil}
 use lib.Dec.{leb, eqb}
 use lib.ListN.{length, take, drop, take-append-drop}
 use borrow.Author.Tests.{leb-true, eqb-true}
@@ -27,7 +27,7 @@ use Rattle.file_as_records.proofs.Held.{over}
 use Rattle.arrangement.specs.Sound.{All}
 use Rattle.draft.specs.Values.{layoutAmong, layoutOf, valuesAt, valuesOfBody}
 use Rattle.draft.specs.Completed.{addendaBehind, completed, firstUnfit, firstUnfitPart}
-use Rattle.same_bytes.proofs.Addenda.{check-states, return-states}
+use Rattle.same_bytes.proofs.Addenda.{inRun, whole-run, check-states, return-states}
 use Rattle.same_bytes.proofs.Lines.{Said, worked, numbered, lines-again, parts-again}
 use Rattle.same_bytes.proofs.Stated.{valuesAs, Told, all-lines}
 
@@ -81,7 +81,7 @@ right k b sound =
       parts = eqb-true _ 0 (parts .0);
     }
 
-type-told : (b : Body) → isCarried (typeOf Ascii b) ≡ true → number Ascii (part 0 2 b) ≡ typeOf Ascii b
+pub type-told : (b : Body) → isCarried (typeOf Ascii b) ≡ true → number Ascii (part 0 2 b) ≡ typeOf Ascii b
 unfolding typeOf isCarried
 type-told b e = cases (leb 2 (length b) && every (isNumeric Ascii) (take 2 b)) e
   where
@@ -90,11 +90,11 @@ type-told b e = cases (leb 2 (length b) && every (isNumeric Ascii) (take 2 b)) e
     cases false e = cc
 
 -- a record of type t, completed behind those of past and with so many addenda behind it
-record ItselfAs (t : ℕ) (past : List Body) (b : Body) (addenda : ℕ) : Type 0 where
-  same : completed (valuesAs t b) addenda (over Ascii past) ≡ b
-  fit : firstUnfit (valuesAs t b) addenda (layoutOf t .lines) (valuesAs t b .fields) ≡ 0
-  fields : firstWrong Ascii (layoutOf t .lines) b ≡ 0
-  parts : firstUnfitPart (sizedParts (layoutOf t)) (valuesAs t b .parts) ≡ 0
+pub record ItselfAs (t : ℕ) (past : List Body) (b : Body) (addenda : ℕ) : Type 0 where
+  pub same : completed (valuesAs t b) addenda (over Ascii past) ≡ b
+  pub fit : firstUnfit (valuesAs t b) addenda (layoutOf t .lines) (valuesAs t b .fields) ≡ 0
+  pub fields : firstWrong Ascii (layoutOf t .lines) b ≡ 0
+  pub parts : firstUnfitPart (sizedParts (layoutOf t)) (valuesAs t b .parts) ≡ 0
 
 module _ (t : ℕ) (past : List Body) (b : Body) (addenda : ℕ) (sound : judgedAs Ascii t b ≡ Sound) (told : Told t past b addenda) where
   own-kind : laid (layoutOf t) ≡ true
@@ -111,7 +111,7 @@ module _ (t : ℕ) (past : List Body) (b : Body) (addenda : ℕ) (sound : judged
       among (λ n k. Told n past b addenda → All (Said (valuesAs n b) addenda (cappedFigures (over Ascii past)) b) (worked (k .lines))) t b layouts
       (all-lines past b addenda) sound .0 told
 
-  itself-as : ItselfAs t past b addenda
+  pub itself-as : ItselfAs t past b addenda
   unfolding completed
   itself-as =
       let k = layoutOf t in
@@ -143,13 +143,14 @@ pub completed-itself : (past : List Body) (b : Body) (bs : List Body) → GoodAl
 unfolding valuesOfBody valuesAt
 completed-itself past b bs g =
     let addenda = addendaBehind (typeOf Ascii b) (map (valuesOfBody Ascii) bs) in
-    let counted : (item : ℕ) → typeOf Ascii b ≡ item → addendaBehind item (map (valuesOfBody Ascii) bs) ≡ addenda =
-    λ item e. ap (λ (t : ℕ). addendaBehind t (map (valuesOfBody Ascii) bs)) (sym e) in
+    let run = whole-run Ascii (b ∷ past) bs (g .rest) in
+    let counted : (item : ℕ) → typeOf Ascii b ≡ item → addendaBehind item (map (valuesOfBody Ascii) bs ++ []) ≡ addenda =
+    λ item e. ap₂ addendaBehind (sym e) (append-nil (map (valuesOfBody Ascii) bs)) in
     let told : Told (typeOf Ascii b) past b addenda =
     record {
       type = type-told b (g .first .carried);
-      of-check = λ e. check-states past b bs g e ∙ counted 25 e;
-      of-return = λ e. return-states past b bs g e ∙ counted 31 e;
+      of-check = λ e. check-states [] past b bs (run .0) (ap (inRun 25) (run .1)) e ∙ counted 25 e;
+      of-return = λ e. return-states [] past b bs (run .0) (ap (inRun 31) (run .1)) e ∙ counted 31 e;
       linked = g .first .linked;
       totalled = g .first .totalled;
     } in

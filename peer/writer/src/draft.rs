@@ -165,7 +165,7 @@ pub fn draft_by(file: &[u8], reading: &Reading, draft: &mut [u64]) -> Answer {
 }
 
 /// The row of a sound record. Numbers that the writer does not look at are 0.
-fn row_of(set: Set, code: u8, begin: u64, body: &[u8]) -> [u64; ROW] {
+pub fn row_of(set: Set, code: u8, begin: u64, body: &[u8]) -> [u64; ROW] {
     let layout = layout(code);
     let mut row = [0; ROW];
     row[0] = u64::from(code);

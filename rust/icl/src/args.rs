@@ -2,6 +2,7 @@
 
 use std::ffi::{OsStr, OsString};
 
+use crate::forms::Form;
 use crate::stop::Stop;
 use crate::words;
 
@@ -47,6 +48,16 @@ impl Args {
         self.options.iter().find(|option| option.0 == name).map(|option| option.1.as_os_str())
     }
 
+    /// How a listing is to be written.
+    pub fn form(&self) -> Result<Form, Stop> {
+        match (self.has("--csv"), self.has("--json")) {
+            (true, true) => Err(Stop::Usage("--csv and --json exclude each other".to_string())),
+            (true, _) => Ok(Form::Csv),
+            (_, true) => Ok(Form::Json),
+            _ => Ok(Form::Text),
+        }
+    }
+
     /// One name or more.
     pub fn several(&self) -> Result<&[OsString], Stop> {
         match self.names.is_empty() {
@@ -55,21 +66,43 @@ impl Args {
         }
     }
 
+    /// One name or more, and behind them one other.
+    pub fn several_and(&self, what: [&str; 2]) -> Result<(&[OsString], &OsStr), Stop> {
+        match self.names.split_last() {
+            Some((last, several)) if !several.is_empty() => Ok((several, last)),
+            _ => Err(Stop::Usage(format!("{} is missing", what[self.names.len()]))),
+        }
+    }
+
     /// As many names as there are things to be named.
     pub fn exactly<const COUNT: usize>(&self, what: [&str; COUNT]) -> Result<&[OsString; COUNT], Stop> {
         self.names.as_slice().try_into().map_err(|_| match what.get(self.names.len()) {
             Some(missing) => Stop::Usage(format!("{missing} is missing")),
-            None => Stop::Usage(format!(
-                "{} is too much",
-                self.names.get(COUNT).map_or_else(String::new, |n| words::name(n))
-            )),
+            None => {
+                let word = self.names.get(COUNT).map_or_else(String::new, |name| words::name(name));
+                let asked = match what.split_last() {
+                    None => "none is asked".to_string(),
+                    Some((last, [])) => format!("{last} alone is asked"),
+                    Some((last, others)) => format!("{} and {last} are asked", others.join(", ")),
+                };
+                Stop::Usage(format!("{word} is a word too many: {asked}"))
+            }
         })
     }
 }
 
 /// The decimal number of 64 bits in a word, which is named by what it should be.
 pub fn number(word: &OsStr, what: &str) -> Result<u64, Stop> {
-    let digits = word.to_str().filter(|text| text.bytes().all(|byte| byte.is_ascii_digit()));
-    let number = digits.and_then(|digits| digits.parse().ok());
-    number.ok_or_else(|| Stop::Usage(format!("{} is no {what}: a decimal number is needed", words::name(word))))
+    let digits = word.to_str().filter(|text| !text.is_empty() && text.bytes().all(|byte| byte.is_ascii_digit()));
+    match digits.map(str::parse) {
+        Some(Ok(number)) => Ok(number),
+        Some(Err(_)) => {
+            let (word, most) = (words::name(word), u64::MAX);
+            Err(Stop::Usage(format!("{word} is too large for a number: {what} is at most {most}")))
+        }
+        None => {
+            let word = if word.is_empty() { "an empty word".to_string() } else { words::name(word) };
+            Err(Stop::Usage(format!("{word} is no {what}: a decimal number is needed")))
+        }
+    }
 }

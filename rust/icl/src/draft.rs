@@ -18,6 +18,10 @@ pub fn run(args: Args) -> Result<u8, Stop> {
     let [file] = args.exactly(["FILE"])?;
     let folder = args.option("-o").ok_or_else(|| Stop::Usage("-o DIR is missing".to_string()))?;
     let (folder, force) = (Path::new(folder), args.has("--force"));
+    if folder.is_file() {
+        let shown = words::name(folder.as_os_str());
+        return Err(Stop::trouble(format!("{shown}: it is a file, and -o takes the name of a folder")));
+    }
     let (bytes, reading) = input::accepted(file)?;
     let draft = Draft::of(&bytes).map_err(|refusal| input::refused(file, &bytes, &refusal))?;
     let parts = Parts::of(&reading, &draft, &bytes);

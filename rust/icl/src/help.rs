@@ -2,16 +2,16 @@
 
 use std::ffi::{OsStr, OsString};
 
-const GENERAL: &str = "\
+pub const GENERAL: &str = "\
 icl: checks X9.100-180 image cash letters, lists what they hold, takes out their pictures and looks into them,
 makes the letters out, and keeps a day book of them
 
 use:
-  icl check [--explain] FILE...
-  icl rows [--csv | --json] FILE
-  icl tree FILE
+  icl check [--explain] [--csv | --json] FILE...
+  icl rows [--walk] [--csv | --json] FILE...
+  icl tree [--depth letter|bundle|item] [--walk] [--csv | --json] FILE...
   icl picture [--force] FILE OFFSET -o OUT
-  icl pictures [--force] FILE DIR
+  icl pictures [--force] FILE... DIR
   icl tags FILE
   icl tags --tiff IMAGE...
   icl draft [--force] FILE -o DIR
@@ -25,57 +25,79 @@ use:
   icl book totals BOOK --owner 1|2
   icl book grow BOOK [--rows N] [--places N]
   icl book convert OLD NEW [--owner 1|2]
+  icl find [--csv | --json] FILE... --sequence N | --amount A | --routing R | --account TEXT
+           [--pictures DIR [--force]]
+  icl show FILE RECORD|OFFSET
+  icl summary [--csv | --json] FILE...
+  icl diff A B
+  icl completion bash
+  icl manual
   icl COMMAND --help
   icl --version
 
 FILE is the name of a file, or - for standard input; it has at most 268435456 bytes (256 MiB). Its
 characters are ASCII, or EBCDIC (code page 037) where its bytes 5 and 6 are F0 F1; they are shown as text.
+FILE... is one or several; a folder among them stands for the files in it, in the order of their names, without
+hidden ones and without those of folders in it. Several are worked on at once, and told in the order given.
 After -- every word is a name, even one that begins with a dash.
-Exit status: 0 all accepted and done; 1 a file, picture, draft or day book was refused; 2 something could not
-be read or written, or the command was not understood. With NO_COLOR set there are no colours.
+Exit status: 0 all accepted and done; 1 a file, picture, draft or day book was refused, or the two files of
+icl diff differ; 2 something could not be read or written, letter.json is no draft, or the command was not
+understood. 2 wins over 1.
+With NO_COLOR set there are no colours.
 ";
 
 const CHECK: &str = "\
-icl check [--explain] FILE...
+icl check [--explain] [--csv | --json] FILE...
 
 Prints a line for each file:
   accepted records R letters L bundles B items I views V debit D     (D in cents)
   refused N record R field F offset O                                (the first fault found)
-With several files each line is preceded by the file's name. Below the line of a file in EBCDIC stands
+With several files, or a folder, each line is preceded by the file's name. Below the line of a file in EBCDIC stands
   character set: EBCDIC (code page 037)
 A file of more than 268435456 bytes is refused with number 1, and told on standard error besides.
   --explain   adds the fault in plain words: the number's name, the record and field with their
               names in the standard, the bytes found there, and what they disagree with (in EBCDIC
               also a byte that is no character), and in the last line whether bytes that follow could
               mend the file; for an accepted file the debits and the credits it adds up to
+  --csv, --json   for programs (docs/ICL.md): a row for each file, those that could not be read too
 
 N is 1 SIZE, 2 ROOM, 3 CUT, 4 LENGTH, 5 TYPE, 6 PLACE, 7 FIELD, 8 LINK, 9 TOTAL, 10 OPEN or 11 AFTER.
 Exit status: 0 all accepted, 1 some refused, 2 something could not be read.
 ";
 
 const ROWS: &str = "\
-icl rows [--csv | --json] FILE
+icl rows [--walk] [--csv | --json] FILE...
 
-Prints a row for each record of an accepted file: the record's ordinal, its type, the offset of its
+Prints a row for each record of accepted files: the record's ordinal, its type, the offset of its
 length field, its length, the ordinals of its cash letter, bundle and item (0 outside any), the amount
 in cents (of an item, or the debits that the part which a control record closes adds up to), the name of
 its kind. A credit (type 61) in a bundle is an item of it; one directly in a cash letter has bundle 0 and
-item 0, and so have its views.
-  --csv       comma separated, with a first line of column names
-  --json      an array of objects, one on a line
-Exit status: 0 accepted, 1 refused (told on standard error), 2 it could not be read.
+item 0, and so have its views. With several files, or a folder, the file's name stands above.
+  --walk      any file, a refused one too: the records that the lengths frame up to the first fault, and the
+              fault in its place. The first line tells whether the file is accepted; nothing is said of what
+              belongs to what, nor of sums
+  --csv       comma separated, with a first line of column names (docs/ICL.md)
+  --json      an array of objects, one on a line (docs/ICL.md)
+Exit status: 0 accepted, 1 refused (told on standard error, with --walk in the list), 2 it could not be read.
 ";
 
 const TREE: &str = "\
-icl tree FILE
+icl tree [--depth letter|bundle|item] [--walk] [--csv | --json] FILE...
 
-Prints the cash letters, bundles, items, addenda and views of an accepted file, each level with its own
+Prints the cash letters, bundles, items, addenda and views of accepted files, each level with its own
 debits and credits, and the routing numbers, dates and sequence numbers as they stand in the file. A credit
 (type 61) in a bundle is one of its items; those directly in a cash letter stand between its bundles as
 credit record 1, 2 and so on. With Record Usage Indicator 9 it is a debit adjustment and counts as a debit.
 The offset beside a picture is the one that icl picture takes. Below the first line of a file in EBCDIC
-stands its character set; its fields are shown translated.
-Exit status: 0 accepted, 1 refused (told on standard error), 2 it could not be read.
+stands its character set; its fields are shown translated. With several files, or a folder, the file's name
+stands above.
+  --depth D   no further down than the cash letters (letter), the bundles (bundle), or the items, without their
+              addenda and views (item)
+  --walk      any file, a refused one too: the records that the lengths frame up to the first fault, and the
+              fault in its place, set in by their types alone. The first line tells whether the file is accepted;
+              nothing is said of what belongs to what, nor of sums
+  --csv, --json   for programs (docs/ICL.md): a row for each level
+Exit status: 0 accepted, 1 refused (told on standard error, with --walk in the list), 2 it could not be read.
 ";
 
 const PICTURE: &str = "\
@@ -89,15 +111,17 @@ Exit status: 0 written, 1 refused (told on standard error), 2 something could no
 ";
 
 const PICTURES: &str = "\
-icl pictures [--force] FILE DIR
+icl pictures [--force] FILE... DIR
 
-Writes the picture of every view of an accepted file into the folder DIR, made where it is missing, under
-the ordinals of its cash letter, bundle, item and view: letter-001_bundle-001_item-0001_view-01.tif. A
-credit (type 61) in a bundle is one of its items. Those directly in a cash letter are counted by themselves,
-with views or without, and their pictures are letter-001_credit-0001_view-01.tif and so on. The ending is the
+Writes the picture of every view of an accepted file into the folder DIR, made where it is missing, with a folder
+for each cash letter and bundle, under the ordinals: letter-001/bundle-001/item-0001_view-01.tif. A credit (type 61)
+in a bundle is one of its items. Those directly in a cash letter are counted by themselves, with views or without,
+and their pictures are letter-001/credit-0001_view-01.tif and so on. Where a file has more of a kind than the digits
+tell, all its names have as many digits as are needed: they always sort in the order of the file. The ending is the
 one that the standard gives for the view's format (field 5 of its type 50 record), or img. A view without
-image bytes gives an empty file. All pictures are written under temporary names first and then renamed, so
-that on any fault none is left behind.
+image bytes gives an empty file. All pictures of a file are written under temporary names first and then renamed, so
+that on any fault none of that file is left behind. With several files, or a folder, each file's pictures go into a
+folder of its own name within DIR.
   --force     overwrite pictures that are there already; otherwise none is written if one is there
 Exit status: 0 written, 1 refused (told on standard error), 2 something could not be read or written.
 ";
@@ -134,7 +158,7 @@ copy in ASCII). The text is JSON: a list of records in the order of the file, ea
   \"type\"       the two digits of its type, and \"record\", the name of its kind
   its fields   by their names in the standard, as texts. Blanks that fill a field up are left out (behind
                the text, or before it in the MICR fields, which are right justified), and so are blank fields
-  its parts    of bytes as {\"file\": NAME}. Pictures are named as icl pictures names them; signatures,
+  its parts    of bytes as {\"file\": NAME}, in one folder: letter-001_bundle-001_item-0001_view-01.tif; signatures,
                certificates and ancillary data end in .signature, .certificate and .ancillary
   \"blank MICR total\": true    in a bundle control whose MICR total is blank
 What icl write works out is left out: record types, lengths, addendum counts, record numbers, counts, sums.
@@ -203,6 +227,78 @@ Refusals are told on standard error: those of icl check FILE, and with record, f
 Exit status: 0 done, 1 refused, 2 something could not be read or written, or there is no file BOOK.
 ";
 
+const FIND: &str = "\
+icl find [--csv | --json] FILE... --sequence N | --amount A | --routing R | --account TEXT
+         [--pictures DIR [--force]]
+
+Lists the items of accepted files that match, be they checks, returns or credits (type 61): file, cash letter,
+bundle and item, kind, amount, sequence number, routing number and account as they stand in the file, which field
+matched, the offsets of the pictures (as icl picture takes them), and what the bundle and the cash letter add up to.
+The last line tells how many were found, and what was looked for. Of several conditions all have to hold.
+  --sequence N    the item's sequence number: field 7 of a check or return, field 8 of a credit
+  --amount A      125.50 in dollars and cents; without a point in cents, as the file has it: 12550
+  --routing R     the payor bank's routing number (field 4), or the posting bank's of a credit (field 5)
+  --account TEXT  the On-Us field (field 5, of a credit field 6) or a Deposit Account Number at BOFD of its addenda
+                  that holds TEXT
+  --pictures DIR  takes out the pictures of these items, named as icl pictures names them
+  --force         overwrite pictures that are there already
+  --csv, --json   for programs (docs/ICL.md)
+Zeros before a number, and blanks, make no difference. FILE may be a folder, which stands for the files in it.
+Exit status: 0 looked through, whether or not anything was found, 1 a file was refused (told on standard error),
+2 something could not be read or written.
+";
+
+const SHOW: &str = "\
+icl show FILE RECORD|OFFSET
+
+Shows one record field by field: number, position, name, the characters as they stand there, whether its rule holds,
+and what it means (amounts, dates, numbers and codes in words). Below a field whose rule is broken stands what is
+asked of it. A number counts the records of the file from 1, as icl rows does; where there are not so many it is the
+offset of the record's length, and with an @ before it, as @623, always.
+Any file will do, a refused one too: every record is shown that the lengths frame. In an accepted file, and before the
+first fault, every rule holds. In the record at fault that fault is told; for the rest it is judged alone, as those
+behind it are, without the links and sums that join records: a rule then holds alone.
+Exit status: 0 the file is accepted, 1 it is refused (the record is shown all the same), 2 it could not be read, or it
+has no such record.
+";
+
+const SUMMARY: &str = "\
+icl summary [--csv | --json] FILE...
+
+Prints a table: a line for each accepted file with its records, bundles, items, views, debits and credits, a line for
+each of its cash letters, and for a refused file its refusal as icl check prints it. The last line adds up all accepted
+files, and tells how many were refused and how many could not be read: none of those is in the sums.
+  --csv, --json   for programs (docs/ICL.md), amounts in cents
+Exit status: 0 all accepted, 1 some refused, 2 something could not be read.
+";
+
+const DIFF: &str = "\
+icl diff A B
+
+Compares two accepted files by what they hold, wherever it stands: tells which cash letters, bundles, items and credits
+are the same in both, which are changed, with every field that differs, and which are in one of them only. Items are
+known again by their whole contents, then by their sequence number, then by account, routing number and amount; bundles
+and cash letters by the items that they share, then by their headers. An item in one file only whose contents stand
+elsewhere in the other is told with its place there. Pictures are compared byte by byte. A file in EBCDIC is compared by
+its characters. The last lines count what is the same, changed, in A only and in B only.
+Exit status: 0 the same, 1 they differ, or one was refused (told on standard error), 2 something could not be read.
+";
+
+const COMPLETION: &str = "\
+icl completion bash
+
+Prints what has bash complete commands, flags, their values and file names: put it where bash looks for it (./install does),
+or say  source <(icl completion bash).
+Exit status: 0 printed, 2 it could not be written.
+";
+
+const MANUAL: &str = "\
+icl manual
+
+Prints the manual page, as man takes it: put it where man looks for it (./install does), or say  icl manual | man -l -.
+Exit status: 0 printed, 2 it could not be written.
+";
+
 /// The help for a command, or the general one for a word that asks for help or version.
 pub fn of(command: &str) -> Option<&'static str> {
     match command {
@@ -215,6 +311,12 @@ pub fn of(command: &str) -> Option<&'static str> {
         "draft" => Some(DRAFT),
         "write" => Some(WRITE),
         "book" => Some(BOOK),
+        "find" => Some(FIND),
+        "show" => Some(SHOW),
+        "summary" => Some(SUMMARY),
+        "diff" => Some(DIFF),
+        "completion" => Some(COMPLETION),
+        "manual" => Some(MANUAL),
         "--help" | "-h" | "help" | "--version" | "-V" => Some(GENERAL),
         _ => None,
     }

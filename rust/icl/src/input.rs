@@ -32,8 +32,26 @@ pub fn bytes(file: &OsStr) -> Result<Input, Stop> {
     let length = Some(about.len()).filter(|length| about.is_file() && *length > 0);
     match length.and_then(above_limit) {
         Some(refusal) => Ok(too_large(file, refusal, &format!("it has {}", about.len()))),
-        None => gather(opened, length, file).map_err(trouble),
+        None => match gather(opened, length, file).map_err(trouble)? {
+            // Such as /dev/zero.
+            Input::TooLarge(..) if is_device(&about) => {
+                let words = format!("it is a device, not a file, and gives more than {LIMIT} bytes");
+                Err(Stop::trouble(format!("{}: {words}", words::spoken(file))))
+            }
+            input => Ok(input),
+        },
     }
+}
+
+#[cfg(unix)]
+fn is_device(about: &std::fs::Metadata) -> bool {
+    use std::os::unix::fs::FileTypeExt;
+    about.file_type().is_char_device() || about.file_type().is_block_device()
+}
+
+#[cfg(not(unix))]
+fn is_device(_: &std::fs::Metadata) -> bool {
+    false
 }
 
 /// Reads to the end, or one byte past the limit, which tells that there is too much.

@@ -4,12 +4,12 @@
 // Imports go one way. This root imports the modules, and no module imports the root; among themselves each imports only those on lines
 // below its own. `x9180/tests/imports.rs` fails where that is not so.
 //
-//     check, rows, tree, pictures, tags, draft, write, book    the commands
-//     book_convert
-//     book_words
-//     args, input, output, sheet, names, help, book_file, book_list, durable
-//     store, json, places
-//     screen, interrupt
+//     check, rows, tree, pictures, tags, draft, write, book, find, show, summary, diff, completion, manual    the commands
+//     book_convert, find_query, meaning, walked, tree_rows
+//     book_words, each, taking
+//     args, input, output, sheet, names, usage, book_file, book_list, durable, facts, codes, verdicts, walk, fields, diff_match, diff_records
+//     store, forms, places, files, help
+//     screen, interrupt, json
 //     stop
 //     words
 mod args;
@@ -19,12 +19,26 @@ mod book_file;
 mod book_list;
 mod book_words;
 mod check;
+mod codes;
+mod completion;
+mod diff;
+mod diff_match;
+mod diff_records;
 mod draft;
 mod durable;
+mod each;
+mod facts;
+mod fields;
+mod files;
+mod find;
+mod find_query;
+mod forms;
 mod help;
 mod input;
 mod interrupt;
 mod json;
+mod manual;
+mod meaning;
 mod names;
 mod output;
 mod pictures;
@@ -32,10 +46,18 @@ mod places;
 mod rows;
 mod screen;
 mod sheet;
+mod show;
 mod stop;
 mod store;
+mod summary;
 mod tags;
+mod taking;
 mod tree;
+mod tree_rows;
+mod usage;
+mod verdicts;
+mod walk;
+mod walked;
 mod words;
 mod write;
 
@@ -74,15 +96,26 @@ fn run(mut words: Vec<OsString>) -> Result<u8, Stop> {
         screen::print(&text)?;
         return Ok(DONE);
     }
+    if command == "book" {
+        return book::run(words);
+    }
+    let (flags, options) = usage::of(&command.to_string_lossy());
+    let args = Args::of(words, &flags, &options)?;
     match command.to_str() {
-        Some("check") => check::run(Args::of(words, &["--explain"], &[])?),
-        Some("rows") => rows::run(Args::of(words, &["--csv", "--json"], &[])?),
-        Some("tree") => tree::run(Args::of(words, &[], &[])?),
-        Some("picture") => pictures::one(Args::of(words, &["--force"], &["-o"])?),
-        Some("tags") => tags::run(Args::of(words, &["--tiff"], &[])?),
-        Some("draft") => draft::run(Args::of(words, &["--force"], &["-o"])?),
-        Some("write") => write::run(Args::of(words, &["--force"], &["-o"])?),
-        Some("book") => book::run(words),
-        _ => pictures::all(Args::of(words, &["--force"], &[])?),
+        Some("check") => check::run(args),
+        Some("rows") => rows::run(args),
+        Some("tree") => tree::run(args),
+        Some("picture") => pictures::one(args),
+        Some("pictures") => pictures::all(args),
+        Some("tags") => tags::run(args),
+        Some("draft") => draft::run(args),
+        Some("write") => write::run(args),
+        Some("find") => find::run(args),
+        Some("show") => show::run(args),
+        Some("summary") => summary::run(args),
+        Some("diff") => diff::run(args),
+        Some("completion") => completion::run(args),
+        Some("manual") => manual::run(args),
+        _ => Err(Stop::Usage(format!("{} is no command", words::name(&command)))),
     }
 }

@@ -22,6 +22,10 @@ pub fn put(out: &OsStr, bytes: &[u8], force: bool, what: &str) -> Result<(), Sto
 fn put_file(path: &Path, bytes: &[u8], force: bool) -> Result<(), Stop> {
     let trouble = |error: Error| trouble(path, &error);
     let (folder, name) = place(path)?;
+    if path.is_dir() {
+        let shown = words::name(path.as_os_str());
+        return Err(Stop::trouble(format!("{shown}: it is a folder, and -o takes the name of a file to write")));
+    }
     free(path, force).map_err(trouble)?;
     let mut staging = Staging::within(folder, force).map_err(trouble)?;
     staging.write(name, bytes).and_then(|()| staging.place(name)).map_err(trouble)?;

@@ -1,14 +1,16 @@
 //! `icl picture` and `icl pictures`: pictures taken out of a file.
 
-use std::path::{Path, PathBuf};
+use std::ffi::OsStr;
+use std::io::Write;
 
 use crate::args::{number, Args};
+use crate::each::{self, Around, Done};
+use crate::files::Files;
 use crate::input;
 use crate::names;
-use crate::output::{self, trouble};
-use crate::screen::{print, Progress};
+use crate::output;
 use crate::stop::{Stop, DONE};
-use crate::store::Staging;
+use crate::taking::Destination;
 use crate::words::{self, counted};
 
 pub fn one(args: Args) -> Result<u8, Stop> {
@@ -22,28 +24,15 @@ pub fn one(args: Args) -> Result<u8, Stop> {
 }
 
 pub fn all(args: Args) -> Result<u8, Stop> {
-    let [file, folder] = args.exactly(["FILE", "DIR"])?;
-    let force = args.has("--force");
-    let (bytes, reading) = input::accepted(file)?;
-    let folder = Path::new(folder);
-    let views: Vec<(PathBuf, u64)> =
-        names::of_views(&reading, &bytes).iter().map(|view| (view.picture().into(), view.offset)).collect();
-    output::all_free(folder, views.iter().map(|(name, _)| name), force)?;
-    let mut staging = Staging::within(folder, force).map_err(|error| trouble(folder, &error))?;
-    let mut progress = Progress::new();
-    let mut written = 0;
-    for (done, (name, offset)) in views.iter().enumerate() {
-        let picture = x9180::picture(&bytes, *offset).map_err(|refusal| input::refused(file, &bytes, &refusal))?;
-        staging.write(name, picture).map_err(|error| trouble(&folder.join(name), &error))?;
-        written += picture.len() as u64;
-        progress.show(|| format!("writing pictures: {done} of {}", views.len()));
-    }
-    for (name, _) in &views {
-        staging.place(name).map_err(|error| trouble(&folder.join(name), &error))?;
-    }
-    staging.keep();
-    drop(progress);
-    let (pictures, bytes) = (counted(views.len() as u64, "picture"), counted(written, "byte"));
-    print(&format!("{pictures} ({bytes}) written to {}\n", words::name(folder.as_os_str())))?;
-    Ok(DONE)
+    let (files, folder) = args.several_and(["FILE", "DIR"])?;
+    let files = Files::of(files);
+    let destination = Destination::new(folder, &files, args.has("--force"))?;
+    let take = |file: &OsStr, out: &mut dyn Write| {
+        let (bytes, reading) = input::accepted(file)?;
+        let said = destination.take(file, &bytes, &names::of_views(&reading, &bytes))?;
+        let name = if files.several { format!("{}: ", words::name(file)) } else { String::new() };
+        writeln!(out, "{name}{said}").map_err(Stop::output)?;
+        Ok(Done::well(()))
+    };
+    each::file(&files, &Around::text(), take, |()| {})
 }

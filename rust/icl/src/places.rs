@@ -4,25 +4,15 @@ use x9180::{Content, Item, Reading, View};
 
 /// A view and the ordinals that lead to it.
 pub struct PlacedView<'r> {
-    letter: u64,
+    pub letter: u64,
     /// `None` for the view of a credit directly in its cash letter.
-    bundle: Option<u64>,
+    pub bundle: Option<u64>,
     /// Of its item in the bundle, or of its credit among those directly in the cash letter.
-    item: u64,
+    pub item: u64,
     pub view: View<'r>,
 }
 
 impl PlacedView<'_> {
-    /// What its files are named by: `letter-001_bundle-001_item-0001_view-01`.
-    pub fn name(&self) -> String {
-        let PlacedView { letter, bundle, item, view } = self;
-        let item = match bundle {
-            Some(bundle) => format!("bundle-{bundle:03}_item-{item:04}"),
-            None => format!("credit-{item:04}"),
-        };
-        format!("letter-{letter:03}_{item}_view-{:02}", view.ordinal())
-    }
-
     /// How it is told: `cash letter 1, bundle 1, item 1, view 1, at offset 623`.
     pub fn told(&self) -> String {
         let PlacedView { letter, bundle, item, view } = self;
@@ -52,7 +42,8 @@ pub fn of_views(reading: &Reading) -> Vec<PlacedView<'_>> {
     views
 }
 
-fn of_item<'r>(letter: u64, bundle: Option<u64>, item: &Item<'r>) -> impl Iterator<Item = PlacedView<'r>> {
+/// The views of one item, given the ordinals of its cash letter and bundle.
+pub fn of_item<'r>(letter: u64, bundle: Option<u64>, item: &Item<'r>) -> impl Iterator<Item = PlacedView<'r>> {
     let ordinal = item.ordinal();
     item.views().map(move |view| PlacedView { letter, bundle, item: ordinal, view })
 }

@@ -1,5 +1,6 @@
 //! What is written to standard output and standard error: colours and progress on a terminal only.
 
+use std::cell::Cell;
 use std::io::{stderr, stdout, IsTerminal, Write};
 use std::sync::mpsc::{channel, RecvTimeoutError};
 use std::time::{Duration, Instant};
@@ -8,7 +9,20 @@ use crate::stop::Stop;
 
 /// Work that takes less time than this shows no progress.
 const PATIENCE: Duration = Duration::from_millis(500);
-const TICK: Duration = Duration::from_millis(200);
+pub const TICK: Duration = Duration::from_millis(200);
+
+thread_local! {
+    static QUIET: Cell<bool> = const { Cell::new(false) };
+}
+
+/// From now on this thread shows no progress: it is one of several, and one other tells how far all have come.
+pub fn be_quiet() {
+    QUIET.with(|quiet| quiet.set(true));
+}
+
+fn shows_progress() -> bool {
+    stderr().is_terminal() && !QUIET.with(Cell::get)
+}
 
 #[derive(Clone, Copy)]
 pub enum Colour {
@@ -54,7 +68,14 @@ pub struct Progress {
 
 impl Progress {
     pub fn new() -> Progress {
-        Progress { terminal: stderr().is_terminal(), started: Instant::now(), shown: None }
+        Progress { terminal: shows_progress(), started: Instant::now(), shown: None }
+    }
+
+    /// The same, but nothing where standard output is a terminal too: there the output itself is seen.
+    pub fn beside_output() -> Progress {
+        let mut progress = Progress::new();
+        progress.terminal &= !stdout().is_terminal();
+        progress
     }
 
     /// Shows the words, now and then.
@@ -66,20 +87,24 @@ impl Progress {
             self.shown = Some(now);
         }
     }
-}
 
-impl Drop for Progress {
     /// Wipes the line.
-    fn drop(&mut self) {
-        if self.shown.is_some() {
+    pub fn wipe(&mut self) {
+        if self.shown.take().is_some() {
             let _ = write!(stderr(), "\r\x1b[K");
         }
     }
 }
 
+impl Drop for Progress {
+    fn drop(&mut self) {
+        self.wipe();
+    }
+}
+
 /// Does work that cannot tell how far it has come, and shows the seconds meanwhile.
 pub fn with_clock<T>(words: &str, work: impl FnOnce() -> T) -> T {
-    if !stderr().is_terminal() {
+    if !shows_progress() {
         return work();
     }
     std::thread::scope(|scope| {

@@ -14,6 +14,8 @@ pub struct Staging {
     made: bool,
     force: bool,
     placed: Vec<PathBuf>,
+    /// The folders that were made in the destination, each before those in it.
+    folders: Vec<PathBuf>,
     kept: bool,
 }
 
@@ -31,6 +33,7 @@ impl Staging {
             made,
             force,
             placed: Vec::new(),
+            folders: Vec::new(),
             kept: false,
         };
         for turn in 0u32.. {
@@ -47,9 +50,16 @@ impl Staging {
         Ok(staging)
     }
 
-    /// Writes a file under its name, still out of sight.
+    /// Writes a file under its name, which may lead through folders, still out of sight.
     pub fn write(&self, name: &Path, bytes: &[u8]) -> Result<()> {
-        let mut file = fs::File::create_new(self.folder.join(name))?;
+        let path = self.folder.join(name);
+        let mut file = match fs::File::create_new(&path) {
+            Err(error) if error.kind() == ErrorKind::NotFound => {
+                fs::create_dir_all(path.parent().unwrap_or(&self.folder))?;
+                fs::File::create_new(&path)?
+            }
+            file => file?,
+        };
         for piece in bytes.chunks(1 << 20) {
             interrupt::heed()?;
             file.write_all(piece)?;
@@ -69,6 +79,7 @@ impl Staging {
     pub fn place(&mut self, name: &Path) -> Result<()> {
         let (from, to) = (self.folder.join(name), self.destination.join(name));
         free(&to, self.force)?;
+        self.make_folders_for(name)?;
         if self.force {
             return fs::rename(from, to);
         }
@@ -80,6 +91,24 @@ impl Staging {
             Ok(()) => {}
         }
         self.placed.push(to);
+        Ok(())
+    }
+
+    /// Makes the folders in the destination that a name leads through.
+    fn make_folders_for(&mut self, name: &Path) -> Result<()> {
+        let parent = self.destination.join(name.parent().unwrap_or(Path::new("")));
+        if self.folders.last() == Some(&parent) || parent.is_dir() {
+            return Ok(());
+        }
+        let mut folder = self.destination.clone();
+        for part in name.parent().into_iter().flat_map(Path::components) {
+            folder.push(part);
+            match fs::create_dir(&folder) {
+                Err(error) if error.kind() == ErrorKind::AlreadyExists && folder.is_dir() => {}
+                Err(error) => return Err(error),
+                Ok(()) => self.folders.push(folder.clone()),
+            }
+        }
         Ok(())
     }
 
@@ -96,6 +125,7 @@ impl Drop for Staging {
         }
         if !self.kept {
             self.placed.iter().for_each(|path| drop(fs::remove_file(path)));
+            self.folders.iter().rev().for_each(|path| drop(fs::remove_dir(path)));
             if self.made {
                 let _ = fs::remove_dir(&self.destination);
             }

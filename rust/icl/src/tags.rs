@@ -9,7 +9,7 @@ use x9180::TagFault;
 use crate::args::Args;
 use crate::input::{self, Input};
 use crate::places::{self, PlacedView};
-use crate::screen::{coloured, complain, print, Colour};
+use crate::screen::{coloured, complain, print, Colour, Progress};
 use crate::stop::{Stop, DONE, REFUSED, TROUBLE};
 use crate::words::{self, counted, grouped};
 
@@ -26,9 +26,12 @@ fn of_letter(file: &OsStr) -> Result<u8, Stop> {
     let (bytes, reading) = input::accepted(file)?;
     let mut out = BufWriter::new(stdout().lock());
     let mut seen = Seen::default();
-    for placed in places::of_views(&reading) {
+    let mut progress = Progress::beside_output();
+    let views = places::of_views(&reading);
+    for (done, placed) in views.iter().enumerate() {
+        progress.show(|| format!("judging pictures: {} of {}", grouped(done as u64), grouped(views.len() as u64)));
         if !placed.view.is_tiff(&bytes) {
-            seen.pass_over(&placed, &bytes);
+            seen.pass_over(placed, &bytes);
             continue;
         }
         let picture =

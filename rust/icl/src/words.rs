@@ -38,7 +38,12 @@ pub fn plain(error: &Error) -> String {
 
 /// Cents as an amount: `1,234.56`.
 pub fn amount(cents: u64) -> String {
-    format!("{}.{:02}", grouped(cents / 100), cents % 100)
+    amount_wide(cents.into())
+}
+
+/// The same of a sum that may pass 64 bits.
+pub fn amount_wide(cents: u128) -> String {
+    format!("{}.{:02}", grouped_wide(cents / 100), cents % 100)
 }
 
 /// Cents with a sign as an amount: `+1,234.56`, `-0.07`, `0.00`.
@@ -53,6 +58,11 @@ pub fn signed_amount(cents: i64) -> String {
 
 /// A number with a comma before each group of three digits.
 pub fn grouped(number: u64) -> String {
+    grouped_wide(number.into())
+}
+
+/// The same of a number that may pass 64 bits.
+pub fn grouped_wide(number: u128) -> String {
     let digits = number.to_string();
     let mut text = String::new();
     for (place, digit) in digits.chars().enumerate() {

@@ -228,7 +228,7 @@ fn words_that_are_missing() {
     for (words, complaint) in [
         (format!("withdraw {book} 1"), "--owner N is missing, N being 1 or 2"),
         (format!("withdraw {book} --owner 1"), "ENTRY is missing"),
-        (format!("withdraw {book} 1 2 --owner 1"), "2 is too much"),
+        (format!("withdraw {book} 1 2 --owner 1"), "2 is a word too many: BOOK and ENTRY are asked"),
         (format!("withdraw {book} one --owner 1"), "one is no entry number: a decimal number is needed"),
         ("tidy".to_string(), "BOOK is missing"),
         (format!("tidy {book} --owner 1"), "--owner is not known here"),

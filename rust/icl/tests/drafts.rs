@@ -154,14 +154,15 @@ fn the_text_of_a_draft() {
     let names = ["ancillary", "signature"].map(|end| format!("letter-001_bundle-001_item-0001_view-01.{end}"));
     assert_eq!(drafted.folder.names("dir"), [&names[0], &names[1], "letter.json"]);
 
-    // The pictures have the names and the bytes that `pictures` gives them.
+    // The pictures have the bytes and the ordinals that `pictures` gives them, all in one folder.
     let drafted = Drafted::of("text-pictures", PICTURED);
     assert_eq!(run(&format!("pictures {PICTURED} {}", drafted.folder.path("pictures"))).0, 0);
-    let pictures = drafted.folder.names("pictures");
-    assert_eq!(drafted.folder.names("dir"), [pictures.as_slice(), &["letter.json".to_string()]].concat());
-    for name in pictures {
-        let of = |folder: &str| fs::read(drafted.folder.0.join(folder).join(&name)).unwrap();
-        assert_eq!(of("dir"), of("pictures"), "{name}");
+    let pictures = drafted.folder.all("pictures");
+    let flat: Vec<String> = pictures.iter().map(|path| path.replace('/', "_")).collect();
+    assert_eq!(drafted.folder.names("dir"), [flat.as_slice(), &["letter.json".to_string()]].concat());
+    for (path, name) in pictures.iter().zip(flat) {
+        let of = |folder: &str, name: &str| fs::read(drafted.folder.0.join(folder).join(name)).unwrap();
+        assert_eq!(of("dir", &name), of("pictures", path), "{name}");
         assert!(drafted.text.contains(&format!("    \"Image Data\": {{\"file\": \"{name}\"}}\n")));
     }
     // A file in EBCDIC gives the same text.
@@ -434,8 +435,8 @@ fn places_where_nothing_can_be_written() {
     let (deep, file) = (folder.path("missing/deep"), folder.with("file", b""));
     let complaint = format!("icl: {deep}: there is no such file or folder\n");
     assert_eq!(run(&format!("draft {CHECKS} -o {deep}")), (2, String::new(), complaint));
-    let (status, _, complaint) = run(&format!("draft {CHECKS} -o {file}"));
-    assert_eq!((status, complaint.ends_with(": a part of the path is no folder\n")), (2, true), "{complaint}");
+    let complaint = format!("icl: {file}: it is a file, and -o takes the name of a folder\n");
+    assert_eq!(run(&format!("draft {CHECKS} -o {file}")), (2, String::new(), complaint));
     let dir = folder.path("dir");
     assert_eq!(run(&format!("draft {CHECKS} -o {dir}")).0, 0);
     let complaint = format!("icl: {deep}: there is no folder {}\n", folder.path("missing"));

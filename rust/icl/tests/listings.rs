@@ -29,21 +29,23 @@ const ROWS: [Row; 12] = [
 
 #[test]
 fn rows() {
-    let mut csv = "record,type,offset,length,letter,bundle,item,amount,name\n".to_string();
+    let file = "peer/samples/sound-2-checks.x9";
+    let mut csv = "record,type,offset,length,letter,bundle,item,amount,name,file\n".to_string();
     let mut json = Vec::new();
     let mut table = "record  type  offset  length  letter  bundle  item  amount  name\n".to_string();
     for (record, row) in (1..).zip(ROWS) {
         let (kind, offset, length, letter, bundle, item, amount, name) = row;
-        csv.push_str(&format!("{record},{kind:02},{offset},{length},{letter},{bundle},{item},{amount},{name}\n"));
+        csv.push_str(&format!(
+            "{record},{kind:02},{offset},{length},{letter},{bundle},{item},{amount},{name},{file}\n"
+        ));
         json.push(format!(
             "  {{\"record\": {record}, \"type\": \"{kind:02}\", \"offset\": {offset}, \"length\": {length}, \"letter\": {letter}, \
-             \"bundle\": {bundle}, \"item\": {item}, \"amount\": {amount}, \"name\": \"{name}\"}}"
+             \"bundle\": {bundle}, \"item\": {item}, \"amount\": {amount}, \"name\": \"{name}\", \"file\": \"{file}\"}}"
         ));
         table.push_str(&format!(
             "{record:6}    {kind:02}  {offset:6}  {length:6}  {letter:6}  {bundle:6}  {item:4}  {amount:6}  {name}\n"
         ));
     }
-    let file = "peer/samples/sound-2-checks.x9";
     assert_eq!(run(&format!("rows {file}")), (0, table, String::new()));
     assert_eq!(run(&format!("rows {file} --csv")), (0, csv, String::new()));
     assert_eq!(run(&format!("rows --json {file}")), (0, format!("[\n{}\n]\n", json.join(",\n")), String::new()));
@@ -181,11 +183,11 @@ fn rows_of_credits() {
         let start = format!("{record},{kind:02},{offset},{},{letter},{bundle},{item},{amount},", next - offset - 4);
         assert!(line.starts_with(&start), "{line} is not {start}");
     }
-    assert_eq!(lines[2], "3,61,168,84,1,0,0,16557,Credit/Reconciliation Record");
-    assert_eq!(lines[8], "9,61,1142,84,1,1,1,16550,Credit/Reconciliation Record");
+    assert_eq!(lines[2], "3,61,168,84,1,0,0,16557,Credit/Reconciliation Record,samples/credits-with-pictures.x9");
+    assert_eq!(lines[8], "9,61,1142,84,1,1,1,16550,Credit/Reconciliation Record,samples/credits-with-pictures.x9");
     let (_, json, _) = run("rows --json samples/credits-with-pictures.x9");
     let line = "  {\"record\": 24, \"type\": \"61\", \"offset\": 3668, \"length\": 84, \"letter\": 1, \"bundle\": 0, \"item\": 0, \
-                \"amount\": 250, \"name\": \"Credit/Reconciliation Record\"},";
+                \"amount\": 250, \"name\": \"Credit/Reconciliation Record\", \"file\": \"samples/credits-with-pictures.x9\"},";
     assert_eq!(json.lines().nth(24), Some(line));
 }
 
@@ -346,5 +348,5 @@ fn many_rows() {
     let lines: Vec<&str> = output.lines().collect();
     assert_eq!((status, lines.len()), (0, 10_006));
     // The last check: 3 + 9,998 records of 84 bytes before it.
-    assert_eq!(lines[10_002], "10002,25,840084,80,1,1,9999,1,Check Detail Record");
+    assert_eq!(lines[10_002], format!("10002,25,840084,80,1,1,9999,1,Check Detail Record,{file}"));
 }

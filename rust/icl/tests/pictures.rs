@@ -13,14 +13,14 @@ const CREDITED: &str = "samples/credits-with-pictures.x9";
 /// Each view of the sample with pictures: name, offset of its 52, and the length of its picture. With their lengths a record takes 84
 /// bytes, a 26 or 32 takes 119, a 90 takes 89, a 52 takes 143 and its picture.
 const VIEWS: [(&str, usize, usize); 8] = [
-    ("letter-001_bundle-001_item-0001_view-01.tif", 623, 179),
-    ("letter-001_bundle-001_item-0001_view-02.tif", 1029, 188),
-    ("letter-001_bundle-001_item-0002_view-01.tif", 1612, 188),
-    ("letter-001_bundle-001_item-0002_view-02.tif", 2027, 196),
-    ("letter-001_bundle-002_item-0001_view-01.tif", 2702, 188),
-    ("letter-001_bundle-002_item-0001_view-02.tif", 3117, 196),
-    ("letter-002_bundle-001_item-0001_view-01.tif", 4252, 188),
-    ("letter-002_bundle-001_item-0001_view-02.tif", 4667, 196),
+    ("letter-001/bundle-001/item-0001_view-01.tif", 623, 179),
+    ("letter-001/bundle-001/item-0001_view-02.tif", 1029, 188),
+    ("letter-001/bundle-001/item-0002_view-01.tif", 1612, 188),
+    ("letter-001/bundle-001/item-0002_view-02.tif", 2027, 196),
+    ("letter-001/bundle-002/item-0001_view-01.tif", 2702, 188),
+    ("letter-001/bundle-002/item-0001_view-02.tif", 3117, 196),
+    ("letter-002/bundle-001/item-0001_view-01.tif", 4252, 188),
+    ("letter-002/bundle-001/item-0001_view-02.tif", 4667, 196),
 ];
 
 /// The picture that the generator put into the view of this name.
@@ -36,7 +36,7 @@ fn every_picture_under_its_ordinals() {
     let bytes: usize = VIEWS.iter().map(|view| view.2).sum();
     let said = format!("8 pictures ({},{:03} bytes) written to {out}\n", bytes / 1000, bytes % 1000);
     assert_eq!(run(&format!("pictures {PICTURED} {out}")), (0, said, String::new()));
-    assert_eq!(folder.names("out"), VIEWS.map(|view| view.0));
+    assert_eq!(folder.all("out"), VIEWS.map(|view| view.0));
     let file = read(PICTURED);
     for (name, offset, length) in VIEWS {
         let written = fs::read(folder.0.join("out").join(name)).unwrap();
@@ -47,20 +47,20 @@ fn every_picture_under_its_ordinals() {
 
 /// Each view of the sample with credits, in the order of the names. A picture of so many bars, n, in g groups has 138 bytes and 32 + 66 n + 8 g bits.
 const CREDIT_VIEWS: [(&str, usize, usize); 14] = [
-    ("letter-001_bundle-001_item-0001_view-01.tif", 1314, 179),
-    ("letter-001_bundle-001_item-0002_view-01.tif", 1804, 188),
-    ("letter-001_bundle-001_item-0002_view-02.tif", 2219, 196),
-    ("letter-001_bundle-001_item-0003_view-01.tif", 2726, 196),
-    ("letter-001_bundle-001_item-0003_view-02.tif", 3149, 204),
-    ("letter-001_bundle-002_item-0001_view-01.tif", 4008, 188),
-    ("letter-001_bundle-002_item-0001_view-02.tif", 4423, 196),
-    ("letter-001_credit-0001_view-01.tif", 340, 170),
-    ("letter-001_credit-0001_view-02.tif", 737, 178),
-    ("letter-001_credit-0003_view-01.tif", 5018, 187),
-    ("letter-002_bundle-001_item-0001_view-01.tif", 5857, 188),
-    ("letter-002_bundle-001_item-0001_view-02.tif", 6272, 196),
-    ("letter-002_bundle-001_item-0002_view-01.tif", 6783, 196),
-    ("letter-002_credit-0001_view-01.tif", 7378, 178),
+    ("letter-001/bundle-001/item-0001_view-01.tif", 1314, 179),
+    ("letter-001/bundle-001/item-0002_view-01.tif", 1804, 188),
+    ("letter-001/bundle-001/item-0002_view-02.tif", 2219, 196),
+    ("letter-001/bundle-001/item-0003_view-01.tif", 2726, 196),
+    ("letter-001/bundle-001/item-0003_view-02.tif", 3149, 204),
+    ("letter-001/bundle-002/item-0001_view-01.tif", 4008, 188),
+    ("letter-001/bundle-002/item-0001_view-02.tif", 4423, 196),
+    ("letter-001/credit-0001_view-01.tif", 340, 170),
+    ("letter-001/credit-0001_view-02.tif", 737, 178),
+    ("letter-001/credit-0003_view-01.tif", 5018, 187),
+    ("letter-002/bundle-001/item-0001_view-01.tif", 5857, 188),
+    ("letter-002/bundle-001/item-0001_view-02.tif", 6272, 196),
+    ("letter-002/bundle-001/item-0002_view-01.tif", 6783, 196),
+    ("letter-002/credit-0001_view-01.tif", 7378, 178),
 ];
 
 /// A credit in a bundle is one of its items; one directly in a cash letter is counted among those, with a view or without.
@@ -71,7 +71,7 @@ fn pictures_of_credits() {
     // 179 + 3 x 188 + 5 x 196 + 204 + 170 + 2 x 178 + 187 = 2,640.
     let said = format!("14 pictures (2,640 bytes) written to {out}\n");
     assert_eq!(run(&format!("pictures {CREDITED} {out}")), (0, said, String::new()));
-    assert_eq!(folder.names("out"), CREDIT_VIEWS.map(|view| view.0));
+    assert_eq!(folder.all("out"), CREDIT_VIEWS.map(|view| view.0));
     let file = read(CREDITED);
     for (name, offset, length) in CREDIT_VIEWS {
         let written = fs::read(folder.0.join("out").join(name)).unwrap();
@@ -158,14 +158,14 @@ fn nothing_is_overwritten_unless_asked() {
 
     // One of the eight is there: none is written.
     let out = folder.path("out");
-    fs::create_dir(&out).unwrap();
+    fs::create_dir_all(folder.0.join("out/letter-001/bundle-002")).unwrap();
     let fifth = folder.with(&format!("out/{}", VIEWS[4].0), b"mine");
     let there = format!("icl: {fifth}: it is there already (--force overwrites it)\n");
     assert_eq!(run(&format!("pictures {PICTURED} {out}")), (2, String::new(), there));
-    assert_eq!(folder.names("out"), [VIEWS[4].0]);
+    assert_eq!(folder.all("out"), [VIEWS[4].0]);
     assert_eq!(fs::read(&fifth).unwrap(), b"mine");
     assert_eq!(run(&format!("pictures {PICTURED} {out} --force")).0, 0);
-    assert_eq!(folder.names("out"), VIEWS.map(|view| view.0));
+    assert_eq!(folder.all("out"), VIEWS.map(|view| view.0));
     assert_eq!(fs::read(&fifth).unwrap(), drawn(VIEWS[4].0));
     assert_eq!(run(&format!("pictures {PICTURED} {out}")).0, 2);
 }
@@ -175,7 +175,12 @@ fn nothing_is_overwritten_unless_asked() {
 fn only_plain_files_are_overwritten() {
     let folder = Folder::new("plain");
     fs::create_dir(folder.0.join("folder")).unwrap();
-    let mut paths = vec![folder.path("folder")];
+    let path = folder.path("folder");
+    let complaint = format!("icl: {path}: it is a folder, and -o takes the name of a file to write\n");
+    for force in ["", "--force "] {
+        assert_eq!(run(&format!("picture {force}{PICTURED} 623 -o {path}")), (2, String::new(), complaint.clone()));
+    }
+    let mut paths: Vec<String> = Vec::new();
     #[cfg(unix)]
     {
         let target = folder.with("target", b"mine");
@@ -202,8 +207,8 @@ fn places_where_nothing_can_be_written() {
     let complaint = format!("icl: {out}: there is no such file or folder\n");
     assert_eq!(run(&format!("pictures {PICTURED} {out}")), (2, String::new(), complaint));
     let file = folder.with("file", b"");
-    let (status, _, complaint) = run(&format!("pictures {PICTURED} {file}"));
-    assert_eq!((status, complaint.ends_with(": a part of the path is no folder\n")), (2, true), "{complaint}");
+    let complaint = format!("icl: {file}: it is a file, and a folder for the pictures is asked\n");
+    assert_eq!(run(&format!("pictures {PICTURED} {file}")), (2, String::new(), complaint));
     assert_eq!(folder.names(""), ["file"]);
 }
 
@@ -246,7 +251,7 @@ fn an_interrupted_run() {
     let output = child.wait_with_output().unwrap();
     // Should the machine have been quick enough to finish, all 27 are there and whole.
     if output.status.success() {
-        assert_eq!(folder.names("out").len(), 27);
+        assert_eq!(folder.all("out").len(), 27);
         return;
     }
     let complaint = String::from_utf8(output.stderr).unwrap();
@@ -265,6 +270,6 @@ fn endings_by_the_format() {
         let (name, out) = (folder.with("file", &file), folder.path(format));
         let said = format!("1 picture (0 bytes) written to {out}\n");
         assert_eq!(run(&format!("pictures {name} {out}")), (0, said, String::new()));
-        assert_eq!(folder.names(format), [format!("letter-001_bundle-001_item-0001_view-01.{ending}")]);
+        assert_eq!(folder.all(format), [format!("letter-001/bundle-001/item-0001_view-01.{ending}")]);
     }
 }

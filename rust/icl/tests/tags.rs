@@ -357,7 +357,7 @@ fn letters_refused_and_letters_accepted() {
     assert_eq!(run(&format!("tree {letter}")), run(&format!("tree {PICTURED}")));
     let out = folder.path("pictures");
     assert_eq!(run(&format!("pictures {letter} {out}")).0, 0);
-    let names = folder.names("pictures");
+    let names = folder.all("pictures");
     let images: Vec<String> = names.iter().map(|name| format!("{out}/{name}")).collect();
     let rest: String = images[1..].iter().map(|image| format!("{image}: ok\n")).collect();
     let expected = format!("{}: {}{rest}", images[0], refused(&WRONG[0]));

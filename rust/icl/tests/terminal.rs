@@ -110,6 +110,22 @@ fn progress() {
     assert_eq!(child.wait_with_output().unwrap().stderr, b"");
 }
 
+/// Several files, the first of which comes slowly: how many are done is shown, by one line for all, and wiped before anything is told.
+#[test]
+fn progress_of_several_files() {
+    let (written, shown) = terminal();
+    let mut command = icl(["check", "-", "peer/samples/sound-2-checks.x9"]);
+    let mut child = command.stdin(Stdio::piped()).stdout(Stdio::piped()).stderr(written).spawn().unwrap();
+    drop(command);
+    std::thread::sleep(Duration::from_millis(1500));
+    child.stdin.take().unwrap().write_all(&read("peer/samples/damaged-06-item-count.x9")).unwrap();
+    let output = child.wait_with_output().unwrap();
+    let lines = format!("-: {REFUSED}\npeer/samples/sound-2-checks.x9: {ACCEPTED}\n");
+    assert_eq!(String::from_utf8(output.stdout).unwrap(), lines);
+    let shown = text(shown);
+    assert!(shown.starts_with("\r\x1b[K0 of 2 files") && shown.ends_with("\r\x1b[K"), "{shown:?}");
+}
+
 /// Short work shows nothing, not even on a terminal.
 #[test]
 fn no_progress_for_short_work() {

@@ -203,6 +203,17 @@ fn cut(words: &mut Words, fault: &Fault<'_>) {
     let length_bytes = rest.get(..4).unwrap_or_default();
     words.find(length_bytes, "in place of the length: ", |bytes| shown(fault.set, bytes));
     words.lines.extend(characters_for_length(fault.set, length_bytes));
+    words.lines.extend(low_byte_first(fault));
+}
+
+/// Some senders write the lengths with the low byte first. Told where that way the length frames a record of the standard.
+fn low_byte_first(fault: &Fault<'_>) -> Option<String> {
+    let (length, after) = fault.rest.split_first_chunk()?;
+    let length = u32::from_le_bytes(*length);
+    let kind = Kind::of_body(fault.set, after.get(..usize::try_from(length).ok()?)?)?;
+    Some(format!(
+        "with the low byte first it would be {length}, and a {kind} follows: the lengths may stand so (little-endian), where Annex D has the high byte first"
+    ))
 }
 
 /// Some senders leave the lengths out, so that a record's first characters stand in their place. No length of a file that may be read

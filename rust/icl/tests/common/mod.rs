@@ -84,6 +84,27 @@ impl Folder {
     }
 }
 
+impl Folder {
+    /// The files in it and in its folders, in the order of their paths, which are told from `below` on.
+    pub fn all(&self, below: &str) -> Vec<String> {
+        let mut paths = Vec::new();
+        gather(&self.0.join(below), "", &mut paths);
+        paths.sort();
+        paths
+    }
+}
+
+fn gather(folder: &Path, before: &str, paths: &mut Vec<String>) {
+    for entry in fs::read_dir(folder).unwrap() {
+        let path = entry.unwrap().path();
+        let name = format!("{before}{}", path.file_name().unwrap().to_str().unwrap());
+        match path.is_dir() {
+            true => gather(&path, &format!("{name}/"), paths),
+            false => paths.push(name),
+        }
+    }
+}
+
 impl Drop for Folder {
     fn drop(&mut self) {
         let _ = fs::remove_dir_all(&self.0);

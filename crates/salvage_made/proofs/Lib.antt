@@ -1,0 +1,4 @@
+pub mod Sections
+pub mod Theorem
+pub mod Addenda
+pub mod Bodies

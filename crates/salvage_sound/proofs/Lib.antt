@@ -1,0 +1,3 @@
+pub mod ReadAsGood
+pub mod RunShape
+pub mod SoundRuns

@@ -1,0 +1,1 @@
+// No code: a run is read through behind its header exactly where it is a sound bundle, or a sound credit (request 11).

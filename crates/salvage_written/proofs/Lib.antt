@@ -1,0 +1,12 @@
+pub mod Values
+pub mod Accepted
+pub mod Carried
+pub mod Run
+pub mod ReadRun
+pub mod Copies
+pub mod Control
+pub mod Going
+pub mod Groups
+pub mod Letters
+pub mod Left
+pub mod Refusals

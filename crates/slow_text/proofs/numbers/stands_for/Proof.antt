@@ -1,0 +1,19 @@
+use borrow.Author.Tests.{lt-leb, le-leb}
+use borrow.Author.Needs.{needs}
+use Rattle.slow_text.proofs.numbers.stands_for.Statement.{statement}
+use Rattle.slow_text.proofs.numbers.stands_for.Tie as tie
+
+returns : tie.Need-returns
+returns c = rw (lt-leb _ _ (c .if1 .taken))
+
+returns-2 : tie.Need-returns-2
+returns-2 c = rw (le-leb _ _ (c .before .if1 .left), lt-leb _ _ (c .if2 .taken))
+
+add-result : tie.Need-add-result
+add-result c = search needs
+
+returns-3 : tie.Need-returns-3
+returns-3 c = rw (le-leb _ _ (c .before .if1 .left), le-leb _ _ (c .if2 .left))
+
+pub stands-for-spec : {M : Type 1} → statement M
+stands-for-spec = tie.close (tie.spec returns returns-2 add-result returns-3)
