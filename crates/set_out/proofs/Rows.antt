@@ -6,7 +6,7 @@ use lib.Dec.{leb}
 use borrow.Author.Tests.{leb-true, leb-false}
 use borrow.Rule.Slice.PartAt.{part-to-end}
 use mathlib.Core.List.{List, [], _∷_, _++_, append-assoc, append-nil}
-use mathlib.Core.Path.{_≡_, refl, ap, sym, _∙_}
+use mathlib.Core.Path.{_≡_, refl, ap, sym, _∙_, subst}
 use lib.ListN.{length, getD, take, drop, length-append, length-take, length-drop, drop-of-length-le}
 use lib.Seq.{sets, length-sets, drop-drop, take-append-add, take-append-seam, drop-append-add, drop-append-seam}
 use Rattle.text.specs.declared.character_set.CharacterSet.{CharacterSet}
@@ -40,7 +40,7 @@ use Rattle.sheet.proofs.Parts.{part-stored, record-long}
 use Rattle.sheet.proofs.Slots.{low-slot}
 use Rattle.sheet.proofs.Laws.{sheet-starts, sheet-follows, sheet-fixed, sheet-moves}
 use Rattle.set_out.specs.declared.Progress.{Progress}
-use Rattle.set_out.specs.SetOut.{valuesIn, Fits, Ready, Onward, RowsSetOut}
+use Rattle.set_out.specs.SetOut.{valuesIn, Fits, Ready, Onward, RowsSetOut, ReadyOne}
 
 -- the values of rows, one by one
 module _ (set : CharacterSet) (text : List ℕ) where
@@ -119,19 +119,18 @@ module _ (v : Values) (vs : List Values) (file : List ℕ) (past : List Entry) {
   pub good-others : answerFrom vs (fileWith v vs file past) (pastWith v vs file past) ≡ answerFrom (v ∷ vs) file past
   good-others = turned .others ∙ sym w
 
--- the record of the first row
-module _ (set : CharacterSet) (text rows out : List ℕ) (ten : 10 ≤ length rows) {sheet : List ℕ} {s : Standing} (b : Ready (valuesIn set text rows) sheet s (length out)) where
+-- the record of the first row, with others behind it
+module _ (set : CharacterSet) (text rows out : List ℕ) (vs : List Values) {sheet : List ℕ} {s : Standing}
+    (b : Ready (valuesOfRow set text rows ∷ vs) sheet s (length out))
+    (all : length (completedFrom (valuesOfRow set text rows ∷ vs) (b .file) (b .past)) ≡ b .fits .size) where
   abbrev v : Values
   v = valuesOfRow set text rows
-
-  abbrev vs : List Values
-  vs = valuesIn set text (drop 10 rows)
 
   abbrev t : ℕ
   t = getD rows 0 0
 
   good : answerFrom (v ∷ vs) (b .file) (b .past) ≡ Written (b .fits .size) (b .fits .totals)
-  good = ap (λ (us : List Values). answerFrom us (b .file) (b .past)) (sym (rows-one set text rows ten)) ∙ b .fits .written
+  good = b .fits .written
 
   follows : mayFollow (s .inside) (s .last) (s .present) t ≡ true
   unfolding valuesOfRow valuesAt
@@ -164,11 +163,10 @@ module _ (set : CharacterSet) (text rows out : List ℕ) (ten : 10 ≤ length ro
   unfolding completedFrom longer body
   row-room =
       let more = appended vs longer (pastWith v vs (b .file) (b .past)) in
-      let sized = written-fits (v ∷ vs) (b .file) (b .past) (shaped-row set text rows, all-shaped set text (length (drop 10 rows) / 10) (drop 10 rows)) good .1 in
-      omega (arith, sized, ap length (more .is), length-append longer (more .rest), record-long (b .file) body, body-long, b .fits .within)
+      omega (arith, all, ap length (more .is), length-append longer (more .rest), record-long (b .file) body, body-long, b .fits .within)
 
   -- it is completed on the sheet
-  module _ {addenda : ℕ} (counted : addenda ≡ addendaBehind t (valuesOfRows set text (length rows / 10 - 1) (drop 10 rows)))
+  module _ {addenda : ℕ} (counted : addenda ≡ addendaBehind t vs)
       {at : ℕ} (slot : at ≡ slotOf t) {n : ℕ} (sized : n ≡ layoutOf t .fixedLength) {sheet′ : List ℕ}
       (stored : sheet′ ≡ sets sheet (at + 4) (fixedPart v addenda s (layoutOf t .lines) (v .fields))) where
     abbrev fixed : List ℕ
@@ -193,32 +191,70 @@ module _ (set : CharacterSet) (text rows out : List ℕ) (ten : 10 ≤ length ro
     body-is : body ≡ fixed ++ allParts (v .parts)
     unfolding valuesOfRow valuesAt completed body
     body-is =
-        let count : length (drop 10 rows) / 10 ≡ length rows / 10 - 1 = omega (arith, length-drop 10 rows) in
-        rw (count, sym counted) (ap (λ (f : List ℕ). f ++ allParts (v .parts)) (sym (sheet-fixed (b .stands) v addenda (layoutOf t .lines) (v .fields))))
+        rw (sym counted) (ap (λ (f : List ℕ). f ++ allParts (v .parts)) (sym (sheet-fixed (b .stands) v addenda (layoutOf t .lines) (v .fields))))
 
     -- and written
     pub row-onward : {bytes : ℕ} → bytes ≡ 4 + (length (part (at + 4) (at + 4 + n - (at + 4)) sheet′) + allSizes (v .parts)) → {out′ : List ℕ}
         → out′ ≡ framed ((part (at + 4) (at + 4 + n - (at + 4)) sheet′ ++ allParts (v .parts)) ∷ []) ++ drop bytes out
         → {s′ : Standing} → s′ ≡ cappedFigures (onward Ascii sheet′ s t at)
-        → Onward (valuesIn set text rows) (b .file) (b .past) out vs sheet′ s′ bytes out′
+        → Onward (v ∷ vs) (b .file) (b .past) out vs sheet′ s′ bytes out′
     unfolding valuesOfRow valuesAt completedFrom longer body
     row-onward {bytes} counts {out′} written {s′} moved =
-        let all = rows-one set text rows ten in
         let same : part (at + 4) (at + 4 + n - (at + 4)) sheet′ ++ allParts (v .parts) ≡ body =
         ap (λ (g : List ℕ). g ++ allParts (v .parts)) row-stored ∙ sym body-is in
         record {
           longer = longer;
           newer = pastWith v vs (b .file) (b .past);
           stands = rw (moved, stored, slot) (sheet-moves (b .stands) t body fixed (allParts (v .parts)) body-is fixed-sized carried follows);
-          many = omega (arith, ap length all);
-          answer = good-others v vs (b .file) (b .past) good ∙ ap (λ (us : List Values). answerFrom us (b .file) (b .past)) (sym all);
-          whole = ap (λ (us : List Values). completedFrom us (b .file) (b .past)) (sym all);
+          many = omega arith;
+          answer = good-others v vs (b .file) (b .past) good;
+          whole = refl;
           long = omega (arith, record-long (b .file) body, body-long, stored-room .0);
           within = omega (arith, stored-room .1);
           is =
               ap (λ (o : List ℕ). b .file ++ o) (written ∙ ap (λ (g : List ℕ). framed (g ∷ []) ++ drop bytes out) same)
               ∙ sym (append-assoc (b .file) (framed (body ∷ [])) (drop bytes out));
         }
+
+-- the first of several rows, with those behind it
+module _ (set : CharacterSet) (text rows out : List ℕ) (ten : 10 ≤ length rows) {sheet : List ℕ} {s : Standing} (b : Ready (valuesIn set text rows) sheet s (length out)) where
+  abbrev behind : List Values
+  behind = valuesIn set text (drop 10 rows)
+
+  abbrev first-ready : Ready (valuesOfRow set text rows ∷ behind) sheet s (length out)
+  first-ready = record {
+    file = b .file;
+    past = b .past;
+    stands = b .stands;
+    few = omega (arith, b .few, ap length (rows-one set text rows ten));
+    fits = record {
+      size = b .fits .size;
+      totals = b .fits .totals;
+      written = ap (λ (us : List Values). answerFrom us (b .file) (b .past)) (sym (rows-one set text rows ten)) ∙ b .fits .written;
+      within = b .fits .within;
+    };
+  }
+
+  pub row-ready : {addenda : ℕ} → addenda ≡ addendaBehind (getD rows 0 0) (valuesOfRows set text (length rows / 10 - 1) (drop 10 rows))
+      → ReadyOne (valuesOfRow set text rows) addenda sheet s (length out)
+  unfolding valuesOfRow valuesAt
+  row-ready counted =
+      let fuel : length rows / 10 - 1 ≡ length (drop 10 rows) / 10 = omega (arith, length-drop 10 rows) in
+      let sized = written-fits (valuesOfRow set text rows ∷ behind) (b .file) (b .past) (shaped-row set text rows, all-shaped set text (length (drop 10 rows) / 10) (drop 10 rows)) (first-ready .fits .written) .1 in
+      record {
+        others = behind;
+        behind = counted ∙ ap (λ (n : ℕ). addendaBehind (getD rows 0 0) (valuesOfRows set text n (drop 10 rows))) fuel;
+        ready = first-ready;
+        all = omega (arith, sized);
+      }
+
+  pub row-set-out : {r : Progress} {sheet′ out′ : List ℕ} → r .numbers ≡ 10
+      → Onward (valuesOfRow set text rows ∷ behind) (b .file) (b .past) out behind sheet′ (r .standing) (r .bytes) out′
+      → Onward (valuesIn set text rows) (b .file) (b .past) out (valuesIn set text (drop (r .numbers) rows)) sheet′ (r .standing) (r .bytes) out′
+  row-set-out {r} {sheet′} {out′} e o =
+      subst (λ (us : List Values). Onward us (b .file) (b .past) out (valuesIn set text (drop (r .numbers) rows)) sheet′ (r .standing) (r .bytes) out′)
+      (sym (rows-one set text rows ten))
+      (subst (λ (n : ℕ). Onward (valuesOfRow set text rows ∷ behind) (b .file) (b .past) out (valuesIn set text (drop n rows)) sheet′ (r .standing) (r .bytes) out′) (sym e) o)
 
 -- nothing yet
 pub onward-none : {vs : List Values} {file : List ℕ} {past : List Entry} (out : List ℕ) {sheet : List ℕ} {s : Standing} → OnSheet file past sheet s
