@@ -8,7 +8,7 @@ use mathlib.Core.Option.{some}
 use mathlib.Core.Path.{_≡_, refl, sym, ap, ap₂, _∙_, subst}
 use borrow.Author.Tests.{eqb-true}
 use lib.Dec.{eqb}
-use lib.ListN.{length, getD, take, set}
+use lib.ListN.{length, getD, take, set, length-set}
 use lib.Seq.{sets, length-sets}
 use Rattle.text.specs.declared.character_set.CharacterSet.{CharacterSet}
 use Rattle.text.specs.declared.character_set.CharacterSet.the-variants.{Ascii}
@@ -86,10 +86,6 @@ control-carried : (kind : ℕ) → isControl kind ≡ true → isCarried kind �
 unfolding isCarried
 control-carried = of-control (λ kind. isCarried kind ≡ true) refl refl
 
-pub control-owned : (numbers : List ℕ) (kind : ℕ) (own : List ℕ) → Packed numbers → isControl kind ≡ true → own ≡ ownIn kind (length numbers) numbers
-    → Owned (layoutOf kind) own
-control-owned numbers kind own p is e = rw e (carried-owned numbers kind p (control-carried kind is))
-
 -- the type and the start of a row
 row-head : (kind : ℕ) (row : List ℕ) → 2 ≤ length row → (getD (set (set row 0 kind) 1 0) 0 0 ≡ kind) × (getD (set (set row 0 kind) 1 0) 1 0 ≡ 0)
 row-head kind [] h = absurd (omega arith)
@@ -97,7 +93,10 @@ row-head kind (a ∷ []) h = absurd (omega arith)
 row-head kind (a ∷ (b ∷ rest)) h = (refl, refl)
 
 -- the two fields by their numbers in the table
-module _ (kind : ℕ) (is : isControl kind ≡ true) (own : List ℕ) (owned : Owned (layoutOf kind) own) where
+module _ (numbers : List ℕ) (kind : ℕ) {own : List ℕ} (packed : Packed numbers) (is : isControl kind ≡ true) (lent : own ≡ ownIn kind (length numbers) numbers) where
+  owned : Owned (layoutOf kind) own
+  owned = rw lent (carried-owned numbers kind packed (control-carried kind is))
+
   abbrev sixth : Line
   sixth = lineOf 6 (getD own 6 0)
 
@@ -131,7 +130,7 @@ module _ (kind : ℕ) (is : isControl kind ≡ true) (own : List ℕ) (owned : O
       room-seventh = omega (arith, once-long, own-two .room)
 
       module _ {both : List ℕ} (second : both ≡ put once seventh) where
-        pub both-long : length both ≡ 85
+        both-long : length both ≡ 85
         both-long = ap length second ∙ length-sets once (seventh .first - 1) (charactersOf (free s body seventh)) ∙ once-long
 
         six : pieceIn Ascii both sixth ≡ free s body sixth
@@ -145,8 +144,12 @@ module _ (kind : ℕ) (is : isControl kind ≡ true) (own : List ℕ) (owned : O
         seven = free-given s body seventh both (omega (arith, both-long, own-two .room)) (free-stored s body seventh once both room-seventh second)
 
         -- both stand in the text, and the row says so
-        pub control-values : (row : List ℕ) → 2 ≤ length row → valuesOfRow Ascii both (set (set row 0 kind) 1 0) ≡ controlValues s (layoutOf kind) (some body)
+        values : (row : List ℕ) → 2 ≤ length row → valuesOfRow Ascii both (set (set row 0 kind) 1 0) ≡ controlValues s (layoutOf kind) (some body)
         unfolding valuesOfRow
-        control-values row h =
+        values row h =
             let head = row-head kind row h in
             rw (head .0, head .1) (own-two .given Ascii both _ _ ∙ ap₂ (twoOf kind) six seven ∙ sym (own-two .kept s body))
+
+        pub control-put : (row : List ℕ) → length row ≡ 10
+            → (length both ≡ 85) × (length (set (set row 0 kind) 1 0) ≡ 10) × (valuesOfRow Ascii both (set (set row 0 kind) 1 0) ≡ controlValues s (layoutOf kind) (some body))
+        control-put row ten = (both-long, simp length-set ten, values row (omega arith))
