@@ -1,5 +1,5 @@
 -- The next record of the new file, by what is marked next. Assumes nothing.
-use Prim.Native.Nat.{ℕ, _+_, _-_, _*_, _≤_, _<_}
+use Prim.Native.Nat.{ℕ, _≤_, _<_}
 use native.Mathlib.Omega.{arith}
 use mathlib.Core.Bool.{Bool, true, false, false≢true, _&&_, _||_, cond}
 use mathlib.Core.List.{List, [], _∷_}

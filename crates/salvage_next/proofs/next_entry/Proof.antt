@@ -3,12 +3,6 @@ use borrow.Author.Needs.{needs}
 use Rattle.salvage_next.proofs.Entries.{underway, entry-closing, entry-kept, entry-control, entry-ending}
 use Rattle.salvage_next.proofs.next_entry.Statement.{statement}
 use Rattle.salvage_next.proofs.next_entry.Tie as tie
-use Rattle.salvage_next.proofs.next_entry.Reads as reads
-use Rattle.salvage_next.proofs.next_entry.Lts as lts
-use Rattle.salvage_next.proofs.closes_first.Reads as closes-first-reads
-use Rattle.salvage_next.proofs.kept_entry.Reads as kept-entry-reads
-use Rattle.salvage_next.proofs.new_control.Reads as new-control-reads
-use Rattle.salvage_next.proofs.next_left.Reads as next-left-reads
 
 next-left-requires : tie.Need-next-left-requires
 next-left-requires c κs = (c .before .before .before .pre .0, underway _ _ _ _ (c .before .before .before .pre .2))

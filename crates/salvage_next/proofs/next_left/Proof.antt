@@ -1,12 +1,8 @@
 use Prim.Native.Nat.{_-_}
 use native.Mathlib.Omega.{arith}
-use denote.Ref.{now}
 use Rattle.salvage_next.proofs.Skipping.{Skips, skips-first, skips-planned, skips-end, skips-less, skips-on, skips-stop}
 use Rattle.salvage_next.proofs.next_left.Statement.{statement}
 use Rattle.salvage_next.proofs.next_left.Tie as tie
-use Rattle.salvage_next.proofs.next_left.Reads as reads
-use Rattle.salvage_next.proofs.next_left.Lts as lts
-use Rattle.salvage_marks.proofs.mark_next.Reads as mark-next-reads
 
 abbrev Inv-loop : tie.InvT-loop
 Inv-loop set layouts file end plan₀ plan = Skips set file end plan₀ plan
