@@ -1,0 +1,1 @@
+-- What becomes of a file, by the answer whatever the room. Assumes nothing.
