@@ -6,6 +6,7 @@ use lib.ListN.{length}
 use Rattle.standing.specs.History.{Entry}
 use Rattle.draft.specs.declared.Outcome.the-variants as outcomes
 use Rattle.draft.specs.Values.{Values}
+use Rattle.draft.specs.Completed.{addendaBehind}
 use Rattle.draft.specs.Drafted.{fileWith, pastWith, offsetOf, answerFrom}
 use Rattle.sheet.specs.Sheet.{OnSheet}
 use Rattle.salvage_entry.specs.declared.Pen.{Pen}
@@ -20,7 +21,13 @@ pub record Begun (sheet : List ℕ) (pen : Pen) : Type 0 where
   pub size : pen .bytes ≡ offsetOf (length file)
   pub few : length past ≤ 0x2000_0000_0000_0000
 
--- the same with one record more
+-- the same, where a record of values v comes next with so many addenda behind it, and others
+pub record Entering (v : Values) (addenda : ℕ) (sheet : List ℕ) (pen : Pen) : Type 0 where
+  pub begun : Begun sheet pen
+  pub others : List Values
+  pub behind : addenda ≡ addendaBehind (v .type) others
+
+-- that record has joined the file
 pub record OneMore (v : Values) (vs : List Values) (file : List ℕ) (past : List Entry) (pen : Pen) (sheet : List ℕ) : Type 0 where
   pub stands : OnSheet (fileWith v vs file past) (pastWith v vs file past) sheet (pen .standing)
   pub size : pen .bytes ≡ offsetOf (length (fileWith v vs file past))

@@ -3,14 +3,11 @@ use passes::Fault;
 use passes::Turn;
 use standing::Standing;
 use text::CharacterSet;
-ghost use mathlib.Core.List.{List};
-ghost use mathlib.Core.Path.{_≡_};
-ghost use Prim.Native.Nat.{ℕ, _≤_};
-ghost use lib.ListN.{length, getD};
+ghost use Prim.Native.Nat.{_≤_};
+ghost use lib.ListN.{length};
 ghost use Rattle.layout.specs.Packing.{Packed};
-ghost use Rattle.draft.specs.Values.{Values, valuesOfRow};
-ghost use Rattle.draft.specs.Completed.{addendaBehind};
-ghost use Rattle.salvage_entry.specs.Entered.{Begun, EnteredAs};
+ghost use Rattle.draft.specs.Values.{valuesOfRow};
+ghost use Rattle.salvage_entry.specs.Entered.{Entering, EnteredAs};
 
 // The figures of the records so far, and the bytes that they take; 2^64 - 1 stands for as many or more.
 pub struct Pen {
@@ -34,8 +31,8 @@ pub fn enter<'a>(
     pen: Pen,
     sheet: &mut [u8],
 ) -> Entered
-    requires { ⌜ Packed (now layouts) × (10 ≤ length (now row)) × Begun (now sheet) pen ⌝ }
-    ensures { λ r. ⌜ ((b : Begun (now (sheet .entry)) pen) (vs : List Values) → addenda ≡ addendaBehind (getD (now (row .entry)) 0 0) vs → EnteredAs (valuesOfRow set (now (text .entry)) (now (row .entry))) vs (b .file) (b .past) r (now (sheet .exit))) ⌝ }
+    requires { ⌜ Packed (now layouts) × (10 ≤ length (now row)) × Entering (valuesOfRow set (now text) (now row)) addenda (now sheet) pen ⌝ }
+    ensures { λ r. ⌜ ((e : Entering (valuesOfRow set (now (text .entry)) (now (row .entry))) addenda (now (sheet .entry)) pen) → EnteredAs (valuesOfRow set (now (text .entry)) (now (row .entry))) (e .others) (e .begun .file) (e .begun .past) r (now (sheet .exit))) ⌝ }
 {
     let s = pen.standing;
     let own = layout::own_numbers(layouts, row[0]);

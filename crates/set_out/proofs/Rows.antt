@@ -1,8 +1,8 @@
 -- Rows set out one after the other: those that are left come to the same behind the longer file. Assumes nothing.
 use Prim.Native.Nat.{ℕ, zero, suc, _+_, _-_, _/_, _≤_, _<_}
 use native.Mathlib.Omega.{arith}
-use mathlib.Core.Bool.{Bool, true, false, _&&_, and-eq-true-iff}
-use lib.Dec.{leb}
+use mathlib.Core.Bool.{Bool, true, false, _&&_, and-eq-true-iff, cond}
+use lib.Dec.{leb, eqb}
 use borrow.Author.Tests.{leb-true, leb-false}
 use borrow.Rule.Slice.PartAt.{part-to-end}
 use mathlib.Core.List.{List, [], _∷_, _++_, append-assoc, append-nil}
@@ -24,17 +24,18 @@ use Rattle.passes.specs.declared.Fault.the-variants.{Place}
 use Rattle.passes.specs.declared.Totals.{Totals}
 use Rattle.passes.specs.declared.Turn.{Turn}
 use Rattle.passes.specs.declared.Turn.the-variants.{Faulty, Good}
+use Rattle.passes.specs.Reading.{totalsOf}
 use Rattle.file_as_records.specs.Framed.{framed}
 use Rattle.alike.proofs.Figures.{placed}
-use Rattle.draft.specs.declared.Outcome.the-variants.{Written}
+use Rattle.draft.specs.declared.Outcome.the-variants.{Written, Refused}
 use Rattle.draft.specs.Owned.{Owned}
 use Rattle.draft.specs.Values.{Values, layoutOf, valuesAt, valuesOfRow, valuesOfRows}
 use Rattle.draft.specs.Completed.{addendaBehind, fixedPart, allParts, allSizes, completed}
-use Rattle.draft.specs.Drafted.{bodyOf, fileWith, pastWith, completedFrom, made, turnOfRow, afterTurn, answerFrom}
-use Rattle.draft.proofs.Shapes.{AllShaped, shaped-row, fixed-long, completed-long}
+use Rattle.draft.specs.Drafted.{bodyOf, fileWith, pastWith, completedFrom, made, turnOfRow, afterTurn, offsetOf, rowsEnded, answerFrom}
+use Rattle.draft.proofs.Shapes.{shaped-row, fixed-long, completed-long}
 use Rattle.draft.proofs.Own.{carried-owned, carried-wide}
 use Rattle.made_is_read.proofs.Record.{follows-carried}
-use Rattle.made_is_read.proofs.Whole.{appended, written-fits}
+use Rattle.made_is_read.proofs.Whole.{appended}
 use Rattle.sheet.specs.Sheet.{slotOf, OnSheet}
 use Rattle.sheet.proofs.Parts.{part-stored, record-long}
 use Rattle.sheet.proofs.Slots.{low-slot}
@@ -58,11 +59,6 @@ module _ (set : CharacterSet) (text : List ℕ) where
   unfolding valuesOfRows
   as-many zero rows = refl
   as-many (suc n) rows = ap suc (as-many n (drop 10 rows))
-
-  pub all-shaped : (n : ℕ) (rows : List ℕ) → AllShaped (valuesOfRows set text n rows)
-  unfolding valuesOfRows
-  all-shaped zero rows = tt
-  all-shaped (suc n) rows = (shaped-row set text rows, all-shaped n (drop 10 rows))
 
 -- figures for which a sheet stands: they leave room for one record more, and their cents have stopped
 module _ {file : List ℕ} {past : List Entry} {sheet : List ℕ} {s : Standing} (stands : OnSheet file past sheet s) where
@@ -119,12 +115,29 @@ module _ (v : Values) (vs : List Values) (file : List ℕ) (past : List Entry) {
   pub good-others : answerFrom vs (fileWith v vs file past) (pastWith v vs file past) ≡ answerFrom (v ∷ vs) file past
   good-others = turned .others ∙ sym w
 
+-- what can be made out comes to as many bytes as the answer says
+written-long : (vs : List Values) (file : List ℕ) (past : List Entry) {n : ℕ} {t : Totals} → answerFrom vs file past ≡ Written n t
+    → length (completedFrom vs file past) ≡ n
+unfolding completedFrom answerFrom rowsEnded
+written-long [] file past {n} {t} e = by (eqb (standing Ascii file past .last) 99) e
+  where
+    by : (b : Bool) → cond b (Written (length file) (totalsOf (standing Ascii file past))) (Refused Place (length past + 1) (offsetOf (length file))) ≡ Written n t
+        → length file ≡ n
+    by true q = cc
+    by false q = cc
+written-long (v ∷ vs) file past e = written-long vs (fileWith v vs file past) (pastWith v vs file past) (turned v vs file past e .others)
+
 -- the record of the first row, with others behind it
-module _ (set : CharacterSet) (text rows out : List ℕ) (vs : List Values) {sheet : List ℕ} {s : Standing}
-    (b : Ready (valuesOfRow set text rows ∷ vs) sheet s (length out))
-    (all : length (completedFrom (valuesOfRow set text rows ∷ vs) (b .file) (b .past)) ≡ b .fits .size) where
+module _ (set : CharacterSet) (text rows out : List ℕ) {addenda : ℕ} {sheet : List ℕ} {s : Standing}
+    (one : ReadyOne (valuesOfRow set text rows) addenda sheet s (length out)) where
   abbrev v : Values
   v = valuesOfRow set text rows
+
+  abbrev vs : List Values
+  vs = one .others
+
+  abbrev b : Ready (v ∷ vs) sheet s (length out)
+  b = one .ready
 
   abbrev t : ℕ
   t = getD rows 0 0
@@ -163,11 +176,10 @@ module _ (set : CharacterSet) (text rows out : List ℕ) (vs : List Values) {she
   unfolding completedFrom longer body
   row-room =
       let more = appended vs longer (pastWith v vs (b .file) (b .past)) in
-      omega (arith, all, ap length (more .is), length-append longer (more .rest), record-long (b .file) body, body-long, b .fits .within)
+      omega (arith, written-long (v ∷ vs) (b .file) (b .past) good, ap length (more .is), length-append longer (more .rest), record-long (b .file) body, body-long, b .fits .within)
 
   -- it is completed on the sheet
-  module _ {addenda : ℕ} (counted : addenda ≡ addendaBehind t vs)
-      {at : ℕ} (slot : at ≡ slotOf t) {n : ℕ} (sized : n ≡ layoutOf t .fixedLength) {sheet′ : List ℕ}
+  module _ {at : ℕ} (slot : at ≡ slotOf t) {n : ℕ} (sized : n ≡ layoutOf t .fixedLength) {sheet′ : List ℕ}
       (stored : sheet′ ≡ sets sheet (at + 4) (fixedPart v addenda s (layoutOf t .lines) (v .fields))) where
     abbrev fixed : List ℕ
     fixed = fixedPart v addenda s (layoutOf t .lines) (v .fields)
@@ -191,7 +203,7 @@ module _ (set : CharacterSet) (text rows out : List ℕ) (vs : List Values) {she
     body-is : body ≡ fixed ++ allParts (v .parts)
     unfolding valuesOfRow valuesAt completed body
     body-is =
-        rw (sym counted) (ap (λ (f : List ℕ). f ++ allParts (v .parts)) (sym (sheet-fixed (b .stands) v addenda (layoutOf t .lines) (v .fields))))
+        rw (sym (one .behind)) (ap (λ (f : List ℕ). f ++ allParts (v .parts)) (sym (sheet-fixed (b .stands) v addenda (layoutOf t .lines) (v .fields))))
 
     -- and written
     pub row-onward : {bytes : ℕ} → bytes ≡ 4 + (length (part (at + 4) (at + 4 + n - (at + 4)) sheet′) + allSizes (v .parts)) → {out′ : List ℕ}
@@ -240,21 +252,23 @@ module _ (set : CharacterSet) (text rows out : List ℕ) (ten : 10 ≤ length ro
   unfolding valuesOfRow valuesAt
   row-ready counted =
       let fuel : length rows / 10 - 1 ≡ length (drop 10 rows) / 10 = omega (arith, length-drop 10 rows) in
-      let sized = written-fits (valuesOfRow set text rows ∷ behind) (b .file) (b .past) (shaped-row set text rows, all-shaped set text (length (drop 10 rows) / 10) (drop 10 rows)) (first-ready .fits .written) .1 in
       record {
         others = behind;
         behind = counted ∙ ap (λ (n : ℕ). addendaBehind (getD rows 0 0) (valuesOfRows set text n (drop 10 rows))) fuel;
         ready = first-ready;
-        all = omega (arith, sized);
       }
 
-  pub row-set-out : {r : Progress} {sheet′ out′ : List ℕ} → r .numbers ≡ 10
-      → Onward (valuesOfRow set text rows ∷ behind) (b .file) (b .past) out behind sheet′ (r .standing) (r .bytes) out′
+  pub row-set-out : {addenda : ℕ} → addenda ≡ addendaBehind (getD rows 0 0) (valuesOfRows set text (length rows / 10 - 1) (drop 10 rows))
+      → {r : Progress} {sheet′ out′ : List ℕ} → r .numbers ≡ 10
+      → ((one : ReadyOne (valuesOfRow set text rows) addenda sheet s (length out))
+      → Onward (valuesOfRow set text rows ∷ one .others) (one .ready .file) (one .ready .past) out (one .others) sheet′ (r .standing) (r .bytes) out′)
       → Onward (valuesIn set text rows) (b .file) (b .past) out (valuesIn set text (drop (r .numbers) rows)) sheet′ (r .standing) (r .bytes) out′
-  row-set-out {r} {sheet′} {out′} e o =
+  unfolding row-ready
+  row-set-out counted {r} {sheet′} {out′} ten′ done =
       subst (λ (us : List Values). Onward us (b .file) (b .past) out (valuesIn set text (drop (r .numbers) rows)) sheet′ (r .standing) (r .bytes) out′)
       (sym (rows-one set text rows ten))
-      (subst (λ (n : ℕ). Onward (valuesOfRow set text rows ∷ behind) (b .file) (b .past) out (valuesIn set text (drop n rows)) sheet′ (r .standing) (r .bytes) out′) (sym e) o)
+      (subst (λ (n : ℕ). Onward (valuesOfRow set text rows ∷ behind) (b .file) (b .past) out (valuesIn set text (drop n rows)) sheet′ (r .standing) (r .bytes) out′) (sym ten′)
+      (done (row-ready counted)))
 
 -- nothing yet
 pub onward-none : {vs : List Values} {file : List ℕ} {past : List Entry} (out : List ℕ) {sheet : List ℕ} {s : Standing} → OnSheet file past sheet s

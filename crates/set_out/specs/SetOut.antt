@@ -52,9 +52,8 @@ pub record RowsSetOut (set : CharacterSet) (text rows sheet out : List ℕ) (s :
   pub onward : (b : Ready (valuesIn set text rows) sheet s (length out))
       → Onward (valuesIn set text rows) (b .file) (b .past) out (valuesIn set text (drop (r .numbers) rows)) sheet′ (r .standing) (r .bytes) out′
 
--- One record of values v with so many addenda behind it, and others: ready, as the records completed come to the size of the file.
+-- the same of one record with so many addenda behind it, and of others
 pub record ReadyOne (v : Values) (addenda : ℕ) (sheet : List ℕ) (s : Standing) (room : ℕ) : Type 0 where
   pub others : List Values
   pub behind : addenda ≡ addendaBehind (v .type) others
   pub ready : Ready (v ∷ others) sheet s room
-  pub all : length (completedFrom (v ∷ others) (ready .file) (ready .past)) ≡ ready .fits .size

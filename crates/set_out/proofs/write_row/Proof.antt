@@ -18,7 +18,7 @@ same-length-2 : tie.Need-same-length-2
 same-length-2 c = search needs
 
 returns : tie.Need-returns
-returns c = record { some = omega (arith, c .before .before .before .before .write-counted .ensures .0); within = omega (arith, c .before .before .before .before .write-counted .ensures .0, c .before .before .before .before .before .before .before .before .before .before .before .before .before .pre .1); onward = λ b. row-set-out (c .before .before .before .before .before .before .before .before .before .before .before .before .before .args .set) (now (c .before .before .before .before .before .before .before .before .before .before .before .before .before .args .text)) (now (c .before .before .before .before .before .before .before .before .before .before .before .before .before .args .rows)) (now (c .before .before .before .before .before .before .before .before .before .before .before .before .before .args .out)) (c .before .before .before .before .before .before .before .before .before .before .before .before .before .pre .1) b (c .before .before .before .before .write-counted .ensures .0) (c .before .before .before .before .write-counted .ensures .1 (row-ready (c .before .before .before .before .before .before .before .before .before .before .before .before .before .args .set) (now (c .before .before .before .before .before .before .before .before .before .before .before .before .before .args .text)) (now (c .before .before .before .before .before .before .before .before .before .before .before .before .before .args .rows)) (now (c .before .before .before .before .before .before .before .before .before .before .before .before .before .args .out)) (c .before .before .before .before .before .before .before .before .before .before .before .before .before .pre .1) b (c .before .before .before .before .before .before .before .addenda-behind .ensures .0 (c .before .before .before .before .before .before .before .before .before .before .before .before .before .args .set) (now (c .before .before .before .before .before .before .before .before .before .before .before .before .before .args .text))))) }
+returns c = record { some = omega (arith, c .before .before .before .before .write-counted .ensures .0); within = omega (arith, c .before .before .before .before .write-counted .ensures .0, c .before .before .before .before .before .before .before .before .before .before .before .before .before .pre .1); onward = λ b. row-set-out (c .before .before .before .before .before .before .before .before .before .before .before .before .before .args .set) (now (c .before .before .before .before .before .before .before .before .before .before .before .before .before .args .text)) (now (c .before .before .before .before .before .before .before .before .before .before .before .before .before .args .rows)) (now (c .before .before .before .before .before .before .before .before .before .before .before .before .before .args .out)) (c .before .before .before .before .before .before .before .before .before .before .before .before .before .pre .1) b (c .before .before .before .before .before .before .before .addenda-behind .ensures .0 (c .before .before .before .before .before .before .before .before .before .before .before .before .before .args .set) (now (c .before .before .before .before .before .before .before .before .before .before .before .before .before .args .text))) (c .before .before .before .before .write-counted .ensures .0) (c .before .before .before .before .write-counted .ensures .1) }
 
 pub write-row-spec : {M : Type 1} → statement M
 write-row-spec = tie.close (tie.spec addenda-behind-requires write-counted-requires same-length same-length-2 returns)
