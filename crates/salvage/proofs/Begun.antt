@@ -6,7 +6,7 @@ use mathlib.Core.List.{List, [], _∷_, _++_}
 use mathlib.Core.Path.{_≡_, refl, sym, ap, ap₂, _∙_, subst}
 use lib.Dec.{leb, eqb}
 use lib.ListN.{length, length-map}
-use borrow.Author.Tests.{eqb-true, eq-eqb}
+use borrow.Author.Tests.{leb-true, eqb-true, eq-eqb}
 use Rattle.text.specs.CharacterSet.{setOf}
 use Rattle.text.specs.declared.character_set.CharacterSet.{CharacterSet}
 use Rattle.frame.specs.declared.Frame.{Frame}
@@ -62,6 +62,31 @@ only-last set (suc n) file at = by (frameAt file at) (λ next. only-last set n f
 walked-last : (set : CharacterSet) (file : List ℕ) → set ≡ setOf file → OnlyLast set (walked file)
 unfolding walked
 walked-last set file e = subst (λ (s : CharacterSet). OnlyLast set (walkedFrom s (length file) file 0)) e (only-last set (length file) file 0)
+
+-- how far the walk leads, by the set of the file
+walked-by : {set : CharacterSet} (file : List ℕ) → set ≡ setOf file → walkedFrom set (length file) file 0 ≡ walked file
+unfolding walked
+walked-by file e = ap (λ (s : CharacterSet). walkedFrom s (length file) file 0) e
+
+both-hold : (a b : Bool) → a && b ≡ true → (a ≡ true) × (b ≡ true)
+both-hold true b e = (refl, e)
+both-hold false b e = (e, let z : _≡_ {A = ℕ} 0 1 = cc in absurd (omega arith))
+
+pub walked-to : {set : CharacterSet} {file : List ℕ} {end : ℕ} → set ≡ setOf file → leb 1 (length file) && leb (length file) 268_435_456 ≡ true
+    → Spans file 0 (walkedFrom set (length file) file 0) end → end ≤ length file → WalkedTo set file end
+walked-to {set} {file} {end} e size s h =
+    let sizes = both-hold (leb 1 (length file)) (leb (length file) 268_435_456) size in
+    record {
+      is = e;
+      some = leb-true 1 (length file) (sizes .0);
+      limit = leb-true (length file) 268_435_456 (sizes .1);
+      within = h;
+      spans = subst (λ (bs : List Body). Spans file 0 bs end) (walked-by file e) s;
+    }
+
+pub walked-count : {set : CharacterSet} (file : List ℕ) {count : ℕ} → set ≡ setOf file → count ≡ length (walkedFrom set (length file) file 0)
+    → count ≡ length (walked file)
+walked-count file e c = c ∙ ap length (walked-by file e)
 
 -- the file's header is no item
 among-none : (set : CharacterSet) (bs : List Body) → addendaAmong set 1 bs ≡ 0

@@ -4,58 +4,43 @@ use lib.ListN.{length-set}
 use borrow.Author.Needs.{needs}
 use Rattle.salvage_list.proofs.put_row.Statement.{statement}
 use Rattle.salvage_list.proofs.put_row.Tie as tie
-use Rattle.salvage_list.proofs.put_row.Reads as reads
-use Rattle.salvage_list.proofs.put_row.Lts as lts
 
--- src/lib.rt:44:5
 mul-list : tie.Need-mul-list
 mul-list c = search needs
 
--- src/lib.rt:44:5
 slice-write-list : tie.Need-slice-write-list
 slice-write-list c = search needs
 
--- src/lib.rt:45:10
 add-list : tie.Need-add-list
 add-list c = search needs
 
--- src/lib.rt:45:5
 mul-list-2 : tie.Need-mul-list-2
 mul-list-2 c = search needs
 
--- src/lib.rt:45:5
 slice-write-list-2 : tie.Need-slice-write-list-2
 slice-write-list-2 c = simp length-set (omega arith)
 
--- src/lib.rt:46:10
 add-list-2 : tie.Need-add-list-2
 add-list-2 c = search needs
 
--- src/lib.rt:46:5
 mul-list-3 : tie.Need-mul-list-3
 mul-list-3 c = search needs
 
--- src/lib.rt:46:5
 slice-write-list-3 : tie.Need-slice-write-list-3
 slice-write-list-3 c = simp length-set (omega arith)
 
--- src/lib.rt:47:10
 add-list-3 : tie.Need-add-list-3
 add-list-3 c = search needs
 
--- src/lib.rt:47:5
 mul-list-4 : tie.Need-mul-list-4
 mul-list-4 c = search needs
 
--- src/lib.rt:47:5
 slice-write-list-4 : tie.Need-slice-write-list-4
 slice-write-list-4 c = simp length-set (omega arith)
 
--- src/lib.rt:40:1
 same-length : tie.Need-same-length
 same-length c = search needs
 
--- src/lib.rt:40:1
 returns : tie.Need-returns
 returns c = simp (add-one, add-two, add-three)
 
