@@ -4,9 +4,6 @@ use Rattle.salvage_marks.proofs.Marks.{left-of-file}
 use borrow.Author.Needs.{needs}
 use Rattle.salvage_marks.proofs.plan_of_file.Statement.{statement}
 use Rattle.salvage_marks.proofs.plan_of_file.Tie as tie
-use Rattle.salvage_marks.proofs.plan_of_file.Reads as reads
-use Rattle.salvage_marks.proofs.plan_of_file.Lts as lts
-use Rattle.salvage_walk.proofs.seen_at.Reads as seen-at-reads
 
 seen-at-requires : tie.Need-seen-at-requires
 seen-at-requires c κs = search needs
