@@ -1,10 +1,12 @@
 // What became of each record walked, in the lent list (request 11, point 48), and whether any is kept.
+use salvage_marks::Marking;
 use salvage_marks::Plan;
 use text::CharacterSet;
-ghost use mathlib.Core.List.{List, _++_};
+ghost use mathlib.Core.List.{List, [], _∷_, _++_};
 ghost use mathlib.Core.Path.{_≡_};
-ghost use Prim.Native.Nat.{ℕ};
+ghost use Prim.Native.Nat.{ℕ, _+_, _≤_};
 ghost use lib.ListN.{length, drop};
+ghost use lib.Seq.{sets};
 ghost use Rattle.layout.specs.Packing.{Packed};
 ghost use Rattle.salvage_model.specs.Kept.{Marked};
 ghost use Rattle.salvage_model.specs.Salvaged.{listed};
@@ -34,6 +36,17 @@ pub fn is_any_kept<'a>(
     false
 }
 
+// The four numbers of a record, at a place of the list.
+fn put_row(list: &mut [u64], row: usize, at: usize, mark: Marking)
+    requires { ⌜ row + 4 ≤ length (now list) ⌝ }
+    ensures { λ _. ⌜ now (list .exit) ≡ sets (now (list .entry)) row (at ∷ mark .kind ∷ mark .status ∷ mark .number ∷ []) ⌝ }
+{
+    list[row] = at as u64;
+    list[row + 1] = mark.kind;
+    list[row + 2] = mark.status;
+    list[row + 3] = mark.number;
+}
+
 // Offset, type, status and number of each record from here on.
 pub fn put_list<'a>(
     set: CharacterSet,
@@ -50,10 +63,7 @@ pub fn put_list<'a>(
     let mut row: usize = 0;
     while plan.at < end {
         let mark = salvage_marks::mark_next(set, layouts, file, end, plan);
-        list[row] = plan.at as u64;
-        list[row + 1] = mark.kind;
-        list[row + 2] = mark.status;
-        list[row + 3] = mark.number;
+        put_row(list, row, plan.at, mark);
         row += 4;
         plan = mark.next;
     }
