@@ -20,13 +20,13 @@ use Rattle.salvage_model.specs.Walked.{walkedOn, walkedFrom, walked}
 use Rattle.salvage_model.specs.Runs.{isRight, soundAlone}
 use Rattle.salvage_model.specs.Kept.{kept, Marked, marked, sectionsOf, sectionsMarks, marksOf, salvagedValues, anyKept, isAnything}
 use Rattle.salvage_model.specs.Salvaged.{valuesLeft}
-use Rattle.salvage_made.proofs.Bodies.{each-once}
 use Rattle.salvage_walk.specs.declared.Seen.{Seen}
 use Rattle.salvage_walk.specs.Spans.{Stands, Spans, SeenAs}
 use Rattle.salvage_walk.proofs.Sorts.{First, first-of, none-left}
 use Rattle.salvage_marks.specs.declared.Plan.{Plan}
 use Rattle.salvage_marks.specs.Left.{Left, Planned}
 use Rattle.salvage_made.specs.ByMarks.{byFate, byMarks, bodiesIn, addendaAmong, CountedAlike, anyMarked, OnlyLast}
+use Rattle.salvage_made.proofs.Bodies.{each-once}
 use Rattle.salvage_made.proofs.Sections.{well}
 use Rattle.salvage_made.proofs.Theorem.{by-marks, any-marked}
 use Rattle.salvage_made.proofs.Addenda.{behind-none, counted-alike}

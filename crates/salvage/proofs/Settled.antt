@@ -23,10 +23,10 @@ use Rattle.salvage_model.specs.Walked.{walked}
 use Rattle.salvage_model.specs.Kept.{marksOf, isAnything}
 use Rattle.salvage_model.specs.Salvaged.{valuesLeft, inList, salvageOutcome, salvageBuffer, listed, listOf, listAfter, salvageList}
 use Rattle.salvage_model.specs.Promises.{Promised}
-use Rattle.salvage_made.proofs.Bodies.{each-once}
 use Rattle.salvage_copy.proofs.SalvageOfCopy.{salvaged-as-copy}
 use Rattle.salvage_sound.proofs.SoundRuns.{sound-runs}
 use Rattle.salvage_written.proofs.Values.{shaped-left}
+use Rattle.salvage_made.proofs.Bodies.{each-once}
 use Rattle.salvage.specs.Steps.{WalkedTo, SalvagedAs}
 use Rattle.salvage_same.proofs.Promised as same
 
