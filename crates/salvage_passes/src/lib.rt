@@ -7,14 +7,17 @@ use salvage_next::Entry;
 use set_out::Progress;
 use standing::Standing;
 use text::CharacterSet;
-ghost use mathlib.Core.List.{List, [], _++_};
+ghost use mathlib.Core.List.{List, [], _∷_, _++_};
 ghost use mathlib.Core.Path.{_≡_};
 ghost use lib.ListN.{length, drop};
 ghost use Rattle.layout.specs.Packing.{Packed};
 ghost use Rattle.draft.specs.Values.{Values};
 ghost use Rattle.draft.specs.Drafted.{answerFrom, made};
 ghost use Rattle.draft_survey.specs.CappedOutcome.{cappedOutcome};
+ghost use Rattle.set_out.specs.SetOut.{Onward};
 ghost use Rattle.salvage_next.specs.Cued.{Cued, Cueing};
+ghost use Rattle.salvage_entry.specs.Entered.{EnteredAs};
+ghost use Rattle.salvage_passes.specs.Says.{NextEntered, NextWritten};
 ghost use Rattle.salvage_passes.specs.Writable.{Writable};
 
 // One record more of the new file, judged on the sheet; `text` and `row` are lent to say it as a draft does.
@@ -27,7 +30,10 @@ fn enter_next<'a>(
     text: &mut [u8],
     row: &mut [u64],
     sheet: &mut [u8],
-) -> Entered {
+) -> Entered
+    requires { ⌜ Packed (now layouts) × (length (now text) ≡ 85) × (length (now row) ≡ 10) × NextEntered set (now file) entry (now sheet) pen ⌝ }
+    ensures { λ r. ⌜ (length (now (text .exit)) ≡ 85) × (length (now (row .exit)) ≡ 10) × ((e : NextEntered set (now (file .entry)) entry (now (sheet .entry)) pen) → EnteredAs (e .value) (e .entering .others) (e .entering .begun .file) (e .entering .begun .past) r (now (sheet .exit))) ⌝ }
+{
     let body = frame::part_of(file, entry.start, entry.size);
     if entry.kept {
         salvage_rows::put_kept(set, layouts, body, row);
@@ -56,7 +62,10 @@ fn write_next<'a>(
     row: &mut [u64],
     sheet: &mut [u8],
     out: &mut [u8],
-) -> Progress {
+) -> Progress
+    requires { ⌜ Packed (now layouts) × (length (now text) ≡ 85) × (length (now row) ≡ 10) × NextWritten set (now file) entry (now sheet) s (length (now out)) ⌝ }
+    ensures { λ r. ⌜ (length (now (text .exit)) ≡ 85) × (length (now (row .exit)) ≡ 10) × ((w : NextWritten set (now (file .entry)) entry (now (sheet .entry)) s (length (now (out .entry)))) → Onward (w .value ∷ w .ready .others) (w .ready .ready .file) (w .ready .ready .past) (now (out .entry)) (w .ready .others) (now (sheet .exit)) (r .standing) (r .bytes) (now (out .exit))) ⌝ }
+{
     let body = frame::part_of(file, entry.start, entry.size);
     if entry.kept {
         salvage_rows::put_kept(set, layouts, body, row);
@@ -128,7 +137,7 @@ pub fn write_left<'a>(
     out: &mut [u8],
 )
     requires { ⌜ Packed (now layouts) × Writable set (now file) end cue (length (now out)) ⌝ }
-    ensures { λ _. ⌜ ((vs : List Values) → Cued set (now (file .entry)) end cue vs → now (out .exit) ≡ made vs ++ drop (length (made vs)) (now (out .entry))) ⌝ }
+    ensures { λ _. ⌜ ((w : Writable set (now (file .entry)) end cue (length (now (out .entry)))) → now (out .exit) ≡ made (w .values) ++ drop (length (made (w .values))) (now (out .entry))) ⌝ }
 {
     let mut sheet: [u8; 800] = [0; 800];
     let mut text: [u8; 85] = [0; 85];

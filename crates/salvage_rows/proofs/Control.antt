@@ -2,7 +2,7 @@
 use Prim.Native.Nat.{ℕ, zero, suc, _+_, _-_, _≤_, _<_}
 use native.Mathlib.Nat.{add-zero, not-suc-le-zero, le-of-suc-le-suc}
 use native.Mathlib.Omega.{arith}
-use mathlib.Core.Bool.{Bool, true, false, _&&_, _||_, cond}
+use mathlib.Core.Bool.{Bool, true, false, _||_}
 use mathlib.Core.List.{List, [], _∷_}
 use mathlib.Core.Option.{some}
 use mathlib.Core.Path.{_≡_, refl, sym, ap, ap₂, _∙_, subst}
@@ -20,8 +20,8 @@ use Rattle.order.specs.MayFollow.{isCarried}
 use Rattle.sheet.proofs.Parts.{part-before}
 use Rattle.draft.specs.Owned.{Owned}
 use Rattle.draft.specs.Values.{Piece, Values, layoutOf, piece, valuesAt, valuesOfRow}
-use Rattle.draft.proofs.Own.{carried-owned}
 use Rattle.draft.specs.Completed.{charactersOf}
+use Rattle.draft.proofs.Own.{carried-owned}
 use Rattle.salvage_model.specs.Kept.{freeField, controlValues}
 use Rattle.salvage_made.specs.ByMarks.{isControl}
 use Rattle.salvage_rows.proofs.Free.{free, free-stored, free-given}

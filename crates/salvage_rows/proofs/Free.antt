@@ -6,24 +6,25 @@ use mathlib.Core.Bool.{Bool, true, false, _&&_, cond, or-true}
 use mathlib.Core.List.{List, [], _∷_}
 use mathlib.Core.Option.{some}
 use mathlib.Core.Path.{_≡_, refl, sym, ap, _∙_}
-use borrow.Author.Tests.{leb-true, le-leb}
+use borrow.Author.Tests.{le-leb}
 use lib.Dec.{leb, eqb}
-use lib.ListN.{length, length-take, length-drop}
+use lib.ListN.{length}
 use lib.Seq.{sets}
 use Rattle.text.specs.declared.character_set.CharacterSet.{CharacterSet}
-use Rattle.text.specs.declared.character_set.CharacterSet.the-variants.{Ascii, Ebcdic}
+use Rattle.text.specs.declared.character_set.CharacterSet.the-variants.{Ascii}
 use Rattle.text.specs.declared.data_types.DataType.{DataType}
 use Rattle.frame.specs.Frames.{part}
 use Rattle.layout.specs.Layout.{Line}
 use Rattle.layout.specs.Packing.{lineOf, linesFrom}
 use Rattle.judge.specs.Alone.{lineHolds, firstWrong}
 use Rattle.judge.proofs.Laws.{both-true}
-use Rattle.ascii_copy.proofs.Records.{length-as}
 use Rattle.copying.specs.Times.{times}
 use Rattle.copying.proofs.Laws.{length-times}
 use Rattle.sheet.proofs.Parts.{part-stored}
-use Rattle.draft.specs.Values.{Piece, here, inAscii, piece}
+use Rattle.draft.specs.Values.{Piece, here, piece}
 use Rattle.draft.specs.Completed.{charactersOf}
+use Rattle.draft.proofs.Shapes.{piece-long}
+use Rattle.draft_rows.proofs.Parts.{piece-size}
 use Rattle.salvage_model.specs.Kept.{freeField}
 
 -- one line alone is judged as it is among the others
@@ -37,7 +38,7 @@ alone-holds set packed n body = by (lineHolds set (lineOf n packed) body)
     by false = refl
 
 module _ (set : CharacterSet) (body : List ℕ) (l : Line) where
-  abbrev pub isTaken : Bool
+  abbrev isTaken : Bool
   isTaken = leb (l .first - 1 + l .size) (length body) && lineHolds set l body
 
   abbrev pub free : Piece
@@ -55,27 +56,21 @@ module _ (set : CharacterSet) (body : List ℕ) (l : Line) where
 
   -- it is there, and as long as its line
   free-here : free ≡ here (charactersOf free)
-  free-here = by isTaken
+  free-here = by isTaken refl
     where
-      by : (b : Bool)
-          → cond b (here (inAscii set (l .dataType) (part (l .first - 1) (l .size) body))) (here (times (l .size) 0x20))
-          ≡ here (charactersOf (cond b (here (inAscii set (l .dataType) (part (l .first - 1) (l .size) body))) (here (times (l .size) 0x20))))
-      by true = refl
-      by false = refl
+      by : (b : Bool) → isTaken ≡ b → free ≡ here (charactersOf free)
+      by true e = rw e
+      by false e = rw e
 
-  in-ascii-long : (s : CharacterSet) (xs : List ℕ) → length (inAscii s (l .dataType) xs) ≡ length xs
-  in-ascii-long Ascii xs = refl
-  in-ascii-long Ebcdic xs = length-as (l .dataType) xs
-
-  pub free-long : length (charactersOf free) ≡ l .size
+  free-long : length (charactersOf free) ≡ l .size
   free-long = by isTaken refl
     where
-      by : (b : Bool) → isTaken ≡ b
-          → length (charactersOf (cond b (here (inAscii set (l .dataType) (part (l .first - 1) (l .size) body))) (here (times (l .size) 0x20)))) ≡ l .size
+      by : (b : Bool) → isTaken ≡ b → length (charactersOf free) ≡ l .size
       by true e =
-          let fits = leb-true (l .first - 1 + l .size) (length body) (both-true _ (lineHolds set l body) e .0) in
-          in-ascii-long set (part (l .first - 1) (l .size) body) ∙ simp (length-take, length-drop) (omega arith)
-      by false e = length-times (l .size) 0x20
+          ap length (sym (free-taken e refl refl))
+          ∙ piece-long (piece set body (l .dataType) (0 + (l .first - 1)) (l .size))
+          ∙ piece-size set body (l .dataType) (0 + (l .first - 1)) (l .size)
+      by false e = ap length (sym (free-blank e)) ∙ length-times (l .size) 0x20
 
   -- set down in its place, it is there, and a text that has it there gives it
   pub free-stored : (out after : List ℕ) → l .first - 1 + l .size ≤ length out → after ≡ sets out (l .first - 1) (charactersOf free)

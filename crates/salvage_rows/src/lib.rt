@@ -24,7 +24,7 @@ pub fn put_kept<'a>(set: CharacterSet, layouts: &'a [u64], body: &'a [u8], row: 
 }
 
 // Whether a field, by its number in the table, lies within a record and keeps its rule there.
-fn keeps_rule<'a>(set: CharacterSet, packed: u64, body: &'a [u8]) -> bool
+fn keeps_rule(set: CharacterSet, packed: u64, body: &[u8]) -> bool
     ensures { λ r. ⌜ ((n : ℕ) → r ≡ (leb (lineOf n packed .first - 1 + lineOf n packed .size) (length (now (body .entry))) && lineHolds set (lineOf n packed) (now (body .entry)))) ⌝ }
 {
     let size = (packed / 0x100_0000_0000 % 0x100) as usize;
@@ -37,7 +37,7 @@ fn keeps_rule<'a>(set: CharacterSet, packed: u64, body: &'a [u8]) -> bool
 }
 
 // A free field of a new control, in its place: as in the walked one where it keeps its rule there, else blank.
-fn put_free<'a>(set: CharacterSet, packed: u64, body: &'a [u8], text: &mut [u8])
+fn put_free(set: CharacterSet, packed: u64, body: &[u8], text: &mut [u8])
     requires { ⌜ packed / 0x1_0000_0000_0000 - 1 + packed / 0x100_0000_0000 % 0x100 ≤ length (now text) ⌝ }
     ensures { λ _. ⌜ ((n : ℕ) → now (text .exit) ≡ sets (now (text .entry)) (lineOf n packed .first - 1) (charactersOf (freeField set (some (now (body .entry))) (lineOf n packed)))) ⌝ }
 {

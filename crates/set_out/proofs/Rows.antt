@@ -228,24 +228,27 @@ module _ (set : CharacterSet) (text rows out : List ℕ) {addenda : ℕ} {sheet 
               ∙ sym (append-assoc (b .file) (framed (body ∷ [])) (drop bytes out));
         }
 
+-- the same values, said otherwise
+abbrev pub same-ready : {us vs : List Values} {sheet : List ℕ} {s : Standing} {room : ℕ} → us ≡ vs → Ready us sheet s room → Ready vs sheet s room
+same-ready e b =
+    record {
+      file = b .file;
+      past = b .past;
+      stands = b .stands;
+      few = omega (arith, b .few, ap length e);
+      fits =
+          record {
+            size = b .fits .size;
+            totals = b .fits .totals;
+            written = ap (λ (us : List Values). answerFrom us (b .file) (b .past)) (sym e) ∙ b .fits .written;
+            within = b .fits .within;
+          };
+    }
+
 -- the first of several rows, with those behind it
 module _ (set : CharacterSet) (text rows out : List ℕ) (ten : 10 ≤ length rows) {sheet : List ℕ} {s : Standing} (b : Ready (valuesIn set text rows) sheet s (length out)) where
   abbrev behind : List Values
   behind = valuesIn set text (drop 10 rows)
-
-  abbrev first-ready : Ready (valuesOfRow set text rows ∷ behind) sheet s (length out)
-  first-ready = record {
-    file = b .file;
-    past = b .past;
-    stands = b .stands;
-    few = omega (arith, b .few, ap length (rows-one set text rows ten));
-    fits = record {
-      size = b .fits .size;
-      totals = b .fits .totals;
-      written = ap (λ (us : List Values). answerFrom us (b .file) (b .past)) (sym (rows-one set text rows ten)) ∙ b .fits .written;
-      within = b .fits .within;
-    };
-  }
 
   pub row-ready : {addenda : ℕ} → addenda ≡ addendaBehind (getD rows 0 0) (valuesOfRows set text (length rows / 10 - 1) (drop 10 rows))
       → ReadyOne (valuesOfRow set text rows) addenda sheet s (length out)
@@ -255,7 +258,7 @@ module _ (set : CharacterSet) (text rows out : List ℕ) (ten : 10 ≤ length ro
       record {
         others = behind;
         behind = counted ∙ ap (λ (n : ℕ). addendaBehind (getD rows 0 0) (valuesOfRows set text n (drop 10 rows))) fuel;
-        ready = first-ready;
+        ready = same-ready (rows-one set text rows ten) b;
       }
 
   pub row-set-out : {addenda : ℕ} → addenda ≡ addendaBehind (getD rows 0 0) (valuesOfRows set text (length rows / 10 - 1) (drop 10 rows))
@@ -348,23 +351,37 @@ onward-all vs out {bytes = bytes} o none =
     let long : bytes ≡ length (o .longer) = omega (arith, o .long) in
     o .is ∙ ap (λ (n : ℕ). o .longer ++ drop n out) long ∙ ap (λ (f : List ℕ). f ++ drop (length f) out) whole
 
--- more rows of a draft, from a place of it on, in the rest of the buffer
+-- some more of them, in the rest of the buffer as the code takes it
+module _ (out : List ℕ) {bytes : ℕ} {vs : List Values} {file : List ℕ} {past : List Entry} {out₀ : List ℕ} {left : List Values} {sheet : List ℕ} {s : Standing}
+    (o : Onward vs file past out₀ left sheet s bytes out) (few : length past + length vs ≤ 0x2000_0000_0000_0000) (fits : Fits vs file past (length out₀)) where
+  abbrev pub restOf : List ℕ
+  restOf = take (length out - bytes) (drop bytes out)
+
+  pub rest-ready : Ready left sheet s (length restOf)
+  rest-ready = rw (part-to-end out bytes) (ready-on o few fits)
+
+  pub rest-on : {left′ : List Values} {sheet′ : List ℕ} {s′ : Standing} {bytes′ : ℕ} {rest : List ℕ}
+      → ((b : Ready left sheet s (length restOf)) → Onward left (b .file) (b .past) restOf left′ sheet′ s′ bytes′ rest)
+      → Onward vs file past out₀ left′ sheet′ s′ (bytes + bytes′) (take bytes out ++ (rest ++ drop (length out - bytes) (drop bytes out)))
+  unfolding ready-on
+  rest-on {rest = rest} done =
+      let more = (rw (part-to-end out bytes) at done) (ready-on o few fits) in
+      let none : drop (length out - bytes) (drop bytes out) ≡ [] = drop-of-length-le (drop bytes out) {i = length out - bytes} (omega (arith, length-drop bytes out)) in
+      onward-more o more (ap (λ (x : List ℕ). take bytes out ++ (rest ++ x)) none ∙ ap (λ (x : List ℕ). take bytes out ++ x) (append-nil rest))
+
+-- more rows of a draft, from a place of it on
 module _ (set : CharacterSet) (text rows out : List ℕ) (at : ℕ) {bytes : ℕ} {vs : List Values} {file : List ℕ} {past : List Entry} {out₀ sheet : List ℕ} {s : Standing}
     (o : Onward vs file past out₀ (valuesIn set text (drop at rows)) sheet s bytes out)
     (few : length past + length vs ≤ 0x2000_0000_0000_0000) (fits : Fits vs file past (length out₀)) where
   pub rows-ready : Ready (valuesIn set text (take (length rows - at) (drop at rows))) sheet s (length (take (length out - bytes) (drop bytes out)))
-  rows-ready = rw (part-to-end rows at, part-to-end out bytes) (ready-on o few fits)
+  rows-ready = rw (part-to-end rows at) (rest-ready out o few fits)
 
   pub rows-on : {r : Progress} {sheet′ rest : List ℕ}
       → RowsSetOut set text (take (length rows - at) (drop at rows)) sheet (take (length out - bytes) (drop bytes out)) s r sheet′ rest
       → Onward vs file past out₀ (valuesIn set text (drop (at + r .numbers) rows)) sheet′ (r .standing) (bytes + r .bytes)
       (take bytes out ++ (rest ++ drop (length out - bytes) (drop bytes out)))
-  unfolding ready-on
-  rows-on {r} {sheet′} {rest} done =
-      let more = (rw (part-to-end rows at, part-to-end out bytes) at done) .onward (ready-on o few fits) in
-      let none : drop (length out - bytes) (drop bytes out) ≡ [] = drop-of-length-le (drop bytes out) {i = length out - bytes} (omega (arith, length-drop bytes out)) in
-      rw (sym (drop-drop (r .numbers) at rows))
-      (onward-more o more (ap (λ (x : List ℕ). take bytes out ++ (rest ++ x)) none ∙ ap (λ (x : List ℕ). take bytes out ++ x) (append-nil rest)))
+  rows-on {r} done =
+      rw (sym (drop-drop (r .numbers) at rows)) (rest-on out o few fits ((rw (part-to-end rows at) at done) .onward))
 
 -- the rows of a bundle so far, of which the first is always set out
 pub record Bundle (set : CharacterSet) (text rows sheet₀ out₀ : List ℕ) (s₀ : Standing) (sheet out : List ℕ) (s : Standing) (bytes at : ℕ) (goes : Bool) : Type 0 where

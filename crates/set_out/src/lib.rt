@@ -2,9 +2,9 @@
 // the buffer to the writer of a bundle, and that one the rest to the writer of a record.
 use standing::Standing;
 use text::CharacterSet;
-ghost use mathlib.Core.List.{List, [], _∷_, _++_};
+ghost use mathlib.Core.List.{[], _∷_, _++_};
 ghost use mathlib.Core.Path.{_≡_};
-ghost use Prim.Native.Nat.{ℕ, _+_, _≤_};
+ghost use Prim.Native.Nat.{_+_, _≤_};
 ghost use lib.ListN.{length, getD, drop};
 ghost use lib.Seq.{sets};
 ghost use Rattle.layout.specs.Packing.{Packed};
