@@ -140,10 +140,10 @@ module _ (file out list : List ℕ) {set : CharacterSet} {end : ℕ} (w : Walked
             (by-answer (Written bytes t) written ∙ rw (le-leb bytes 268_435_456 small, lt-leb bytes (length out) h))
 
         module _ (room : bytes ≤ length out) where
-          fits : Fits (valuesLeft file) [] [] (length out)
+          pub fits : Fits (valuesLeft file) [] [] (length out)
           fits = record { size = bytes; totals = t; written = written; within = omega arith }
 
-          pub writable : (plan : Plan)
+          unfoldable pub writable : (plan : Plan)
               → ((b : Body) (bs : List Body) → Spans file 0 (b ∷ bs) end → end ≤ 268_435_456 → Left set file end plan (marksOf set (b ∷ bs)))
               → plan .at ≡ 0 → Writable set file end (record { plan = plan; «open» = false; done = false }) (length out)
           writable plan stands at = record { values = valuesLeft file; cued = cued w any plan stands at; fits = fits }

@@ -1,3 +1,4 @@
+use mathlib.Core.Bool.{false}
 use mathlib.Core.List.{[]}
 use mathlib.Core.Path.{_≡_}
 use native.Mathlib.Omega.{arith}
@@ -55,6 +56,7 @@ same-length-2 : tie.Need-same-length-2
 same-length-2 c = search needs
 
 returns-4 : tie.Need-returns-4
+unfolding can-write writable
 returns-4 c = settled-written (now (c .before .before .before .before .before .before .before .before .before .before .before .before .before .before .before .before .before .before .before .before .args .file)) (now (c .before .before .before .before .before .before .before .before .before .before .before .before .before .before .before .before .before .before .before .before .args .out)) (now (c .before .before .before .before .before .before .before .before .before .before .before .before .before .before .before .before .before .before .before .before .args .list)) (c .before .before .before .before .before .before .before .before .before .before .before .before .before .before .before .before .before .before .before .before .pre .1) (c .before .before .before .before .before .before .before .before .before .before .before .before .before .before .before .before .before .before .before .before .pre .3) (decided (c .before .before .before .before .before .before .before .before .before .before .before .before .before .before)) (c .before .before .before .before .before .before .before .before .before .before .before .before .outcome .given .1) (omega (arith, c .before .before .before .before .before .before .before .before .before .before .if1 .left)) (omega (arith, c .before .before .before .before .before .before .before .before .before .if2 .left)) (c .before .before .before .before .before .before .before .before .before .before .before .before .before .before .before .before .before .before .before .before .pre .2) (omega (arith, c .before .before .before .before .before .before .before .before .if3 .left)) (c .before .before .before .before .before .before .write-left .ensures (can-write (c .before .before .before .before .before .before .before))) (rw (c .before .before .before .before .before .before .before .before .before .before .before .before .before .before .before .plan-of-file .ensures .1) at (c .before .before .put-list .ensures _ (all-left (c .before .before .before .before .before .before .before .before .before .before .before .before .before .before .before .before .before .before .before .before .pre .1) (c .before .before .before .before .before .before .before .before .before .before .before .before .before .before .before .before .before .before .before .before .pre .3) (c .before .before .before .before .before .before .before .before .before .before .before .before .before .before .before .plan-of-file .result) (c .before .before .before .before .before .before .before .before .before .before .before .before .before .before .before .plan-of-file .ensures .0) (c .before .before .before .before .before .before .before .before .before .before .before .before .before .before .before .plan-of-file .ensures .1))))
 
 returns-5 : tie.Need-returns-5
