@@ -2,7 +2,7 @@
 use Prim.Native.Nat.{ℕ, _/_, _≤_, _<_, min}
 use native.Mathlib.Omega.{arith}
 use mathlib.Core.Bool.{Bool, true, false, _&&_}
-use mathlib.Core.List.{List, [], _++_}
+use mathlib.Core.List.{List, [], _∷_, _++_}
 use mathlib.Core.Path.{_≡_, refl, sym, ap, ap₂, _∙_, subst}
 use lib.Dec.{leb}
 use lib.ListN.{length, drop}
@@ -12,6 +12,7 @@ use Rattle.text.specs.declared.character_set.CharacterSet.{CharacterSet}
 use Rattle.passes.specs.declared.Fault.{Fault}
 use Rattle.passes.specs.declared.Fault.the-variants.{Size, Room, Nothing}
 use Rattle.passes.specs.declared.Totals.{Totals}
+use Rattle.file_as_records.specs.Framed.{Body}
 use Rattle.draft.specs.declared.Outcome.{Outcome}
 use Rattle.draft.specs.declared.Outcome.the-variants.{Written, Refused}
 use Rattle.draft.specs.Values.{Values}
@@ -27,7 +28,12 @@ use Rattle.salvage_copy.proofs.SalvageOfCopy.{salvaged-as-copy}
 use Rattle.salvage_sound.proofs.SoundRuns.{sound-runs}
 use Rattle.salvage_written.proofs.Values.{shaped-left}
 use Rattle.salvage_made.proofs.Bodies.{each-once}
+use Rattle.salvage_walk.specs.Spans.{Spans}
+use Rattle.salvage_marks.specs.declared.Plan.{Plan}
+use Rattle.salvage_marks.specs.Left.{Left}
+use Rattle.salvage_passes.specs.Writable.{Writable}
 use Rattle.salvage.specs.Steps.{WalkedTo, SalvagedAs}
+use Rattle.salvage.proofs.Begun.{cued}
 use Rattle.salvage_same.proofs.Promised as same
 
 module _ (file out list : List ℕ) where
@@ -136,6 +142,11 @@ module _ (file out list : List ℕ) {set : CharacterSet} {end : ℕ} (w : Walked
         module _ (room : bytes ≤ length out) where
           pub fits : Fits (valuesLeft file) [] [] (length out)
           fits = record { size = bytes; totals = t; written = written; within = omega arith }
+
+          unfoldable pub writable : (plan : Plan)
+              → ((b : Body) (bs : List Body) → Spans file 0 (b ∷ bs) end → end ≤ 268_435_456 → Left set file end plan (marksOf set (b ∷ bs)))
+              → plan .at ≡ 0 → Writable set file end (record { plan = plan; «open» = false; done = false }) (length out)
+          writable plan stands at = record { values = valuesLeft file; cued = cued w any plan stands at; fits = fits }
 
           pub settled-rows : {count : ℕ} → count ≡ length (walked file) → length list / 4 < count → SalvagedAs file out list (Refused Room count 0) out list
           settled-rows {count} e h =
