@@ -151,8 +151,8 @@ fn told(name: &str, count: Option<Stated>, sum: Stated, kept: (u128, u128), show
         None => shown(kept.1),
     };
     let Stated::Number(stated) = sum else {
-        let what = if sum == Stated::Nothing { "states nothing" } else { "cannot be read" };
-        return format!("{name}: it {what}, kept are {of_kept}: what is missing is not known");
+        let what = if sum == Stated::Nothing { "it states nothing" } else { "what it states cannot be read" };
+        return format!("{name}: {what}, kept are {of_kept}: what is missing is not known");
     };
     let counted = match count {
         Some(Stated::Number(count)) => format!("{} of ", grouped_wide(count.into())),

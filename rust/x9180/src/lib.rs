@@ -42,11 +42,11 @@
 //     draft → room
 //     explain_draft → draft_row
 //     explain → before → sums
-//     salvage → explain_salvage → explain → more_bytes
-//     salvage → explain_salvage → ffi → listed → refusal
-//     salvage → explain_salvage → torn → listed → refusal
-//     salvage → explain_salvage → walked → digits
-//     salvage → reading → row
+//     salvage → explain_salvage → explain → more_bytes → refusal → kinds → digits → character_set
+//     salvage → explain_salvage → ffi → listed → refusal → kinds
+//     salvage → explain_salvage → torn → listed
+//     salvage → explain_salvage → walked → digits → character_set
+//     salvage → reading
 //     salvage → room
 //     explain_tags → tag_fault → refusal → kinds
 //     explain_tags → tag_fault → tag
