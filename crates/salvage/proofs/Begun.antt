@@ -1,8 +1,8 @@
 -- What was walked of a file: nothing stands behind its 99, and the marking begins at its first record. Assumes nothing.
-use Prim.Native.Nat.{ℕ, zero, suc, _+_, _*_, _/_, _≤_, _<_}
+use Prim.Native.Nat.{ℕ, zero, suc, _+_, _/_, _≤_}
 use native.Mathlib.Omega.{arith}
 use mathlib.Core.Bool.{Bool, true, false, _&&_, cond}
-use mathlib.Core.List.{List, [], _∷_, _++_}
+use mathlib.Core.List.{List, [], _∷_}
 use mathlib.Core.Path.{_≡_, refl, sym, ap, ap₂, _∙_, subst}
 use lib.Dec.{leb, eqb}
 use lib.ListN.{length, length-map}
@@ -15,22 +15,21 @@ use Rattle.frame.specs.Frames.{part, frameAt}
 use Rattle.judge.specs.Alone.{typeOf, judgedRecord}
 use Rattle.file_as_records.specs.Framed.{Body}
 use Rattle.draft.specs.Values.{Values, valuesOfBody}
-use Rattle.draft.specs.Completed.{addendaBehind}
 use Rattle.salvage_model.specs.Walked.{walkedOn, walkedFrom, walked}
 use Rattle.salvage_model.specs.Runs.{isRight, soundAlone}
-use Rattle.salvage_model.specs.Kept.{kept, Marked, marked, sectionsOf, sectionsMarks, marksOf, salvagedValues, anyKept, isAnything}
+use Rattle.salvage_model.specs.Kept.{Marked, sectionsOf, sectionsMarks, marksOf, salvagedValues, anyKept, isAnything}
 use Rattle.salvage_model.specs.Salvaged.{valuesLeft}
 use Rattle.salvage_walk.specs.declared.Seen.{Seen}
 use Rattle.salvage_walk.specs.Spans.{Stands, Spans, SeenAs}
 use Rattle.salvage_walk.proofs.Sorts.{First, first-of, none-left}
 use Rattle.salvage_marks.specs.declared.Plan.{Plan}
 use Rattle.salvage_marks.specs.Left.{Left, Planned}
-use Rattle.salvage_made.specs.ByMarks.{byFate, byMarks, bodiesIn, addendaAmong, CountedAlike, anyMarked, OnlyLast}
+use Rattle.salvage_made.specs.ByMarks.{byMarks, bodiesIn, addendaAmong, CountedAlike, anyMarked, OnlyLast}
 use Rattle.salvage_made.proofs.Bodies.{each-once}
 use Rattle.salvage_made.proofs.Sections.{well}
 use Rattle.salvage_made.proofs.Theorem.{by-marks, any-marked}
 use Rattle.salvage_made.proofs.Addenda.{behind-none, counted-alike}
-use Rattle.salvage_next.specs.Cued.{Cued, Cueing}
+use Rattle.salvage_next.specs.Cued.{Cued}
 use Rattle.salvage_list.specs.Listable.{Listable}
 use Rattle.salvage.specs.Steps.{WalkedTo}
 

@@ -1,9 +1,9 @@
 -- What becomes of a file, by the answer whatever the room, and what is promised of it. Assumes nothing.
 use Prim.Native.Nat.{ℕ, _/_, _≤_, _<_, min}
 use native.Mathlib.Omega.{arith}
-use mathlib.Core.Bool.{Bool, true, false, _&&_}
+use mathlib.Core.Bool.{true, false, _&&_}
 use mathlib.Core.List.{List, [], _∷_, _++_}
-use mathlib.Core.Path.{_≡_, refl, sym, ap, ap₂, _∙_, subst}
+use mathlib.Core.Path.{_≡_, sym, ap, _∙_, subst}
 use lib.Dec.{leb}
 use lib.ListN.{length, drop}
 use borrow.Author.Tests.{le-leb, lt-leb}
@@ -15,7 +15,6 @@ use Rattle.passes.specs.declared.Totals.{Totals}
 use Rattle.file_as_records.specs.Framed.{Body}
 use Rattle.draft.specs.declared.Outcome.{Outcome}
 use Rattle.draft.specs.declared.Outcome.the-variants.{Written, Refused}
-use Rattle.draft.specs.Values.{Values}
 use Rattle.draft.specs.Drafted.{made, offsetOf, answerFrom, inRoom, outcomeOf, bufferAfter}
 use Rattle.draft_survey.specs.CappedOutcome.{cappedOutcome}
 use Rattle.set_out.specs.SetOut.{Fits}

@@ -10,9 +10,8 @@ use lib.ListN.{length, take, drop, length-append, take-append-drop}
 use lib.Seq.{sets, length-sets, sets-eq, length-take-le, take-at, drop-at, drop-drop}
 use borrow.Author.Tests.{eq-eqb, ne-eqb}
 use Rattle.text.specs.declared.character_set.CharacterSet.{CharacterSet}
-use Rattle.judge.specs.Alone.{typeOf}
-use Rattle.salvage_model.specs.Kept.{Fate, kept, renewed, dropped, Marked, marked}
-use Rattle.salvage_model.specs.Salvaged.{statusOf, faultNumber, listed}
+use Rattle.salvage_model.specs.Kept.{Fate, kept, renewed, dropped, Marked}
+use Rattle.salvage_model.specs.Salvaged.{statusOf, listed}
 use Rattle.salvage_marks.specs.declared.Plan.{Plan}
 use Rattle.salvage_marks.specs.declared.Marking.{Marking}
 use Rattle.salvage_marks.specs.Left.{Left, Planned, NextMark}

@@ -1,9 +1,9 @@
-use mathlib.Core.Path.{_≡_, sym, ap, _∙_}
+use mathlib.Core.Path.{sym, _∙_}
 use denote.Ref.{now}
 use borrow.Author.Tests.{not-true, not-false}
 use Rattle.salvage.specs.Steps.{WalkedTo}
 use Rattle.salvage.proofs.Begun.{walked-to, walked-count}
-use Rattle.salvage.proofs.Settled.{Done, done, settled-size, settled-nothing}
+use Rattle.salvage.proofs.Settled.{done, settled-size, settled-nothing}
 use borrow.Author.Needs.{needs}
 use Rattle.salvage.proofs.salvage.Statement.{statement}
 use Rattle.salvage.proofs.salvage.Tie as tie

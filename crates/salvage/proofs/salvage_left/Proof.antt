@@ -3,7 +3,7 @@ use mathlib.Core.List.{[]}
 use mathlib.Core.Path.{_≡_}
 use native.Mathlib.Omega.{arith}
 use denote.Ref.{now}
-use lib.ListN.{length, drop}
+use lib.ListN.{length}
 use Rattle.draft.specs.Drafted.{answerFrom}
 use Rattle.draft_survey.specs.CappedOutcome.{cappedOutcome}
 use Rattle.salvage_model.specs.Salvaged.{valuesLeft}
