@@ -27,18 +27,24 @@ fill-refused-requires c κs = search needs
 same-length : tie.Need-same-length
 same-length c = search needs
 
-returns : tie.Need-returns
-returns c =
-    let told = sym (c .before .before .before .before .before .before .before .salvage .ensures .0) ∙ c .before .before .before .bytes .given .1 in
-    record { number = rw told; buffer = c .before .before .before .before .before .before .before .salvage .ensures .1 .0; listed = c .before .before .before .before .before .before .before .salvage .ensures .1 .1 .0; answer = rw (told, c .fill-accepted .ensures); promised = of-salvage (c .before .before .before .before .before .before .before .salvage .ensures .0) (c .before .before .before .before .before .before .before .salvage .ensures .1 .1 .1) }
-
 same-length-2 : tie.Need-same-length-2
 same-length-2 c = search needs
 
+same-length-3 : tie.Need-same-length-3
+same-length-3 c = search needs
+
+same-length-4 : tie.Need-same-length-4
+same-length-4 c = search needs
+
+returns : tie.Need-returns
+returns c =
+    let told = sym (c .before .before .before .before .before .before .before .before .before .salvage .ensures .0) ∙ c .before .before .before .bytes .given .1 in
+    record { number = rw told; buffer = c .before .before .before .before .before .before .before .before .before .salvage .ensures .1 .0; listed = c .before .before .before .before .before .before .before .before .before .salvage .ensures .1 .1 .0; answer = rw (told, c .fill-accepted .ensures); promised = of-salvage (c .before .before .before .before .before .before .before .before .before .salvage .ensures .0) (c .before .before .before .before .before .before .before .before .before .salvage .ensures .1 .1 .1) }
+
 returns-2 : tie.Need-returns-2
 returns-2 c =
-    let told = sym (c .before .before .before .before .before .before .before .salvage .ensures .0) ∙ c .before .before .before .fault .given .1 in
-    record { number = rw (told, c .fill-refused .ensures .0); buffer = c .before .before .before .before .before .before .before .salvage .ensures .1 .0; listed = c .before .before .before .before .before .before .before .salvage .ensures .1 .1 .0; answer = rw told (c .fill-refused .ensures .1 0); promised = of-salvage (c .before .before .before .before .before .before .before .salvage .ensures .0) (c .before .before .before .before .before .before .before .salvage .ensures .1 .1 .1) }
+    let told = sym (c .before .before .before .before .before .before .before .before .before .salvage .ensures .0) ∙ c .before .before .before .fault .given .1 in
+    record { number = rw (told, c .fill-refused .ensures .0); buffer = c .before .before .before .before .before .before .before .before .before .salvage .ensures .1 .0; listed = c .before .before .before .before .before .before .before .before .before .salvage .ensures .1 .1 .0; answer = rw told (c .fill-refused .ensures .1 0); promised = of-salvage (c .before .before .before .before .before .before .before .before .before .salvage .ensures .0) (c .before .before .before .before .before .before .before .before .before .salvage .ensures .1 .1 .1) }
 
 pub x9-salvage-spec : {M : Type 1} → statement M
 x9-salvage-spec =
@@ -50,6 +56,8 @@ x9-salvage-spec =
     enum-known-fault
     fill-refused-requires
     same-length
-    returns
     same-length-2
+    returns
+    same-length-3
+    same-length-4
     returns-2)
