@@ -19,9 +19,9 @@
 #define CONTROL 16
 #define LARGEST ((size_t)268435456)
 
-/* The numbers of the reader and the writer, below NUMBERS, and those that the calls of the day book and x9_tiff have besides. */
+/* The numbers of the reader and the writer, below NUMBERS, and those that the calls of the day book, x9_salvage and x9_tiff have besides. */
 enum { ACCEPTED, SIZE, ROOM, CUT, LENGTH, TYPE, PLACE, FIELD, LINK, TOTAL, OPEN, AFTER, NUMBERS };
-enum { DUPLICATE = 12, FULL, NOENTRY = 15, RANGE, TAGORDER = 18, TAGVALUE, BOOK, ALL_NUMBERS };
+enum { DUPLICATE = 12, FULL, NOENTRY = 15, RANGE, NOTHING, TAGORDER, TAGVALUE, BOOK, ALL_NUMBERS };
 
 /* ---- Failing ---- */
 

@@ -13,6 +13,7 @@ uint64_t proved_x9_write(const uint8_t *text, size_t text_len, const uint64_t *d
                          uint64_t answer[12]);
 uint64_t proved_x9_draft(const uint8_t *file, size_t file_len, uint64_t *draft, size_t draft_len, uint64_t answer[12]);
 uint64_t proved_x9_tiff(const uint8_t *image, size_t image_len, uint64_t answer[2]);
+uint64_t proved_x9_salvage(const uint8_t *file, size_t file_len, uint8_t *out, size_t out_len, uint64_t *list, size_t list_len, uint64_t answer[12]);
 uint64_t proved_x9_book_enter(const uint8_t *file, size_t file_len, uint64_t file_number, uint64_t owner, uint64_t *table, size_t table_len,
                               uint64_t *book, size_t book_len, uint64_t *taken, size_t taken_len, uint64_t answer[13]);
 uint64_t proved_x9_book_withdraw(uint64_t *book, size_t book_len, const uint64_t *taken, size_t taken_len, uint64_t owner, uint64_t entry_number);
@@ -847,5 +848,82 @@ uint64_t x9_book_totals(const uint64_t *book, size_t book_len, uint64_t owner, u
     if (number == 20 && is_owner(owner) && book_len >= HEAD) number = totals_in_spite(book, book_len, owner, totals);
 #endif
     (void)right, (void)sums_wrap, (void)totals_of_one, (void)ninth, (void)nets_wrap, (void)totals_in_spite;
+    return number;
+}
+
+/* ---- Salvage (request 11) ---- */
+
+/* Where the record of this type stands in a written file, the last of them; the whole length where there is none. */
+static inline size_t last_written(const uint8_t *out, size_t len, const char *type) {
+    size_t found = len;
+    for (size_t at = 0; at + 6 <= len; at += 4 + ((size_t)out[at] << 24 | (size_t)out[at + 1] << 16 | (size_t)out[at + 2] << 8 | out[at + 3]))
+        if (!memcmp(out + at + 4, type, 2)) found = at;
+    return found;
+}
+
+/* How many rows were filled: the first, and those behind it whose offsets rise. */
+static inline size_t rows_filled(const uint64_t *list, size_t list_len) {
+    size_t rows = 1;
+    while (4 * rows + 4 <= list_len && list[4 * rows] > list[4 * rows - 4] && list[4 * rows] < 268435456) rows++;
+    return rows;
+}
+
+uint64_t x9_salvage(const uint8_t *file, size_t file_len, uint8_t *out, size_t out_len, uint64_t *list, size_t list_len, uint64_t answer[12]) {
+    uint64_t number = proved_x9_salvage(file, file_len, out, out_len, list, list_len, answer);
+    size_t used = number ? 0 : (size_t)answer[3], rows = number ? 0 : rows_filled(list, list_len);
+    size_t control = last_written(out, used, "90");
+    calls++;
+#if PLANT == 158 /* writes a byte behind the file */
+    if (!number && used < out_len) out[used] = 0;
+#elif PLANT == 159 /* writes the number behind the last row */
+    if (!number && 4 * rows < list_len) list[4 * rows] = 0;
+#elif PLANT == 160 /* lists on NOTHING */
+    if (number == 17 && list_len >= 4) list[0] = list[3] = 0, list[1] = 1, list[2] = 2;
+#elif PLANT == 161 /* writes as far as there is room, then refuses */
+    if (number == 2 && out_len >= 4 && file_len >= 4) memcpy(out, file, 4);
+#elif PLANT == 162 /* reads a byte past the file */
+    sink = file[file_len];
+#elif PLANT == 163 /* reads a number past the list */
+    sink = (uint8_t)list[list_len];
+#elif PLANT == 164 /* changes the file */
+    if (!number && rows > 20) ((uint8_t *)(uintptr_t)file)[5] ^= 1;
+#elif PLANT == 165 /* a dropped record has no number */
+    for (size_t i = 0; i < rows; i++) if (list[4 * i + 3] == 8) list[4 * i + 3] = 0;
+#elif PLANT == 166 /* the first fault of a run stands at its first record alone */
+    for (size_t i = 0; i < rows; i++) if (list[4 * i + 3] && list[4 * i + 1] != 20 && list[4 * i + 1] != 61) list[4 * i + 3] = 6;
+#elif PLANT == 167 /* a wrong sum of a bundle is PLACE */
+    for (size_t i = 0; i < rows; i++) if (list[4 * i + 3] == 9) list[4 * i + 3] = 6;
+#elif PLANT == 168 /* a control made new is listed as kept */
+    for (size_t i = 0; i < rows; i++) if (list[4 * i + 1] == 90 && list[4 * i + 2] == 1) list[4 * i + 2] = 0;
+#elif PLANT == 169 /* what is no type has another number than 0 */
+    for (size_t i = 1; i < rows; i++) if (!list[4 * i + 1]) list[4 * i + 1] = 255;
+#elif PLANT == 170 /* the settlement date of a 90 is not kept */
+    if (control < used) memset(out + control + 59, ' ', 8);
+#elif PLANT == 171 /* the contact of a 99 is not kept */
+    if (used) memset(out + used - 80 + 40, ' ', 14);
+#elif PLANT == 172 /* ROOM for the list gives numbers, not rows */
+    if (number == 2 && answer[1] <= out_len) answer[1] *= 4;
+#elif PLANT == 173 /* ROOM for the list comes before ROOM for the buffer */
+    if (number == 2 && answer[1] > out_len && list_len / 4 < 2) answer[1] = 2;
+#elif PLANT == 174 /* TOTAL tells the offset in the torn file */
+    if (number == 9) answer[3] += 89;
+#elif PLANT == 175 /* NOTHING names the first record */
+    if (number == 17) answer[1] = 1;
+#elif PLANT == 176 /* the records of the torn file are told, not those written */
+    if (!number) answer[1] = rows;
+#elif PLANT == 177 /* credits are not in the totals */
+    if (!number) answer[10] = answer[11] = 0;
+#elif PLANT == 178 /* an EBCDIC record is written as it stands */
+    if (used && is_ebcdic(file, file_len)) memcpy(out + 4, file + 4, 80);
+#elif PLANT == 179 /* another answer now and then */
+    if (calls % 20000 == 0) answer[3] ^= 1;
+#elif PLANT == 180 /* a blank MICR total is worked out */
+    if (used && last_written(out, used, "70") < used && out[last_written(out, used, "70") + 22] == ' ') memset(out + last_written(out, used, "70") + 22, '0', 12);
+#elif PLANT == 181 /* a 90 behind a dropped letter is made new */
+    for (size_t i = 1; i < rows; i++) if (list[4 * i + 1] == 90 && list[4 * i + 2] == 2) list[4 * i + 2] = 1, list[4 * i + 3] = 0;
+#elif PLANT == 182 /* a stray 90 has LINK */
+    for (size_t i = 1; i < rows; i++) if (list[4 * i + 1] == 90 && list[4 * i + 2] == 2) list[4 * i + 3] = 8;
+#endif
+    (void)rows, (void)control;
     return number;
 }

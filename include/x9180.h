@@ -2,7 +2,7 @@
  *
  * Every call takes any bytes and gives a definite answer. The numbers are those of the answers in README.md:
  * 0 ACCEPTED, 1 SIZE, 2 ROOM, 3 CUT, 4 LENGTH, 5 TYPE, 6 PLACE, 7 FIELD, 8 LINK, 9 TOTAL, 10 OPEN, 11 AFTER,
- * 12 DUPLICATE, 13 FULL, 15 NOENTRY, 16 RANGE, 18 TAGORDER, 19 TAGVALUE, 20 BOOK.
+ * 12 DUPLICATE, 13 FULL, 15 NOENTRY, 16 RANGE, 17 NOTHING, 18 TAGORDER, 19 TAGVALUE, 20 BOOK.
  *
  * A pointer must not be null, must be aligned for what it points to, and must point to as many elements as the length beside it says;
  * with length 0 it may point anywhere. What is lent to be written must not overlap what is lent to be read. The calls keep nothing and
@@ -74,6 +74,35 @@ uint64_t x9_write(const uint8_t *text, size_t text_len, const uint64_t *draft, s
  * row for each record, with 0 for what x9_write does not look at; numbers after the last row are untouched. Refused: the whole draft is untouched.
  * ROOM gives the rows needed as the record. */
 uint64_t x9_draft(const uint8_t *file, size_t file_len, uint64_t *draft, size_t draft_len, uint64_t answer[12]);
+
+/* The salvage of a torn file: what is sound of it, made out as a new file, and a list of what became of each record. A record is *walked* where the lengths
+ * frame it from the start: until the bytes end, fewer are left than a length says, a length is below 2, or behind the first 99, which is walked itself.
+ * Its type is told by its first two characters alone, in the file's set, whether it is sound or not.
+ *   Under a 10 are the records behind it, up to the next 10, 90 or 99 or the end of the walk. A *run* is, among these, what stands from a 20 to the first 70
+ *   behind it with no other 20 between; or a 61 that no 20 before it has taken in, with the 50s, 52s and 54s right behind it. A run is sound where x9_read,
+ *   having read a sound 01 and that 10 and nothing else, would read it through without a fault and, of a 61's run, not end behind a 50.
+ *   Kept: the 01; each 10 that is sound alone (as x9_record_in judges it) with its sound runs, unless its field 8 is E, I or F and no sound run of a 20 is
+ *   under it: such a cash letter is dropped whole. They are written as they stand, a blank 70.4 too.
+ *   Made new: the 90 that ends the records under a kept 10, and the 99. One is written whether or not it was walked: counts and sums worked out; 90.6, 90.7,
+ *   99.6 and 99.7 each as in the one walked where that field lies within its record and keeps its rule, else blank.
+ *   Dropped: everything else.
+ * `list_len` counts numbers, not rows: a row is four numbers, and the rows available are the whole fours. On success it has a row for each record walked, in
+ * the order of the file:
+ *   [0] the offset of the record's length field   [1] the record type, 0 where its first two characters are no digits
+ *   [2] 0 kept, 1 made new, 2 dropped
+ *   [3] 0 unless dropped; of a record in an unsound run under a 10 that is sound alone, the number of the run's first fault (LENGTH, TYPE, PLACE, FIELD, LINK
+ *       or TOTAL; PLACE too where a 61's run ends behind a 50), whatever the record itself is; of any other dropped record PLACE
+ * Numbers after the last row filled are untouched. So a caller learns how many were filled by lending zeros: no row but the first has offset 0.
+ * Returns the number and fills `answer` as x9_write does: 0, the records written, 0, the bytes written, and the totals of the new file. Refused, in this order:
+ *   SIZE      (0, 0, 0) the torn file has no byte, or more than 268,435,456
+ *   NOTHING   (0, 0, 0) the first record walked is no 01 that is sound alone, or none was walked, or no cash letter is left
+ *   TOTAL     as x9_write, with record, field and offset in the file being written: the lowest field of a new control whose sum is too long
+ *   SIZE      (0, 0, 0) the file being written would pass 268,435,456 bytes: a new control may be more than was walked
+ *   ROOM      the buffer is too short: the bytes needed as the record
+ *   ROOM      the list is too short: the rows needed as the record
+ * `out` and `list` are untouched on every refusal, and `out` always behind the file. What is written x9_read accepts, with the same answer; salvaged again it
+ * is the same. An accepted file is written as the same bytes (of an EBCDIC file, its copy in ASCII), every record kept or made new. ASCII is written. */
+uint64_t x9_salvage(const uint8_t *file, size_t file_len, uint8_t *out, size_t out_len, uint64_t *list, size_t list_len, uint64_t answer[12]);
 
 /* The tags of one image, declared as TIFF, against X9.100-181. A call of its own: x9_read accepts a file whatever its pictures hold. The image may
  * be the part that x9_picture names. Returns the number and fills `answer` with

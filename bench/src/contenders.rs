@@ -24,6 +24,15 @@ extern "C" {
         answer: *mut Answer,
     ) -> u64;
     fn x9_draft(file: *const u8, file_len: usize, draft: *mut u64, draft_len: usize, answer: *mut Answer) -> u64;
+    fn x9_salvage(
+        file: *const u8,
+        file_len: usize,
+        out: *mut u8,
+        out_len: usize,
+        list: *mut u64,
+        list_len: usize,
+        answer: *mut Answer,
+    ) -> u64;
 }
 
 /// The proved library.
@@ -75,6 +84,18 @@ pub fn proved_draft(file: &[u8], draft: &mut [u64]) -> Answer {
 /// The independent one, from rows it has allocated.
 pub fn independent_draft(file: &[u8], draft: &mut [u64]) -> Answer {
     draft_of(file, draft).listed()
+}
+
+/// The proved library salvages a file into a buffer and a list.
+pub fn proved_salvage(file: &[u8], out: &mut [u8], list: &mut [u64]) -> Answer {
+    let mut answer = [u64::MAX; LISTED];
+    // SAFETY: each pointer goes with its slice's own length, and the answer holds the twelve numbers the call fills.
+    let number = unsafe {
+        let (file_at, out_at, list_at) = (file.as_ptr(), out.as_mut_ptr(), list.as_mut_ptr());
+        x9_salvage(file_at, file.len(), out_at, out.len(), list_at, list.len(), &mut answer)
+    };
+    assert_eq!(number, answer[0]);
+    answer
 }
 
 /// Walks the lengths and adds up every byte of the records but the Image Data of the 52s. Nothing is judged.

@@ -1,10 +1,11 @@
 //! Times the proved library beside the independent reader and writer, a plain walk of memory and a plain copy, on the same bytes in turn.
 //! The ratios go to standard output as tables; seconds and the machine's own numbers go to standard error.
-//! Use: bench [read | write] [SEED], or bench SEED MIB TIMES [CONTENDER [SHAPE]] for a profiler.
+//! Use: bench [read | write | salvage] [SEED], or bench SEED MIB TIMES [CONTENDER [SHAPE]] for a profiler.
 
 mod contenders;
 mod inputs;
 mod reading;
+mod salvaging;
 mod timing;
 mod writing;
 
@@ -49,7 +50,7 @@ fn profile(seed: u64, size: usize, times: usize, which: usize, shape: usize) {
 
 fn main() {
     let mut words: Vec<String> = env::args().skip(1).collect();
-    let only = words.first().filter(|word| *word == "read" || *word == "write").cloned();
+    let only = words.first().filter(|word| ["read", "write", "salvage"].contains(&word.as_str())).cloned();
     if only.is_some() {
         words.remove(0);
     }
@@ -60,6 +61,18 @@ fn main() {
         return profile(seed, size, times, more(0), more(1));
     }
     eprintln!("seed {seed}");
+    if only.as_deref() != Some("salvage") {
+        read_and_write(seed, only.as_deref());
+    }
+    if only.is_none() || only.as_deref() == Some("salvage") {
+        let mut lent = salvaging::Lent::new();
+        salvaging::tables(seed, &mut lent);
+        on_a_small_stack(|| salvaging::once(seed, &mut lent));
+        println!("The proved salvage asked for no memory, and ran on a stack of {} KiB.", STACK >> 10);
+    }
+}
+
+fn read_and_write(seed: u64, only: Option<&str>) {
     let start = now();
     let pictures = Batch::one(file(seed, Shape::Pictures, 200 * MIB));
     let plain = Batch::one(file(seed, Shape::NoPictures, 32 * MIB));
@@ -72,10 +85,10 @@ fn main() {
         ("(c) 10,000 small files", &small),
         ("(d) 32 MiB of lockbox deposits", &lockbox),
     ];
-    if only.as_deref() != Some("write") {
+    if only != Some("write") {
         reading::tables(seed, &inputs);
     }
-    if only.as_deref() != Some("read") {
+    if only != Some("read") {
         writing::tables(seed, &inputs);
     }
     let mut table = vec![1; 32 * MIB / 77 * 7];

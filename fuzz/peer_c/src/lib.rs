@@ -1,4 +1,5 @@
-//! The independent reader, the independent writer, the independent judge of tags and the independent day book behind C calls, for the fuzz targets.
+//! The independent reader, the independent writer, the independent judge of tags, the independent day book and the independent salvage behind C calls, for the
+//! fuzz targets.
 
 mod daybook;
 pub mod drafts;
@@ -7,6 +8,7 @@ mod images;
 mod mutate;
 mod repair;
 mod tags;
+mod tearing;
 mod writing;
 
 use std::slice::{from_raw_parts, from_raw_parts_mut};

@@ -235,7 +235,7 @@ fn mend(pieces: &mut Vec<Piece>, random: &mut Random) -> bool {
     }
 }
 
-fn mutated(given: &[u8], max: usize, random: &mut Random, bytewise: Bytewise) -> Vec<u8> {
+pub fn mutated(given: &[u8], max: usize, random: &mut Random, bytewise: Bytewise) -> Vec<u8> {
     let (mut control, file) = parts(given);
     if random.percent(25) {
         for _ in 0..random.between(1, 4) {

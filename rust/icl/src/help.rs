@@ -4,7 +4,7 @@ use std::ffi::{OsStr, OsString};
 
 pub const GENERAL: &str = "\
 icl: checks X9.100-180 image cash letters, lists what they hold, takes out their pictures and looks into them,
-makes the letters out, and keeps a day book of them
+makes the letters out, salvages torn ones, and keeps a day book of them
 
 use:
   icl check [--explain] [--csv | --json] FILE...
@@ -16,6 +16,8 @@ use:
   icl tags --tiff IMAGE...
   icl draft [--force] FILE -o DIR
   icl write [--force] DIR -o FILE
+  icl salvage [--force] FILE -o OUT
+  icl salvage --list [--csv | --json] FILE [-o OUT [--force]]
   icl book new BOOK [--rows N] [--places N]
   icl book enter BOOK FILE --number N --owner 1|2
   icl book withdraw BOOK ENTRY --owner 1|2
@@ -183,6 +185,32 @@ Exit status: 0 written, 1 refused (told on standard error), 2 something could no
 letter.json is not what is asked.
 ";
 
+const SALVAGE: &str = "\
+icl salvage [--force] FILE -o OUT
+icl salvage --list [--csv | --json] FILE [-o OUT [--force]]
+
+Makes out, as a new file, what is sound of a torn one, while its sender is being rung. The records are walked by
+their lengths from the start, until the bytes end or are cut off, a length is below 2, or behind the first file
+control (type 99). Kept are the file header, each sound cash letter header, and under it each bundle that is whole
+and sound, from its header to its control, and each sound credit (type 61) with its views; a cash letter of E, I or
+F without a sound bundle is dropped whole. The controls of the cash letters and of the file are made new: counts
+and sums are those of what is kept, the other fields stay where they are sound. Nothing is mended, and a sound file
+loses nothing: the new one has its bytes. The new file is in ASCII, and icl check accepts it.
+Prints what was kept, made new and dropped, by cash letter and bundle with their sums (of what was dropped, as the
+amounts stand in the torn file), why each part was dropped, and what is missing against what the torn file's own
+controls state; where no control was walked, that is said. Ordinals and records are those of the torn file; with
+-o - nothing is printed but the new file.
+  -o OUT      the file to write, or - for standard output; written to a temporary name and then renamed
+  --force     overwrite OUT where it is there already; FILE itself is never overwritten
+  --list      prints in place of that a row for each record walked: kept, new or dropped, with its fault
+  --csv       the list comma separated, with a first line of column names (docs/ICL.md): so unless told otherwise
+  --json      the list as an array of objects, one on a line (docs/ICL.md)
+Refused with 17 NOTHING where the file header is not sound or no cash letter is left, with 1 SIZE or 9 TOTAL where the
+new file would have too many bytes or a sum too many digits.
+Exit status: 0 written, whatever was dropped, 1 refused (told on standard error), 2 something could not be read or
+written.
+";
+
 const BOOK: &str = "\
 icl book new BOOK [--rows N] [--places N]          makes an empty day book
 icl book enter BOOK FILE --number N --owner 1|2    enters the cash letters of an accepted file
@@ -310,6 +338,7 @@ pub fn of(command: &str) -> Option<&'static str> {
         "tags" => Some(TAGS),
         "draft" => Some(DRAFT),
         "write" => Some(WRITE),
+        "salvage" => Some(SALVAGE),
         "book" => Some(BOOK),
         "find" => Some(FIND),
         "show" => Some(SHOW),

@@ -1,13 +1,13 @@
-//! icl: checks X9.100-180 image cash letters, lists what they hold, takes out their pictures and looks into them, makes the letters out, and keeps a
-//! day book of them.
+//! icl: checks X9.100-180 image cash letters, lists what they hold, takes out their pictures and looks into them, makes the letters out, salvages torn
+//! ones, and keeps a day book of them.
 
 // Imports go one way. This root imports the modules, and no module imports the root; among themselves each imports only those on lines
 // below its own. `x9180/tests/imports.rs` fails where that is not so.
 //
-//     check, rows, tree, pictures, tags, draft, write, book, find, show, summary, diff, completion, manual    the commands
-//     book_convert, find_query, meaning, walked, tree_rows
+//     check, rows, tree, pictures, tags, draft, write, salvage, book, find, show, summary, diff, completion, manual    the commands
+//     book_convert, find_query, meaning, walked, tree_rows, salvage_told, salvage_list
 //     book_words, each, taking
-//     args, input, output, sheet, names, usage, book_file, book_list, durable, facts, codes, verdicts, walk, fields, diff_match, diff_records
+//     args, input, output, sheet, names, usage, book_file, book_list, durable, facts, codes, verdicts, walk, fields, diff_match, diff_records, salvage_sums
 //     store, forms, places, files, help
 //     screen, interrupt, json
 //     stop
@@ -44,6 +44,10 @@ mod output;
 mod pictures;
 mod places;
 mod rows;
+mod salvage;
+mod salvage_list;
+mod salvage_sums;
+mod salvage_told;
 mod screen;
 mod sheet;
 mod show;
@@ -110,6 +114,7 @@ fn run(mut words: Vec<OsString>) -> Result<u8, Stop> {
         Some("tags") => tags::run(args),
         Some("draft") => draft::run(args),
         Some("write") => write::run(args),
+        Some("salvage") => salvage::run(args),
         Some("find") => find::run(args),
         Some("show") => show::run(args),
         Some("summary") => summary::run(args),

@@ -19,7 +19,8 @@ pub fn put(out: &OsStr, bytes: &[u8], force: bool, what: &str) -> Result<(), Sto
     print(&format!("{what} written to {}\n", words::name(out)))
 }
 
-fn put_file(path: &Path, bytes: &[u8], force: bool) -> Result<(), Stop> {
+/// Writes one file, whole or not at all, and says nothing.
+pub fn put_file(path: &Path, bytes: &[u8], force: bool) -> Result<(), Stop> {
     let trouble = |error: Error| trouble(path, &error);
     let (folder, name) = place(path)?;
     if path.is_dir() {

@@ -93,6 +93,16 @@ impl<'f> Before<'f> {
         before
     }
 
+    /// Goes through these records, with their ordinals in the file.
+    pub fn of_records(set: CharacterSet, records: impl Iterator<Item = (u64, &'f [u8])>) -> Before<'f> {
+        let mut before = Before::default();
+        for (ordinal, body) in records {
+            let Some(kind) = Kind::of_body(set, body) else { break };
+            before.enter(Earlier { ordinal, kind, set, body });
+        }
+        before
+    }
+
     /// Goes through the records of a draft.
     pub fn of_draft(set: CharacterSet, records: impl Iterator<Item = (&'static Kind, &'f [u8])>) -> Before<'f> {
         let mut before = Before { of_draft: true, ..Before::default() };

@@ -29,22 +29,39 @@ pub(crate) fn reading(file: &[u8], number: Number, record: u64, field: u64, offs
     match number {
         Number::SIZE => return size(file.len() as u64),
         Number::ROOM => words.lines.push(format!("{record} rows are needed")),
-        _ => {
-            let before = Before::walk(file, offset);
-            describe(&mut words, &fault, &format!("record {record}"));
-            match number {
-                Number::TYPE if words.kind.is_some() => {
-                    words.lines.push("the standard has this type of record, but it is not read here yet".to_string());
-                }
-                Number::PLACE => words.lines.extend(before.place(words.kind, record)),
-                Number::CUT | Number::OPEN => words.lines.extend(before.stands_last()),
-                Number::LINK => words.lines.extend(before.link(words.kind, field)),
-                Number::TOTAL => words.lines.extend(before.total(words.kind, field, record)),
-                _ => {}
-            }
-        }
+        _ => say(&mut words, &fault, record, &Before::walk(file, offset)),
     }
     Refusal { number, record, field, offset, words: Box::new(words) }
+}
+
+/// The first fault of a part of a torn file (request 11), as the reading answered it behind other records than those that stand before it: these, with
+/// their ordinals in the file.
+pub(crate) fn within_part<'f>(
+    file: &'f [u8],
+    before: impl Iterator<Item = (u64, &'f [u8])>,
+    number: Number,
+    record: u64,
+    field: u64,
+    offset: u64,
+) -> Refusal {
+    let (fault, mut words) = (Fault::in_file(file, number, field, offset), Words::default());
+    say(&mut words, &fault, record, &Before::of_records(fault.set, before));
+    Refusal { number, record, field, offset, words: Box::new(words) }
+}
+
+/// The words of a fault at a record of this ordinal, behind these records.
+fn say(words: &mut Words, fault: &Fault<'_>, record: u64, before: &Before<'_>) {
+    describe(words, fault, &format!("record {record}"));
+    match fault.number {
+        Number::TYPE if words.kind.is_some() => {
+            words.lines.push("the standard has this type of record, but it is not read here yet".to_string());
+        }
+        Number::PLACE => words.lines.extend(before.place(words.kind, record)),
+        Number::CUT | Number::OPEN => words.lines.extend(before.stands_last()),
+        Number::LINK => words.lines.extend(before.link(words.kind, fault.field)),
+        Number::TOTAL => words.lines.extend(before.total(words.kind, fault.field, record)),
+        _ => {}
+    }
 }
 
 /// The refusal that the picture call answered.

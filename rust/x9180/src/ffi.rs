@@ -2,6 +2,7 @@
 //! module.
 
 use crate::draft_row::DraftRow;
+use crate::listed::Listed;
 use crate::row::Row;
 
 extern "C" {
@@ -18,6 +19,15 @@ extern "C" {
         answer: *mut u64,
     ) -> u64;
     fn x9_draft(file: *const u8, file_len: usize, draft: *mut u64, draft_len: usize, answer: *mut u64) -> u64;
+    fn x9_salvage(
+        file: *const u8,
+        file_len: usize,
+        out: *mut u8,
+        out_len: usize,
+        list: *mut u64,
+        list_len: usize,
+        answer: *mut u64,
+    ) -> u64;
     fn x9_tiff(image: *const u8, image_len: usize, answer: *mut u64) -> u64;
     fn x9_book_enter(
         file: *const u8,
@@ -99,6 +109,27 @@ pub(crate) fn draft(file: &[u8], rows: &mut [DraftRow]) -> [u64; 12] {
     let numbers = rows.len() * DraftRow::NUMBERS;
     // SAFETY: as in `read`, with rows of ten u64.
     unsafe { x9_draft(file.as_ptr(), file.len(), rows.as_mut_ptr().cast(), numbers, answer.as_mut_ptr()) };
+    answer
+}
+
+/// Salvages a torn file into a buffer, lists what became of its records, and gives the twelve numbers of the answer.
+pub(crate) fn salvage(file: &[u8], out: &mut [u8], list: &mut [Listed]) -> [u64; 12] {
+    let mut answer = [0; 12];
+    let numbers = list.len() * Listed::NUMBERS;
+    // SAFETY: file and buffer go with their own lengths. A row of the list is `repr(C)` and four u64 long, so the rows are that many numbers at one pointer.
+    // The exclusive borrows keep buffer and list apart from the file and from each other. The answer has the twelve numbers that the call fills. No pointer
+    // of a slice is null, and the call keeps none.
+    unsafe {
+        x9_salvage(
+            file.as_ptr(),
+            file.len(),
+            out.as_mut_ptr(),
+            out.len(),
+            list.as_mut_ptr().cast(),
+            numbers,
+            answer.as_mut_ptr(),
+        )
+    };
     answer
 }
 

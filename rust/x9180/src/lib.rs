@@ -4,8 +4,8 @@
 //! repository builds it). This crate lends it the bytes, keeps the rows that come back, and says refusals in plain words.
 //!
 //! [`read`] reads a file and [`picture`] finds a picture in it; [`tags`] judges the tags of a TIFF picture, one that came in or one that is to go
-//! out; [`make`] makes a file out from nothing, and [`Draft`] changes one and writes it again. [`Book`] is a day book that files are entered into,
-//! which two bureaus may share.
+//! out; [`make`] makes a file out from nothing, and [`Draft`] changes one and writes it again; [`salvage`] makes out what is sound of a torn one. [`Book`] is
+//! a day book that files are entered into, which two bureaus may share.
 //!
 //! ```
 //! # fn main() -> Result<(), Box<dyn std::error::Error>> {
@@ -42,6 +42,12 @@
 //     draft → room
 //     explain_draft → draft_row
 //     explain → before → sums
+//     salvage → explain_salvage → explain → more_bytes → refusal → kinds → digits → character_set
+//     salvage → explain_salvage → ffi → listed → refusal → kinds
+//     salvage → explain_salvage → torn → listed
+//     salvage → explain_salvage → walked → digits → character_set
+//     salvage → reading
+//     salvage → room
 //     explain_tags → tag_fault → refusal → kinds
 //     explain_tags → tag_fault → tag
 //     explain_tags → shown → character_set
@@ -72,12 +78,14 @@ mod entry;
 mod explain;
 mod explain_book;
 mod explain_draft;
+mod explain_salvage;
 mod explain_tags;
 mod ffi;
 mod figures;
 mod fit;
 mod given;
 mod kinds;
+mod listed;
 pub mod make;
 mod make_addenda;
 mod make_items;
@@ -89,25 +97,32 @@ mod reading;
 mod refusal;
 mod room;
 mod row;
+mod salvage;
 mod shown;
 mod sums;
 mod tag;
 mod tag_fault;
 mod taken;
+mod torn;
 mod value;
+mod walked;
 
 pub use book::Book;
 pub use character_set::CharacterSet;
 pub use draft::Draft;
+pub use explain_salvage::Why;
 pub use given::Record;
 pub use kinds::{DataType, Field, Form, Kind, Place, RoutingForm, Usage, KINDS};
+pub use listed::{Listed, Status};
 pub use misfit::Misfit;
 pub use more_bytes::LIMIT;
 pub use reading::{Bundle, Content, Item, ItemKind, Letter, Reading, Totals, View};
 pub use refusal::{Number, Refusal};
 pub use row::Row;
+pub use salvage::Salvage;
 pub use tag::{Tag, TAGS};
 pub use tag_fault::TagFault;
+pub use torn::{Part, Sort};
 pub use value::{Date, Time, Value};
 
 /// Reads a whole file.
@@ -162,6 +177,40 @@ pub fn picture(file: &[u8], offset: u64) -> Result<&[u8], Refusal> {
         Number::ACCEPTED => part().ok_or_else(|| explain::picture(file, Number::CUT, 0, offset)),
         refused => Err(explain::picture(file, refused, field, offset)),
     }
+}
+
+/// Salvages a torn file: makes out, as a new file, what is sound of it, and lists what became of each of its records (request 11).
+///
+/// The records are walked by their lengths from the start, until the bytes end or are cut off, a length is below 2, or behind the first File Control Record
+/// (type 99). Kept are the file header, each cash letter header that is sound, its sound bundles, and the sound credits directly under it; a cash letter that
+/// has to hold a bundle and has no sound one left is dropped whole. The controls of cash letters and file are made new, with the counts and sums of what is kept. A sound
+/// file loses nothing: the new one has its bytes (of one in EBCDIC, those of its copy in ASCII).
+///
+/// Refused with `NOTHING` where the file header is not sound or no cash letter is left; with `SIZE` for a file of no byte or too many, or where the new one
+/// would have too many; with `TOTAL` where a sum outgrows its field of a new control.
+///
+/// ```
+/// use x9180::{Number, Status};
+///
+/// # fn main() -> Result<(), Box<dyn std::error::Error>> {
+/// let file = std::fs::read("../../samples/two-letters-with-pictures.x9")?;
+/// assert_eq!(x9180::salvage(&file)?.into_file(), file);
+///
+/// let torn = &file[..2_900]; // the line dropped in the second bundle
+/// assert!(x9180::read(torn).is_err());
+/// let salvage = x9180::salvage(torn)?;
+/// assert_eq!((salvage.totals().bundles, salvage.totals().debit), (1, 16_550));
+/// assert_eq!(x9180::read(salvage.file())?.totals(), salvage.totals());
+/// let dropped: Vec<u64> =
+///     salvage.list().iter().filter(|listed| listed.status() == Status::Dropped).map(|listed| listed.offset).collect();
+/// assert_eq!(dropped, [2_450, 2_534, 2_618]);
+///
+/// assert_eq!(x9180::salvage(&file[..500]).unwrap_err().number(), Number::NOTHING);
+/// # Ok(())
+/// # }
+/// ```
+pub fn salvage(file: &[u8]) -> Result<Salvage, Refusal> {
+    Salvage::of(file)
 }
 
 /// Judges the tags of one TIFF picture by X9.100-181 (ANS X9.100-181-2007): the header, the first directory, the order of its entries, the nine tags

@@ -1,6 +1,6 @@
 //! Why a file, a picture or a draft was refused, in numbers and in plain words.
 //!
-//! The form of a refusal only: `explain` and `explain_draft` find the words and fill it in, so this module imports the kinds and nothing above
+//! The form of a refusal only: `explain`, `explain_draft` and `explain_salvage` find the words and fill it in, so this module imports the kinds and nothing above
 //! them.
 
 use crate::kinds::{Field, Kind};
@@ -27,13 +27,14 @@ impl Number {
     pub const FULL: Number = Number(13);
     pub const NOENTRY: Number = Number(15);
     pub const RANGE: Number = Number(16);
+    pub const NOTHING: Number = Number(17);
     pub const TAGORDER: Number = Number(18);
     pub const TAGVALUE: Number = Number(19);
     pub const BOOK: Number = Number(20);
 }
 
 /// Each number with its name and its meaning.
-const NUMBERS: [(Number, &str, &str); 19] = [
+const NUMBERS: [(Number, &str, &str); 20] = [
     (Number::ACCEPTED, "ACCEPTED", "all rules hold"),
     (Number::SIZE, "SIZE", "the file has no byte, or more than 268435456"),
     (Number::ROOM, "ROOM", "all rules hold, but there is not memory enough"),
@@ -50,6 +51,7 @@ const NUMBERS: [(Number, &str, &str); 19] = [
     (Number::FULL, "FULL", "the day book has no room for the file"),
     (Number::NOENTRY, "NOENTRY", "the day book has no such entry"),
     (Number::RANGE, "RANGE", "the net position would lie beyond 1000000000000000000 cents either side"),
+    (Number::NOTHING, "NOTHING", "no sound cash letter is left of the torn file"),
     (Number::TAGORDER, "TAGORDER", "a tag of a picture is not above the tag before it"),
     (Number::TAGVALUE, "TAGVALUE", "the header of a picture is wrong, or a required tag is wrong or absent"),
     (Number::BOOK, "BOOK", "the day book is not sound"),

@@ -1,5 +1,5 @@
-//! The C examples, compiled and run: the reader on the samples with pictures, in ASCII and EBCDIC, and the day book, every line worked out by hand; the
-//! writer beside the makers of this package.
+//! The C examples, compiled and run: the reader on the samples with pictures, in ASCII and EBCDIC, the salvage of a torn one, and the day book, every line
+//! worked out by hand; the writer beside the makers of this package.
 
 use std::path::{Path, PathBuf};
 use std::process::Command;
@@ -112,6 +112,42 @@ fn keeps_a_day_book() {
     let refused = "refused 9 record 10 field 3 offset 764\n";
     assert_eq!(one, (Some(1), [entered, refused, of_one, &nothing(2)].concat()));
     assert_eq!(none, (Some(2), [nothing(1), nothing(2)].concat()));
+}
+
+/// The sample of two letters, cut in the second bundle of the first letter, cut in the second letter, and cut before any bundle is whole. What became of the
+/// records, and the bytes, are worked out in `tests/salvage.rs` and `icl/tests/salvage.rs`.
+#[test]
+fn salvages_a_torn_file() {
+    let folder = std::env::temp_dir().join(format!("x9180-example-salvage-{}", std::process::id()));
+    std::fs::create_dir(&folder).unwrap();
+    let program = compiled(&folder, "salvage");
+    let sample = std::fs::read(root().join("samples/two-letters-with-pictures.x9")).unwrap();
+    let run = |end: usize| {
+        let (torn, left) = (folder.join("torn.x9"), folder.join(format!("left-{end}.x9")));
+        std::fs::write(&torn, &sample[..end]).unwrap();
+        let output = Command::new(&program).args([&torn, &left]).output().unwrap();
+        (output.status.code(), String::from_utf8(output.stdout).unwrap(), std::fs::read(&left).ok())
+    };
+    let (in_bundle, in_letter, too_early) = (run(2_900), run(4_000), run(2_400));
+    std::fs::remove_dir_all(&folder).unwrap();
+
+    let lines = "walked 20 records: 17 kept, 0 made new, 3 dropped\n\
+                 offset 2450 type 20 dropped, fault 6\n\
+                 offset 2534 type 25 dropped, fault 6\n\
+                 offset 2618 type 50 dropped, fault 6\n\
+                 written: 19 records, 2623 bytes\n\
+                 accepted records 19 letters 1 bundles 1 items 2 views 4 debit 16550\n";
+    assert_eq!((in_bundle.0, in_bundle.1.as_str()), (Some(0), lines));
+    assert_eq!(in_bundle.2.map(|left| left[..2_450] == sample[..2_450]), Some(true));
+    let lines = "walked 29 records: 24 kept, 1 made new, 4 dropped\n\
+                 offset 3629 type 10 dropped, fault 6\n\
+                 offset 3713 type 20 dropped, fault 6\n\
+                 offset 3797 type 31 dropped, fault 6\n\
+                 offset 3881 type 32 dropped, fault 6\n\
+                 written: 26 records, 3713 bytes\n\
+                 accepted records 26 letters 1 bundles 2 items 3 views 6 debit 16557\n";
+    assert_eq!((in_letter.0, in_letter.1.as_str()), (Some(0), lines));
+    assert_eq!(too_early, (Some(1), "refused 17 record 0 field 0 offset 0\n".to_string(), None));
 }
 
 /// The same letter by name: a check of 123.45 with a picture of either side.
