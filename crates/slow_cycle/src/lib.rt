@@ -22,7 +22,7 @@ fn file_header(set: CharacterSet, file: &[u8], s: Standing, at: usize) -> Answer
     match enter(set, file, s, 1, at) {
         Entered::Stop(answer) => answer,
         Entered::On(here, next, called) => match called {
-            10 => cash_letter(set, file, here, next),
+            10 => letter(set, file, here, next),
             _ => not_called_for(set, file, here, next),
         },
     }
@@ -30,7 +30,7 @@ fn file_header(set: CharacterSet, file: &[u8], s: Standing, at: usize) -> Answer
 
 // Clause 8, Figures 1 and 2: a cash letter header calls for a bundle, for a credit directly in the cash letter, or, with no detail, for the
 // cash letter control.
-fn cash_letter(set: CharacterSet, file: &[u8], s: Standing, at: usize) -> Answer
+fn letter(set: CharacterSet, file: &[u8], s: Standing, at: usize) -> Answer
     requires { ⌜ Called set (now file) s at false 10 ⌝ }
     ensures { λ r. ⌜ IsAnswer set (now (file .entry)) r ⌝ }
 {
@@ -38,7 +38,7 @@ fn cash_letter(set: CharacterSet, file: &[u8], s: Standing, at: usize) -> Answer
         Entered::Stop(answer) => answer,
         Entered::On(here, next, called) => match called {
             20 => bundle(set, file, here, next),
-            61 => letter_credit(set, file, here, next),
+            61 => own_credit(set, file, here, next),
             90 => letter_control(set, file, here, next),
             _ => not_called_for(set, file, here, next),
         },
@@ -53,8 +53,8 @@ fn bundle(set: CharacterSet, file: &[u8], s: Standing, at: usize) -> Answer
     match enter(set, file, s, 20, at) {
         Entered::Stop(answer) => answer,
         Entered::On(here, next, called) => match called {
-            25 => check_detail(set, file, here, next),
-            31 => return_record(set, file, here, next),
+            25 => check(set, file, here, next),
+            31 => returned(set, file, here, next),
             61 => credit(set, file, here, next),
             _ => not_called_for(set, file, here, next),
         },
@@ -62,7 +62,7 @@ fn bundle(set: CharacterSet, file: &[u8], s: Standing, at: usize) -> Answer
 }
 
 // Clause 10, Figure 1a: a check calls for its addenda and views, and what closes it for the next check, a credit or the bundle control.
-fn check_detail(set: CharacterSet, file: &[u8], s: Standing, at: usize) -> Answer
+fn check(set: CharacterSet, file: &[u8], s: Standing, at: usize) -> Answer
     requires { ⌜ Called set (now file) s at true 25 ⌝ }
     ensures { λ r. ⌜ IsAnswer set (now (file .entry)) r ⌝ }
 {
@@ -72,8 +72,8 @@ fn check_detail(set: CharacterSet, file: &[u8], s: Standing, at: usize) -> Answe
             26 => check_a(set, file, here, next),
             27 => check_b(set, file, here, next),
             28 => check_c(set, file, here, next),
-            50 => view_detail(set, file, here, next),
-            25 => check_detail(set, file, here, next),
+            50 => view(set, file, here, next),
+            25 => check(set, file, here, next),
             61 => credit(set, file, here, next),
             70 => bundle_control(set, file, here, next),
             _ => not_called_for(set, file, here, next),
@@ -92,8 +92,8 @@ fn check_a(set: CharacterSet, file: &[u8], s: Standing, at: usize) -> Answer
             26 => check_a(set, file, here, next),
             27 => check_b(set, file, here, next),
             28 => check_c(set, file, here, next),
-            50 => view_detail(set, file, here, next),
-            25 => check_detail(set, file, here, next),
+            50 => view(set, file, here, next),
+            25 => check(set, file, here, next),
             61 => credit(set, file, here, next),
             70 => bundle_control(set, file, here, next),
             _ => not_called_for(set, file, here, next),
@@ -110,8 +110,8 @@ fn check_b(set: CharacterSet, file: &[u8], s: Standing, at: usize) -> Answer
         Entered::Stop(answer) => answer,
         Entered::On(here, next, called) => match called {
             28 => check_c(set, file, here, next),
-            50 => view_detail(set, file, here, next),
-            25 => check_detail(set, file, here, next),
+            50 => view(set, file, here, next),
+            25 => check(set, file, here, next),
             61 => credit(set, file, here, next),
             70 => bundle_control(set, file, here, next),
             _ => not_called_for(set, file, here, next),
@@ -128,8 +128,8 @@ fn check_c(set: CharacterSet, file: &[u8], s: Standing, at: usize) -> Answer
         Entered::Stop(answer) => answer,
         Entered::On(here, next, called) => match called {
             28 => check_c(set, file, here, next),
-            50 => view_detail(set, file, here, next),
-            25 => check_detail(set, file, here, next),
+            50 => view(set, file, here, next),
+            25 => check(set, file, here, next),
             61 => credit(set, file, here, next),
             70 => bundle_control(set, file, here, next),
             _ => not_called_for(set, file, here, next),
@@ -138,7 +138,7 @@ fn check_c(set: CharacterSet, file: &[u8], s: Standing, at: usize) -> Answer
 }
 
 // Clause 14, Figure 1b: a return calls for its addenda A, and for the B that it must have.
-fn return_record(set: CharacterSet, file: &[u8], s: Standing, at: usize) -> Answer
+fn returned(set: CharacterSet, file: &[u8], s: Standing, at: usize) -> Answer
     requires { ⌜ Called set (now file) s at true 31 ⌝ }
     ensures { λ r. ⌜ IsAnswer set (now (file .entry)) r ⌝ }
 {
@@ -177,8 +177,8 @@ fn return_b(set: CharacterSet, file: &[u8], s: Standing, at: usize) -> Answer
         Entered::On(here, next, called) => match called {
             34 => return_c(set, file, here, next),
             35 => return_d(set, file, here, next),
-            50 => view_detail(set, file, here, next),
-            31 => return_record(set, file, here, next),
+            50 => view(set, file, here, next),
+            31 => returned(set, file, here, next),
             61 => credit(set, file, here, next),
             70 => bundle_control(set, file, here, next),
             _ => not_called_for(set, file, here, next),
@@ -195,8 +195,8 @@ fn return_c(set: CharacterSet, file: &[u8], s: Standing, at: usize) -> Answer
         Entered::Stop(answer) => answer,
         Entered::On(here, next, called) => match called {
             35 => return_d(set, file, here, next),
-            50 => view_detail(set, file, here, next),
-            31 => return_record(set, file, here, next),
+            50 => view(set, file, here, next),
+            31 => returned(set, file, here, next),
             61 => credit(set, file, here, next),
             70 => bundle_control(set, file, here, next),
             _ => not_called_for(set, file, here, next),
@@ -213,8 +213,8 @@ fn return_d(set: CharacterSet, file: &[u8], s: Standing, at: usize) -> Answer
         Entered::Stop(answer) => answer,
         Entered::On(here, next, called) => match called {
             35 => return_d(set, file, here, next),
-            50 => view_detail(set, file, here, next),
-            31 => return_record(set, file, here, next),
+            50 => view(set, file, here, next),
+            31 => returned(set, file, here, next),
             61 => credit(set, file, here, next),
             70 => bundle_control(set, file, here, next),
             _ => not_called_for(set, file, here, next),
@@ -223,7 +223,7 @@ fn return_d(set: CharacterSet, file: &[u8], s: Standing, at: usize) -> Answer
 }
 
 // Clause 21: an image view detail calls for its image view data.
-fn view_detail(set: CharacterSet, file: &[u8], s: Standing, at: usize) -> Answer
+fn view(set: CharacterSet, file: &[u8], s: Standing, at: usize) -> Answer
     requires { ⌜ Called set (now file) s at true 50 ⌝ }
     ensures { λ r. ⌜ IsAnswer set (now (file .entry)) r ⌝ }
 {
@@ -244,10 +244,10 @@ fn view_data(set: CharacterSet, file: &[u8], s: Standing, at: usize) -> Answer
     match enter(set, file, s, 52, at) {
         Entered::Stop(answer) => answer,
         Entered::On(here, next, called) => match called {
-            50 => view_detail(set, file, here, next),
-            54 => view_analysis(set, file, here, next),
-            25 => check_detail(set, file, here, next),
-            31 => return_record(set, file, here, next),
+            50 => view(set, file, here, next),
+            54 => analysis(set, file, here, next),
+            25 => check(set, file, here, next),
+            31 => returned(set, file, here, next),
             61 => credit(set, file, here, next),
             70 => bundle_control(set, file, here, next),
             _ => not_called_for(set, file, here, next),
@@ -256,16 +256,16 @@ fn view_data(set: CharacterSet, file: &[u8], s: Standing, at: usize) -> Answer
 }
 
 // Clause 23: an image view analysis closes its view.
-fn view_analysis(set: CharacterSet, file: &[u8], s: Standing, at: usize) -> Answer
+fn analysis(set: CharacterSet, file: &[u8], s: Standing, at: usize) -> Answer
     requires { ⌜ Called set (now file) s at true 54 ⌝ }
     ensures { λ r. ⌜ IsAnswer set (now (file .entry)) r ⌝ }
 {
     match enter(set, file, s, 54, at) {
         Entered::Stop(answer) => answer,
         Entered::On(here, next, called) => match called {
-            50 => view_detail(set, file, here, next),
-            25 => check_detail(set, file, here, next),
-            31 => return_record(set, file, here, next),
+            50 => view(set, file, here, next),
+            25 => check(set, file, here, next),
+            31 => returned(set, file, here, next),
             61 => credit(set, file, here, next),
             70 => bundle_control(set, file, here, next),
             _ => not_called_for(set, file, here, next),
@@ -281,10 +281,10 @@ fn credit(set: CharacterSet, file: &[u8], s: Standing, at: usize) -> Answer
     match enter(set, file, s, 61, at) {
         Entered::Stop(answer) => answer,
         Entered::On(here, next, called) => match called {
-            50 => view_detail(set, file, here, next),
+            50 => view(set, file, here, next),
             61 => credit(set, file, here, next),
-            25 => check_detail(set, file, here, next),
-            31 => return_record(set, file, here, next),
+            25 => check(set, file, here, next),
+            31 => returned(set, file, here, next),
             70 => bundle_control(set, file, here, next),
             _ => not_called_for(set, file, here, next),
         },
@@ -300,7 +300,7 @@ fn bundle_control(set: CharacterSet, file: &[u8], s: Standing, at: usize) -> Ans
         Entered::Stop(answer) => answer,
         Entered::On(here, next, called) => match called {
             20 => bundle(set, file, here, next),
-            61 => letter_credit(set, file, here, next),
+            61 => own_credit(set, file, here, next),
             90 => letter_control(set, file, here, next),
             _ => not_called_for(set, file, here, next),
         },
@@ -308,15 +308,15 @@ fn bundle_control(set: CharacterSet, file: &[u8], s: Standing, at: usize) -> Ans
 }
 
 // Clause 26, Figure 1c: a credit directly in a cash letter calls for its views, the next credit, a bundle, or the cash letter control.
-fn letter_credit(set: CharacterSet, file: &[u8], s: Standing, at: usize) -> Answer
+fn own_credit(set: CharacterSet, file: &[u8], s: Standing, at: usize) -> Answer
     requires { ⌜ Called set (now file) s at false 61 ⌝ }
     ensures { λ r. ⌜ IsAnswer set (now (file .entry)) r ⌝ }
 {
     match enter(set, file, s, 61, at) {
         Entered::Stop(answer) => answer,
         Entered::On(here, next, called) => match called {
-            50 => letter_view(set, file, here, next),
-            61 => letter_credit(set, file, here, next),
+            50 => own_view(set, file, here, next),
+            61 => own_credit(set, file, here, next),
             20 => bundle(set, file, here, next),
             90 => letter_control(set, file, here, next),
             _ => not_called_for(set, file, here, next),
@@ -325,30 +325,30 @@ fn letter_credit(set: CharacterSet, file: &[u8], s: Standing, at: usize) -> Answ
 }
 
 // Clause 21: a view of such a credit calls for its data.
-fn letter_view(set: CharacterSet, file: &[u8], s: Standing, at: usize) -> Answer
+fn own_view(set: CharacterSet, file: &[u8], s: Standing, at: usize) -> Answer
     requires { ⌜ Called set (now file) s at false 50 ⌝ }
     ensures { λ r. ⌜ IsAnswer set (now (file .entry)) r ⌝ }
 {
     match enter(set, file, s, 50, at) {
         Entered::Stop(answer) => answer,
         Entered::On(here, next, called) => match called {
-            52 => letter_data(set, file, here, next),
+            52 => own_data(set, file, here, next),
             _ => not_called_for(set, file, here, next),
         },
     }
 }
 
 // Clause 22: its data, behind which come its analysis, or what follows such a credit.
-fn letter_data(set: CharacterSet, file: &[u8], s: Standing, at: usize) -> Answer
+fn own_data(set: CharacterSet, file: &[u8], s: Standing, at: usize) -> Answer
     requires { ⌜ Called set (now file) s at false 52 ⌝ }
     ensures { λ r. ⌜ IsAnswer set (now (file .entry)) r ⌝ }
 {
     match enter(set, file, s, 52, at) {
         Entered::Stop(answer) => answer,
         Entered::On(here, next, called) => match called {
-            50 => letter_view(set, file, here, next),
-            54 => letter_analysis(set, file, here, next),
-            61 => letter_credit(set, file, here, next),
+            50 => own_view(set, file, here, next),
+            54 => own_analysis(set, file, here, next),
+            61 => own_credit(set, file, here, next),
             20 => bundle(set, file, here, next),
             90 => letter_control(set, file, here, next),
             _ => not_called_for(set, file, here, next),
@@ -357,15 +357,15 @@ fn letter_data(set: CharacterSet, file: &[u8], s: Standing, at: usize) -> Answer
 }
 
 // Clause 23: its analysis closes it.
-fn letter_analysis(set: CharacterSet, file: &[u8], s: Standing, at: usize) -> Answer
+fn own_analysis(set: CharacterSet, file: &[u8], s: Standing, at: usize) -> Answer
     requires { ⌜ Called set (now file) s at false 54 ⌝ }
     ensures { λ r. ⌜ IsAnswer set (now (file .entry)) r ⌝ }
 {
     match enter(set, file, s, 54, at) {
         Entered::Stop(answer) => answer,
         Entered::On(here, next, called) => match called {
-            50 => letter_view(set, file, here, next),
-            61 => letter_credit(set, file, here, next),
+            50 => own_view(set, file, here, next),
+            61 => own_credit(set, file, here, next),
             20 => bundle(set, file, here, next),
             90 => letter_control(set, file, here, next),
             _ => not_called_for(set, file, here, next),
@@ -381,7 +381,7 @@ fn letter_control(set: CharacterSet, file: &[u8], s: Standing, at: usize) -> Ans
     match enter(set, file, s, 90, at) {
         Entered::Stop(answer) => answer,
         Entered::On(here, next, called) => match called {
-            10 => cash_letter(set, file, here, next),
+            10 => letter(set, file, here, next),
             99 => file_control(set, file, here, next),
             _ => not_called_for(set, file, here, next),
         },
