@@ -1,10 +1,12 @@
 -- What x9_read_slowly promises (request 12), that the promise leaves one outcome for every input, and that up to 65,536 bytes it is that of x9_read.
 use Prim.Native.Nat.{ℕ, _≤_, _<_}
 use mathlib.Core.List.{List, [], _∷_}
-use mathlib.Core.Path.{_≡_, sym, _∙_}
+use mathlib.Core.Path.{_≡_, sym, ap, _∙_, subst}
 use lib.ListN.{length}
 use borrow.Author.Tests.{le-leb, lt-leb}
 use Rattle.passes.specs.Answers.{answerNumber, numbersOf}
+use Rattle.passes.specs.Reading.{answerOf, tableOf}
+use Rattle.passes.specs.declared.Answer.{Answer}
 use Rattle.arrangement.specs.Arranged.{Arranged}
 use Rattle.slow_reader.specs.Slowly.{slowAnswer, slowTable}
 use Rattle.abi.specs.Outcomes.{Reading}
@@ -20,18 +22,27 @@ pub one-slow-reading : (file table : List ℕ) {n m : ℕ} {after later answer o
     → SlowReading file table n after answer → SlowReading file table m later other → (n ≡ m) × (after ≡ later) × (answer ≡ other)
 one-slow-reading file table r s = (r .number ∙ sym (s .number), r .rows ∙ sym (s .rows), r .answer ∙ sym (s .answer))
 
+-- up to 65,536 bytes they are those of x9_read
+same-answer : (file : List ℕ) (tableLength : ℕ) → length file ≤ 65_536 → slowAnswer file tableLength ≡ answerOf file tableLength
+unfolding slowAnswer
+same-answer file tableLength h = simp (le-leb (length file) 65_536 h)
+
+same-table : (file table : List ℕ) → length file ≤ 65_536 → slowTable file table ≡ tableOf file table
+unfolding slowTable
+same-table file table h = simp (le-leb (length file) 65_536 h)
+
 pub as-read : (file table : List ℕ) {n : ℕ} {after answer : List ℕ} → length file ≤ 65_536 → SlowReading file table n after answer
     → Reading file table n after answer
-unfolding slowAnswer slowTable
-as-read file table h r =
-    let here = le-leb (length file) 65_536 h in
+as-read file table {n} {after} h r =
+    let same = same-answer file (length table) h in
     record {
-      number = r .number ∙ simp here;
-      rows = r .rows ∙ simp here;
-      answer = r .answer ∙ simp here;
-      arranged = rw here (r .arranged h);
+      number = r .number ∙ ap answerNumber same;
+      rows = r .rows ∙ same-table file table h;
+      answer = r .answer ∙ ap (numbersOf (length file)) same;
+      arranged = subst (λ (a : Answer). Arranged file table a after) same (r .arranged h);
     }
 
+-- beyond, SIZE (0, 0, 0), and the table is untouched
 pub too-long : (file table : List ℕ) {n : ℕ} {after answer : List ℕ} → 65_536 < length file → SlowReading file table n after answer
     → (n ≡ 1) × (after ≡ table) × (answer ≡ 1 ∷ 0 ∷ 0 ∷ 0 ∷ 0 ∷ 0 ∷ 0 ∷ 0 ∷ 0 ∷ 0 ∷ 0 ∷ 0 ∷ [])
 unfolding slowAnswer slowTable
