@@ -6,12 +6,14 @@
 use std::cell::RefCell;
 
 // As the sources write it.
-#[allow(clippy::all, unused_imports)]
+#[allow(clippy::all, unused_imports, dead_code)]
 mod sources {
     include!(concat!(env!("OUT_DIR"), "/sources.rs"));
 }
 
+// `build.rs` uses all of it.
 #[cfg(test)]
+#[allow(dead_code)]
 #[path = "../translate.rs"]
 mod translate;
 
@@ -29,6 +31,21 @@ pub struct Noted {
     pub offset: usize,
     /// The figures of the records before that offset.
     pub standing: Standing,
+}
+
+impl Noted {
+    /// The figures in one list, in the order that `SoFar::numbers` of `rust/x9180` has them.
+    pub fn numbers(&self) -> [u64; 26] {
+        let s = &self.standing;
+        let of = |sums: &Sums| [sums.debits.0, sums.debit.0, sums.credits.0, sums.credit.0, sums.views.0];
+        // Where no item is open the addenda that the last one stated are kept, and say nothing.
+        let stated = if s.holder == 0 { 0 } else { s.stated };
+        let mut numbers = [0; 26];
+        numbers[..5].copy_from_slice(&[s.records.0, s.letters, s.opened, s.items.0, s.ordinal]);
+        numbers[5..20].copy_from_slice([of(&s.whole), of(&s.letter), of(&s.bundle)].as_flattened());
+        numbers[20..].copy_from_slice(&[s.micr.0, stated, s.addenda, s.bofd, s.endorser, s.shown]);
+        numbers
+    }
 }
 
 thread_local! {
