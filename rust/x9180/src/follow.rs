@@ -45,28 +45,28 @@ pub struct Function {
 /// The functions of the cycle, in the order of the sources, and at the end the one that is called where none of the records stands that are called for.
 #[rustfmt::skip]
 pub const FUNCTIONS: [Function; 24] = [
-    function("file_header", 1, 7, 0, &[(10, "cash_letter")]),
-    function("cash_letter", 10, 8, 1, &[(20, "bundle"), (61, "letter_credit"), (90, "letter_control")]),
-    function("bundle", 20, 9, 2, &[(25, "check_detail"), (31, "return_record"), (61, "credit")]),
-    function("check_detail", 25, 10, 3, &[(26, "check_a"), (27, "check_b"), (28, "check_c"), (50, "view_detail"), (25, "check_detail"), (61, "credit"), (70, "bundle_control")]),
-    function("check_a", 26, 11, 4, &[(26, "check_a"), (27, "check_b"), (28, "check_c"), (50, "view_detail"), (25, "check_detail"), (61, "credit"), (70, "bundle_control")]),
-    function("check_b", 27, 12, 4, &[(28, "check_c"), (50, "view_detail"), (25, "check_detail"), (61, "credit"), (70, "bundle_control")]),
-    function("check_c", 28, 13, 4, &[(28, "check_c"), (50, "view_detail"), (25, "check_detail"), (61, "credit"), (70, "bundle_control")]),
-    function("return_record", 31, 14, 3, &[(32, "return_a"), (33, "return_b")]),
+    function("file_header", 1, 7, 0, &[(10, "letter")]),
+    function("letter", 10, 8, 1, &[(20, "bundle"), (61, "own_credit"), (90, "letter_control")]),
+    function("bundle", 20, 9, 2, &[(25, "check"), (31, "returned"), (61, "credit")]),
+    function("check", 25, 10, 3, &[(26, "check_a"), (27, "check_b"), (28, "check_c"), (50, "view"), (25, "check"), (61, "credit"), (70, "bundle_control")]),
+    function("check_a", 26, 11, 4, &[(26, "check_a"), (27, "check_b"), (28, "check_c"), (50, "view"), (25, "check"), (61, "credit"), (70, "bundle_control")]),
+    function("check_b", 27, 12, 4, &[(28, "check_c"), (50, "view"), (25, "check"), (61, "credit"), (70, "bundle_control")]),
+    function("check_c", 28, 13, 4, &[(28, "check_c"), (50, "view"), (25, "check"), (61, "credit"), (70, "bundle_control")]),
+    function("returned", 31, 14, 3, &[(32, "return_a"), (33, "return_b")]),
     function("return_a", 32, 15, 4, &[(32, "return_a"), (33, "return_b")]),
-    function("return_b", 33, 16, 4, &[(34, "return_c"), (35, "return_d"), (50, "view_detail"), (31, "return_record"), (61, "credit"), (70, "bundle_control")]),
-    function("return_c", 34, 17, 4, &[(35, "return_d"), (50, "view_detail"), (31, "return_record"), (61, "credit"), (70, "bundle_control")]),
-    function("return_d", 35, 18, 4, &[(35, "return_d"), (50, "view_detail"), (31, "return_record"), (61, "credit"), (70, "bundle_control")]),
-    function("view_detail", 50, 21, 4, &[(52, "view_data")]),
-    function("view_data", 52, 22, 4, &[(50, "view_detail"), (54, "view_analysis"), (25, "check_detail"), (31, "return_record"), (61, "credit"), (70, "bundle_control")]),
-    function("view_analysis", 54, 23, 4, &[(50, "view_detail"), (25, "check_detail"), (31, "return_record"), (61, "credit"), (70, "bundle_control")]),
-    function("credit", 61, 26, 3, &[(50, "view_detail"), (61, "credit"), (25, "check_detail"), (31, "return_record"), (70, "bundle_control")]),
-    function("bundle_control", 70, 31, 2, &[(20, "bundle"), (61, "letter_credit"), (90, "letter_control")]),
-    function("letter_credit", 61, 26, 2, &[(50, "letter_view"), (61, "letter_credit"), (20, "bundle"), (90, "letter_control")]),
-    function("letter_view", 50, 21, 3, &[(52, "letter_data")]),
-    function("letter_data", 52, 22, 3, &[(50, "letter_view"), (54, "letter_analysis"), (61, "letter_credit"), (20, "bundle"), (90, "letter_control")]),
-    function("letter_analysis", 54, 23, 3, &[(50, "letter_view"), (61, "letter_credit"), (20, "bundle"), (90, "letter_control")]),
-    function("letter_control", 90, 34, 1, &[(10, "cash_letter"), (99, "file_control")]),
+    function("return_b", 33, 16, 4, &[(34, "return_c"), (35, "return_d"), (50, "view"), (31, "returned"), (61, "credit"), (70, "bundle_control")]),
+    function("return_c", 34, 17, 4, &[(35, "return_d"), (50, "view"), (31, "returned"), (61, "credit"), (70, "bundle_control")]),
+    function("return_d", 35, 18, 4, &[(35, "return_d"), (50, "view"), (31, "returned"), (61, "credit"), (70, "bundle_control")]),
+    function("view", 50, 21, 4, &[(52, "view_data")]),
+    function("view_data", 52, 22, 4, &[(50, "view"), (54, "analysis"), (25, "check"), (31, "returned"), (61, "credit"), (70, "bundle_control")]),
+    function("analysis", 54, 23, 4, &[(50, "view"), (25, "check"), (31, "returned"), (61, "credit"), (70, "bundle_control")]),
+    function("credit", 61, 26, 3, &[(50, "view"), (61, "credit"), (25, "check"), (31, "returned"), (70, "bundle_control")]),
+    function("bundle_control", 70, 31, 2, &[(20, "bundle"), (61, "own_credit"), (90, "letter_control")]),
+    function("own_credit", 61, 26, 2, &[(50, "own_view"), (61, "own_credit"), (20, "bundle"), (90, "letter_control")]),
+    function("own_view", 50, 21, 3, &[(52, "own_data")]),
+    function("own_data", 52, 22, 3, &[(50, "own_view"), (54, "own_analysis"), (61, "own_credit"), (20, "bundle"), (90, "letter_control")]),
+    function("own_analysis", 54, 23, 3, &[(50, "own_view"), (61, "own_credit"), (20, "bundle"), (90, "letter_control")]),
+    function("letter_control", 90, 34, 1, &[(10, "letter"), (99, "file_control")]),
     function("file_control", 99, 35, 0, &[]),
     function("not_called_for", 0, 0, 0, &[]),
 ];
@@ -106,6 +106,7 @@ pub struct Step<'f> {
     offset: u64,
     set: CharacterSet,
     body: Option<&'f [u8]>,
+    bytes_left: u64,
     before: Before<'f>,
     calls: Option<&'static Function>,
 }
@@ -140,6 +141,11 @@ impl<'f> Step<'f> {
     /// The record without its length; `None` where the bytes end here or the record is cut.
     pub fn body(&self) -> Option<&'f [u8]> {
         self.body
+    }
+
+    /// How many bytes of the file stand from this offset on.
+    pub fn bytes_left(&self) -> u64 {
+        self.bytes_left
     }
 
     /// The kind of the record, where its first two characters name one.
@@ -204,7 +210,8 @@ pub fn steps_to(file: &[u8], end: u64) -> Vec<Step<'_>> {
     let (mut offset, mut body) = (0, framed(file, 0));
     let mut function = called(AT_THE_START, kind_in(body));
     for record in 1.. {
-        let mut step = Step { function, record, offset, set, body, before, calls: None };
+        let bytes_left = (file.len() as u64).saturating_sub(offset);
+        let mut step = Step { function, record, offset, set, body, bytes_left, before, calls: None };
         match (kind_in(body), body) {
             (Some(kind), Some(bytes)) if offset < end && !function.is_for_the_rest() => {
                 before.go_on(record, kind, set, bytes);
