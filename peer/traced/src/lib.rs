@@ -60,11 +60,12 @@ fn note(function: &'static str, standing: Standing, offset: usize) {
 /// Reads a file slowly into a table: the twelve numbers of the answer, as `include/x9180.h` has them, and every function that was entered, in order.
 pub fn read_slowly(file: &[u8], table: &mut [u64]) -> ([u64; 12], Vec<Noted>) {
     NOTES.with(|notes| notes.borrow_mut().clear());
-    let answer = listed(sources::slow_reader::read_slowly(file, table));
+    let answer = listed(sources::slow_reader::read_slowly(file, table), file.len());
     (answer, NOTES.with(|notes| std::mem::take(&mut *notes.borrow_mut())))
 }
 
-fn listed(answer: Answer) -> [u64; 12] {
+/// Of an accepted file the record and the offset tell how many records and bytes were read.
+fn listed(answer: Answer, read: usize) -> [u64; 12] {
     match answer {
         Answer::Accepted(totals) => {
             let Sums { views, debit, credits, credit, .. } = totals.sums;
@@ -72,6 +73,7 @@ fn listed(answer: Answer) -> [u64; 12] {
             let numbers =
                 [totals.records.0, totals.letters, totals.bundles, items.0, views.0, debit.0, credits.0, credit.0];
             let mut listed = [0; 12];
+            (listed[1], listed[3]) = (totals.records.0, read as u64);
             listed[4..].copy_from_slice(&numbers);
             listed
         }
@@ -112,7 +114,7 @@ mod tests {
     fn a_sound_file() {
         let mut table = [7; 13 * 7];
         let (answer, notes) = read_slowly(&sample("sound-2-checks.x9"), &mut table);
-        assert_eq!(answer, [0, 0, 0, 0, 12, 1, 1, 2, 0, 350, 0, 0]);
+        assert_eq!(answer, [0, 12, 0, 1075, 12, 1, 1, 2, 0, 350, 0, 0]);
         assert_eq!(table[..4], [1, 0, 80, 0]);
         assert_eq!(table[12 * 7..], [7; 7]);
         // A function for each record, and the last one at the end of the bytes.
