@@ -117,7 +117,8 @@ fn found(step: &Step<'_>, next: Option<&Step<'_>>, answer: &Answer) -> Vec<Strin
 /// What stands where none of the records stands that were called for.
 fn left(step: &Step<'_>, answer: &Answer) -> String {
     match answer.as_ref().map_err(Refusal::number) {
-        Ok(_) => "the end of the bytes, behind the File Control Record",
+        // Without memory for the rows the way is the same.
+        Ok(_) | Err(Number::ROOM) => "the end of the bytes, behind the File Control Record",
         Err(Number::OPEN) => "the end of the bytes, and no File Control Record before it",
         Err(Number::CUT) => "bytes, but fewer than a length and the record that it frames",
         Err(Number::AFTER) => "bytes behind the File Control Record, where none may be",

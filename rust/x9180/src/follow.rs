@@ -6,7 +6,7 @@
 //! the lengths and types of the records before that place tell all the steps, and nothing is judged again here.
 //!
 //! The steps are no part of what is proved. They are tested: the slow reader's own sources, compiled without their contracts and with a note at each function, give the same functions at the same
-//! offsets with the same figures on every file of the comparison with the independent reader (`peer/traced`).
+//! offsets with the same figures on the files of the comparison with the independent reader (`peer/traced`, `peer/README.md`).
 //!
 //! ```
 //! # fn main() -> Result<(), Box<dyn std::error::Error>> {

@@ -1,10 +1,10 @@
 //! The steps of the slow reader, as they are shown, beside its own sources: the names, the clauses and what each function calls for as the text has them, and the functions, offsets and figures as that text
-//! runs, compiled without its contracts (`peer/traced`). The comparison with the independent reader does the same on every file of it.
+//! runs, compiled without its contracts (`peer/traced`). The comparison with the independent reader does the same on its files (`peer/README.md`).
 
 use std::collections::BTreeMap;
 
 use x9180::follow::{steps, FUNCTIONS};
-use x9180::{Number, Refusal};
+use x9180::Refusal;
 
 /// A function as the sources have it: its clause, the type that it enters, and what it calls for.
 type Found = (u64, u64, Vec<(u64, String)>);
@@ -70,9 +70,8 @@ fn compare(file: &[u8], name: &str) -> usize {
     let mut table = vec![0; answer.as_ref().map_or(0, |reading| reading.rows().len() * 7)];
     let (numbers, notes) = slow_traced::read_slowly(file, &mut table);
     let expected = match &answer {
-        Ok(_) => [0; 4],
-        Err(refusal) => [refusal.number(), Number(refusal.record()), Number(refusal.field()), Number(refusal.offset())]
-            .map(|number| number.0),
+        Ok(reading) => [0, reading.totals().records, 0, file.len() as u64],
+        Err(refusal) => [refusal.number().0, refusal.record(), refusal.field(), refusal.offset()],
     };
     assert_eq!(numbers[..4], expected, "{name}");
     let shown: Vec<_> = steps(file, &answer)
