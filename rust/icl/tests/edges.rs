@@ -119,8 +119,8 @@ fn the_manual_page() {
             .join(" "),
     );
     for command in [
-        "check", "rows", "tree", "picture", "pictures", "tags", "draft", "write", "book", "find", "show", "summary",
-        "diff",
+        "check", "rows", "tree", "picture", "pictures", "tags", "draft", "write", "book", "find", "show", "follow",
+        "summary", "diff",
     ] {
         assert!(plain.contains(&format!("\n.SS icl {command}\n")), "{command}");
         let (_, help, _) = run(&format!("{command} --help"));
