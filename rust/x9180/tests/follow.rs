@@ -19,7 +19,7 @@ fn in_sources() -> BTreeMap<String, Found> {
         let text = std::fs::read_to_string(entry.unwrap().path()).unwrap();
         let (mut clause, mut name) = (0, None);
         for line in text.lines() {
-            if let Some(words) = line.strip_prefix("// Clause ") {
+            if let Some((_, words)) = line.split_once("lause ").filter(|_| line.starts_with("// ") && clause == 0) {
                 clause = number(words);
             } else if let Some(head) = line.strip_prefix("fn ").and_then(|head| head.strip_suffix(HEAD)) {
                 found.insert(head.to_string(), (clause, 0, Vec::new()));
