@@ -1,4 +1,6 @@
 // The calls for C and Rust (include/x9180.h).
+mod salvaging;
+
 use book_model::Change;
 use book_model::Entering;
 use book_model::Finding;
@@ -7,6 +9,7 @@ use draft::Outcome;
 use passes::Answer;
 use passes::Fault;
 use passes::Totals;
+pub use salvaging::x9_salvage;
 use text::CharacterSet;
 ghost use mathlib.Core.Path.{_≡_};
 ghost use Rattle.text.specs.declared.character_set.CharacterSet.the-variants.{Ascii};

@@ -14,3 +14,4 @@ pub mod NoGaps
 pub mod MoreTaken
 pub mod Without
 pub mod Steps
+pub mod Refusals

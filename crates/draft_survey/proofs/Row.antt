@@ -119,17 +119,29 @@ module _ {file : List ℕ} {past : List Entry} {sheet : List ℕ} {s : Standing}
                 (sheet-moves o (v .type) (bodyOf v vs file past) fixed (allParts (v .parts)) body-begins long carried may);
           }
 
--- the same of a row, in the words of the code's contracts: what is found of it, whatever file the sheet stands for
+-- the same of a row, in the words of the code's contracts: what is found of it, whatever file the sheet stands for and whatever stands behind it
+abbrev pub FoundWith : CharacterSet → List ℕ → List ℕ → ℕ → List ℕ → Standing → Turn → List ℕ → Type 0
+FoundWith set text rows addenda sheet s turn after =
+    (file : List ℕ) (past : List Entry) (vs : List Values) → addenda ≡ addendaBehind (getD rows 0 0) vs → OnSheet file past sheet s
+    → JudgedRow (valuesOfRow set text rows) vs file past s turn after
+
 abbrev pub Found : CharacterSet → List ℕ → List ℕ → List ℕ → Standing → Turn → List ℕ → Type 0
 Found set text rows sheet s turn after =
     (file : List ℕ) (past : List Entry) (n : ℕ) → length rows / 10 ≡ n + 1 → OnSheet file past sheet s
     → JudgedRow (valuesOfRow set text rows) (valuesOfRows set text n (drop 10 rows)) file past s turn after
 
-pub row-place : (set : CharacterSet) (text rows sheet : List ℕ) (s : Standing) → follows s (getD rows 0 0) ≡ false → (after : List ℕ)
-    → Found set text rows sheet s (Faulty Place) after
+pub found-row : (set : CharacterSet) (text rows sheet : List ℕ) (s : Standing) (turn : Turn) (after : List ℕ) (addenda : ℕ)
+    → addenda ≡ addendaBehind (getD rows 0 0) (valuesOfRows set text (length rows / 10 - 1) (drop 10 rows))
+    → FoundWith set text rows addenda sheet s turn after → Found set text rows sheet s turn after
+found-row set text rows sheet s turn after addenda behind found file past n count o =
+    let fuel : length rows / 10 - 1 ≡ n = omega arith in
+    found file past (valuesOfRows set text n (drop 10 rows))
+    (behind ∙ ap (λ (m : ℕ). addendaBehind (getD rows 0 0) (valuesOfRows set text m (drop 10 rows))) fuel) o
+
+pub row-place : (set : CharacterSet) (text rows : List ℕ) (addenda : ℕ) (sheet : List ℕ) (s : Standing) → follows s (getD rows 0 0) ≡ false
+    → (after : List ℕ) → FoundWith set text rows addenda sheet s (Faulty Place) after
 unfolding valuesOfRow valuesAt
-row-place set text rows sheet s e after file past n count o =
-    place-judged o (valuesOfRow set text rows) (valuesOfRows set text n (drop 10 rows)) (shaped-row set text rows) e after
+row-place set text rows addenda sheet s e after file past vs behind o = place-judged o (valuesOfRow set text rows) vs (shaped-row set text rows) e after
 
 pub row-carried : (s : Standing) (t : ℕ) → follows s t ≡ true → isCarried t ≡ true
 row-carried s t may = follows-carried (s .inside) (s .last) (s .present) t may
@@ -140,7 +152,6 @@ row-room s t at may slot = omega (arith, low-slot t (row-carried s t may), carri
 -- its fixed part of a size is completed in its slot
 pub record Filled (set : CharacterSet) (text rows sheet : List ℕ) (s : Standing) (addenda at size : ℕ) (after : List ℕ) : Type 0 where
   pub may : follows s (getD rows 0 0) ≡ true
-  pub behind : addenda ≡ addendaBehind (getD rows 0 0) (valuesOfRows set text (length rows / 10 - 1) (drop 10 rows))
   pub slot : at ≡ slotOf (getD rows 0 0)
   pub room : length sheet ≡ 800
   pub stored : after ≡ sets sheet (at + 4) (fixedPart (valuesOfRow set text rows) addenda s (layoutOf (getD rows 0 0) .lines) (valuesOfRow set text rows .fields))
@@ -174,41 +185,39 @@ module _ {set : CharacterSet} {text rows sheet : List ℕ} {s : Standing} {adden
   pub row-long : length (take (at + 4 + size - (at + 4)) (drop (at + 4) after)) ≡ layoutOf (getD rows 0 0) .fixedLength
   row-long = ap length row-front ∙ long-as ∙ f .long
 
-  behind-as : (n : ℕ) → length rows / 10 ≡ n + 1 → addenda ≡ addendaBehind (valuesOfRow set text rows .type) (valuesOfRows set text n (drop 10 rows))
+  behind-as : (vs : List Values) → addenda ≡ addendaBehind (getD rows 0 0) vs → addenda ≡ addendaBehind (valuesOfRow set text rows .type) vs
   unfolding valuesOfRow valuesAt
-  behind-as n count =
-      let fuel : length rows / 10 - 1 ≡ n = omega arith in
-      f .behind ∙ ap (λ (m : ℕ). addendaBehind (getD rows 0 0) (valuesOfRows set text m (drop 10 rows))) fuel
+  behind-as vs behind = behind
 
   -- the lowest field at fault, of the fixed part as it stands on the sheet
   module _ (field : ℕ) (fault : field ≡ lower (firstUnfit (valuesOfRow set text rows) addenda (layoutOf (getD rows 0 0) .lines) (valuesOfRow set text rows .fields)) (firstWrong Ascii (layoutOf (getD rows 0 0) .lines) (take (at + 4 + size - (at + 4)) (drop (at + 4) after)))) where
-    fault-as : (n : ℕ) → length rows / 10 ≡ n + 1
-        → field ≡ faultOn (valuesOfRow set text rows) (addendaBehind (valuesOfRow set text rows .type) (valuesOfRows set text n (drop 10 rows))) s
+    fault-as : (vs : List Values) → addenda ≡ addendaBehind (getD rows 0 0) vs
+        → field ≡ faultOn (valuesOfRow set text rows) (addendaBehind (valuesOfRow set text rows .type) vs) s
     unfolding valuesOfRow valuesAt
-    fault-as n count =
+    fault-as vs behind =
         fault
         ∙ ap (λ (xs : List ℕ). lower (firstUnfit (valuesOfRow set text rows) addenda (layoutOf (getD rows 0 0) .lines) (valuesOfRow set text rows .fields)) (firstWrong Ascii (layoutOf (getD rows 0 0) .lines) xs)) row-front
-        ∙ ap (λ (k : ℕ). faultOn (valuesOfRow set text rows) k s) (behind-as n count)
+        ∙ ap (λ (k : ℕ). faultOn (valuesOfRow set text rows) k s) (behind-as vs behind)
 
-    pub row-field : (field ≡ 0 → ⊥) → Found set text rows sheet s (Faulty (Field field)) after
+    pub row-field : (field ≡ 0 → ⊥) → FoundWith set text rows addenda sheet s (Faulty (Field field)) after
     unfolding valuesOfRow valuesAt
-    row-field some file past n count o =
-        field-judged o (valuesOfRow set text rows) (valuesOfRows set text n (drop 10 rows)) (shaped-row set text rows) (f .may) field (fault-as n count)
+    row-field some file past vs behind o =
+        field-judged o (valuesOfRow set text rows) vs (shaped-row set text rows) (f .may) field (fault-as vs behind)
         some after
 
     module _ (fits : field ≡ 0) (other : ℕ) (unfit : other ≡ firstUnfitPart (sizedParts (layoutOf (getD rows 0 0))) (valuesOfRow set text rows .parts)) where
-      pub row-part : (other ≡ 0 → ⊥) → Found set text rows sheet s (Faulty (Field other)) after
+      pub row-part : (other ≡ 0 → ⊥) → FoundWith set text rows addenda sheet s (Faulty (Field other)) after
       unfolding valuesOfRow valuesAt
-      row-part some file past n count o =
-          part-judged o (valuesOfRow set text rows) (valuesOfRows set text n (drop 10 rows)) (shaped-row set text rows) (f .may)
-          (sym (fault-as n count) ∙ fits) other unfit some after
+      row-part some file past vs behind o =
+          part-judged o (valuesOfRow set text rows) vs (shaped-row set text rows) (f .may)
+          (sym (fault-as vs behind) ∙ fits) other unfit some after
 
-      pub row-agrees : other ≡ 0 → (turn : Turn) → turn ≡ agreement Ascii after s at (getD rows 0 0) → Found set text rows sheet s turn after
+      pub row-agrees : other ≡ 0 → (turn : Turn) → turn ≡ agreement Ascii after s at (getD rows 0 0) → FoundWith set text rows addenda sheet s turn after
       unfolding valuesOfRow valuesAt
-      row-agrees whole turn e file past n count o =
-          agreement-judged o (valuesOfRow set text rows) (valuesOfRows set text n (drop 10 rows)) (shaped-row set text rows) (f .may)
-          (sym (fault-as n count) ∙ fits) (sym unfit ∙ whole) after
+      row-agrees whole turn e file past vs behind o =
+          agreement-judged o (valuesOfRow set text rows) vs (shaped-row set text rows) (f .may)
+          (sym (fault-as vs behind) ∙ fits) (sym unfit ∙ whole) after
           (stored-as
           ∙ ap (λ (m : ℕ). sets sheet (m + 4) (fixedOn (valuesOfRow set text rows) addenda s)) (f .slot)
-          ∙ ap (λ (k : ℕ). sets sheet (slotOf (getD rows 0 0) + 4) (fixedOn (valuesOfRow set text rows) k s)) (behind-as n count)) turn
+          ∙ ap (λ (k : ℕ). sets sheet (slotOf (getD rows 0 0) + 4) (fixedOn (valuesOfRow set text rows) k s)) (behind-as vs behind)) turn
           (e ∙ ap (λ (m : ℕ). agreement Ascii after s m (getD rows 0 0)) (f .slot))

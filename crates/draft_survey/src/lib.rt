@@ -16,7 +16,8 @@ ghost use Rattle.standing.specs.History.{Entry};
 ghost use Rattle.standing.specs.Standing.{standing, Roomy};
 ghost use Rattle.order.specs.MayFollow.{isCarried};
 ghost use Rattle.draft.specs.Owned.{Owned};
-ghost use Rattle.draft.specs.Values.{layoutOf, valuesOfRow, valuesOfRows, setOfText, valuesOfDraft};
+ghost use Rattle.draft.specs.Values.{Values, layoutOf, valuesOfRow, valuesOfRows, setOfText, valuesOfDraft};
+ghost use Rattle.draft.specs.Completed.{addendaBehind};
 ghost use Rattle.draft.specs.Drafted.{offsetOf, rowsEnded, answerFrom};
 ghost use Rattle.draft_survey.specs.JudgedRow.{JudgedRow};
 ghost use Rattle.draft_survey.specs.CappedOutcome.{cappedOutcome};
@@ -42,24 +43,24 @@ pub fn set_of_text<'a>(text: &'a [u8], draft: &'a [u64]) -> CharacterSet
     CharacterSet::Ascii
 }
 
-// The checks of one row in its place: PLACE, FIELD, LINK, TOTAL. The record's fixed part then stands on the sheet. `own` are the numbers of its
-// layout.
-fn judge_row<'a>(
+// The checks of one record in its place, with so many addenda behind it: PLACE, FIELD, LINK, TOTAL. The record's fixed part then stands on the sheet.
+// `rows` begin with its row, `own` are the numbers of its layout.
+pub fn judge_counted<'a>(
     set: CharacterSet,
     own: &'a [u64],
     text: &'a [u8],
     rows: &'a [u64],
+    addenda: u64,
     s: Standing,
     sheet: &mut [u8],
 ) -> Turn
     requires { ⌜ (isCarried (getD (now rows) 0 0) ≡ true → Owned (layoutOf (getD (now rows) 0 0)) (now own)) × Roomy s × (10 ≤ length (now rows)) × (length (now sheet) ≡ 800) ⌝ }
-    ensures { λ r. ⌜ ((file : List ℕ) (past : List Entry) (n : ℕ) → length (now (rows .entry)) / 10 ≡ n + 1 → OnSheet file past (now (sheet .entry)) s → JudgedRow (valuesOfRow set (now (text .entry)) (now (rows .entry))) (valuesOfRows set (now (text .entry)) n (drop 10 (now (rows .entry)))) file past s r (now (sheet .exit))) ⌝ }
+    ensures { λ r. ⌜ ((file : List ℕ) (past : List Entry) (vs : List Values) → addenda ≡ addendaBehind (getD (now (rows .entry)) 0 0) vs → OnSheet file past (now (sheet .entry)) s → JudgedRow (valuesOfRow set (now (text .entry)) (now (rows .entry))) vs file past s r (now (sheet .exit))) ⌝ }
 {
     let kind = rows[0];
     if !order::may_follow(s.inside, s.last, s.present, kind) {
         return Turn::Faulty(Fault::Place);
     }
-    let addenda = draft_rows::addenda_behind(rows);
     let at = sheet::slot_of(kind);
     let body = at + 4;
     let fixed = completing::complete(set, own, text, rows, addenda, s, sheet, body);
@@ -75,8 +76,24 @@ fn judge_row<'a>(
     passes::agrees(CharacterSet::Ascii, sheet, s, at, kind)
 }
 
+// The same of a row, whose addenda are counted in the rows behind it.
+fn judge_row<'a>(
+    set: CharacterSet,
+    own: &'a [u64],
+    text: &'a [u8],
+    rows: &'a [u64],
+    s: Standing,
+    sheet: &mut [u8],
+) -> Turn
+    requires { ⌜ (isCarried (getD (now rows) 0 0) ≡ true → Owned (layoutOf (getD (now rows) 0 0)) (now own)) × Roomy s × (10 ≤ length (now rows)) × (length (now sheet) ≡ 800) ⌝ }
+    ensures { λ r. ⌜ ((file : List ℕ) (past : List Entry) (n : ℕ) → length (now (rows .entry)) / 10 ≡ n + 1 → OnSheet file past (now (sheet .entry)) s → JudgedRow (valuesOfRow set (now (text .entry)) (now (rows .entry))) (valuesOfRows set (now (text .entry)) n (drop 10 (now (rows .entry)))) file past s r (now (sheet .exit))) ⌝ }
+{
+    let addenda = draft_rows::addenda_behind(rows);
+    judge_counted(set, own, text, rows, addenda, s, sheet)
+}
+
 // Where the rows end.
-fn rows_ended(s: Standing, bytes: usize) -> Outcome
+pub fn rows_ended(s: Standing, bytes: usize) -> Outcome
     requires { ⌜ Roomy s ⌝ }
     ensures { λ r. ⌜ ((file : List ℕ) (past : List Entry) (sheet : List ℕ) → OnSheet file past sheet s → bytes ≡ offsetOf (length file) → r ≡ cappedOutcome (rowsEnded file past (standing Ascii file past))) ⌝ }
 {

@@ -57,6 +57,31 @@ flag-same true true = refl
 flag-same true false = refl
 flag-same false b = refl
 
+-- the 0s of a row behind its last size are not looked at
+sizes-enough : (set : CharacterSet) (text : List ℕ) (f : Sized → ℕ) (zs : List ℕ) (ss : List Sized) (at m : ℕ) → length ss ≤ m
+    → partsGiven set text at ss (take m (map f ss ++ zs)) ≡ partsGiven set text at ss (map f ss)
+sizes-enough set text f zs [] at m few = refl
+sizes-enough set text f zs (s ∷ ss) at zero few = absurd (not-suc-le-zero few)
+sizes-enough set text f zs (s ∷ ss) at (suc m) few =
+    ap (λ (ps : List Piece). piece set text (s .dataType) at (f s) ∷ ps) (sizes-enough set text f zs ss (at + f s) m (le-of-suc-le-suc few))
+
+-- a record's row gives the values of the record in a text that has its fields and its parts
+values-same : (set : CharacterSet) (text : List ℕ) (start : ℕ) (b : Body) (others : List ℕ)
+    → fieldsGiven set text start (layoutOf (typeOf set b) .lines) ≡ fieldsGiven set b 0 (layoutOf (typeOf set b) .lines)
+    → partsGiven set text (start + layoutOf (typeOf set b) .fixedLength) (sizedParts (layoutOf (typeOf set b)))
+    (map (λ (s : Sized). statedSize set s b) (sizedParts (layoutOf (typeOf set b))))
+    ≡ partsGiven set b (0 + layoutOf (typeOf set b) .fixedLength) (sizedParts (layoutOf (typeOf set b)))
+    (map (λ (s : Sized). statedSize set s b) (sizedParts (layoutOf (typeOf set b))))
+    → valuesOfRow set text (rowOf set b start ++ others) ≡ valuesOfBody set b
+unfolding valuesOfRow valuesOfBody valuesAt
+values-same set text start b others fields parts =
+    let t = typeOf set b in
+    let ss = sizedParts (layoutOf t) in
+    let sizes : take 7 (sizesIn set b ++ others) ≡ sizesIn set b = take-at (sizesIn set b) others 7 (seven set b ss) in
+    let blank = flag-same (eqb t 70) (every (isBlank set) (fieldOf bundleControl 4 b)) in
+    let enough = sizes-enough set text (λ s. statedSize set s b) (times 7 0) ss (start + layoutOf t .fixedLength) 7 (few-parts t) in
+    rw (sizes, blank, fields, enough, parts)
+
 -- a sound record where it stands in the file
 module _ (set : CharacterSet) {file : List ℕ} {at : ℕ} {b : Body} (h : HeldAt set file at b) (whole : at + 4 + length b ≤ length file) where
   piece-here : (t : DataType) (i size : ℕ) → i + size ≤ length b → piece set file t (at + 4 + i) size ≡ piece set b t (0 + i) size
@@ -71,32 +96,31 @@ module _ (set : CharacterSet) {file : List ℕ} {at : ℕ} {b : Body} (h : HeldA
       let own = piece-here (x .dataType) (x .first - 1) (x .size) (omega (arith, leb-true (x .first - 1 + x .size) fixed (tests .0))) in
       ap₂ (cond (isGiven (x .origin))) (ap₂ (λ (p : Piece) (ps : List Piece). p ∷ ps) own others) others
 
-  parts-here : (ss : List Sized) (k m : ℕ) (zs : List ℕ) → length ss ≤ m → k + statedSizes set ss b ≤ length b
-      → partsGiven set file (at + 4 + k) ss (take m (map (λ (s : Sized). statedSize set s b) ss ++ zs))
-      ≡ partsGiven set b (0 + k) ss (map (λ (s : Sized). statedSize set s b) ss)
+  parts-here : (ss : List Sized) (k : ℕ) → k + statedSizes set ss b ≤ length b
+      → partsGiven set file (at + 4 + k) ss (map (λ (s : Sized). statedSize set s b) ss) ≡ partsGiven set b (0 + k) ss (map (λ (s : Sized). statedSize set s b) ss)
   unfolding statedSizes
-  parts-here [] k m zs few l = refl
-  parts-here (s ∷ ss) k zero zs few l = absurd (not-suc-le-zero few)
-  parts-here (s ∷ ss) k (suc m) zs few l =
+  parts-here [] k l = refl
+  parts-here (s ∷ ss) k l =
       let size = statedSize set s b in
       let sizes = map (λ (x : Sized). statedSize set x b) ss in
       ap₂ (λ (p : Piece) (ps : List Piece). p ∷ ps) (piece-here (s .dataType) k size (omega arith))
-      (ap (λ (n : ℕ). partsGiven set file n ss (take m (sizes ++ zs))) (add-assoc (at + 4) k size)
-      ∙ parts-here ss (k + size) m zs (le-of-suc-le-suc few) (omega arith)
+      (ap (λ (n : ℕ). partsGiven set file n ss sizes) (add-assoc (at + 4) k size)
+      ∙ parts-here ss (k + size) (omega arith)
       ∙ ap (λ (n : ℕ). partsGiven set b n ss sizes) (sym (add-assoc 0 k size)))
 
   values-here : alone set (layoutOf (typeOf set b)) b ≡ Sound → (others : List ℕ) → valuesOfRow set file (rowOf set b (at + 4) ++ others) ≡ valuesOfBody set b
-  unfolding valuesOfRow valuesOfBody valuesAt
   values-here sound others =
       let t = typeOf set b in
       let k = layoutOf t in
-      let sizes : take 7 (sizesIn set b ++ others) ≡ sizesIn set b = take-at (sizesIn set b) others 7 (seven set b (sizedParts k)) in
       let fills : length b ≡ k .fixedLength + statedSizes set (sizedParts k) b =
       sound-fills set (k .fixedLength) (k .lines) (sizedParts k) b sound in
-      let blank = flag-same (eqb t 70) (every (isBlank set) (fieldOf bundleControl 4 b)) in
-      let fields = fields-here (k .lines) (k .fixedLength) (every-layout (λ x. within (x .fixedLength) (x .lines)) t refl) (omega (arith, fills)) in
-      let parts = parts-here (sizedParts k) (k .fixedLength) 7 (times 7 0) (few-parts t) (omega (arith, fills)) in
-      rw (sizes, blank, fields, parts)
+      values-same set file (at + 4) b others
+      (fields-here (k .lines) (k .fixedLength) (every-layout (λ x. within (x .fixedLength) (x .lines)) t refl) (omega (arith, fills)))
+      (parts-here (sizedParts k) (k .fixedLength) (omega (arith, fills)))
+
+-- whatever the record is: where it is itself the text
+pub values-itself : (set : CharacterSet) (b : Body) (others : List ℕ) → valuesOfRow set b (rowOf set b 0 ++ others) ≡ valuesOfBody set b
+values-itself set b others = values-same set b 0 b others refl refl
 
 -- the records from an offset on
 record Given (set : CharacterSet) (file numbers : List ℕ) (bodies : List Body) : Type 0 where

@@ -59,7 +59,7 @@ fn leaves_micr_blank(set: CharacterSet, kind: u64, body: &[u8]) -> bool
 }
 
 // A record's row, from `base` on; its body starts at `start` in the file.
-fn put_row<'a>(
+pub fn put_row<'a>(
     set: CharacterSet,
     layouts: &'a [u64],
     body: &'a [u8],

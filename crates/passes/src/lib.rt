@@ -139,7 +139,7 @@ pub fn agrees(set: CharacterSet, file: &[u8], s: Standing, at: usize, kind: u64)
 }
 
 // The checks of one record in its place, in document 01's order.
-fn judge_next<'a>(
+pub fn judge_next<'a>(
     set: CharacterSet,
     layouts: &'a [u64],
     file: &'a [u8],

@@ -1,17 +1,17 @@
 -- Each record walked is marked once, in order. Assumes nothing.
-use Prim.Native.Nat.{ℕ, zero, suc, _+_, _≤_}
+use Prim.Native.Nat.{ℕ, zero, suc, _≤_}
 use native.Mathlib.Omega.{arith}
 use mathlib.Core.Bool.{Bool, true, false, cond}
-use mathlib.Core.List.{List, [], _∷_, _++_, map, append-assoc, append-nil}
+use mathlib.Core.List.{List, [], _∷_, _++_, map, append-assoc}
 use mathlib.Core.Option.{Option, none, some}
-use mathlib.Core.Path.{_≡_, refl, sym, ap, ap₂, _∙_}
+use mathlib.Core.Path.{_≡_, refl, ap, ap₂, _∙_}
 use lib.Dec.{eqb}
 use lib.ListN.{length}
 use Rattle.text.specs.declared.character_set.CharacterSet.{CharacterSet}
 use Rattle.judge.specs.Alone.{typeOf}
 use Rattle.file_as_records.specs.Framed.{Body}
 use Rattle.salvage_model.specs.Runs.{leading, following, of, notOf, Group, run, loose, stretchThen, groupsFrom, groupsOf, soundAlone, runFault}
-use Rattle.salvage_model.specs.Kept.{Torn, Section, letter, ending, stray, letterThen, sectionsFrom, sectionsOf, isKept, Fate, kept, renewed, Marked, marked, outOfPlace, runFate, groupMarks, groupsMarks, controlMarks, sectionMarks, sectionsMarks}
+use Rattle.salvage_model.specs.Kept.{Torn, letter, ending, stray, letterThen, sectionsFrom, sectionsOf, isKept, Fate, Marked, marked, outOfPlace, runFate, groupMarks, groupsMarks, controlMarks, sectionMarks, sectionsMarks, marksOf}
 use Rattle.salvage_made.specs.ByMarks.{bodiesIn}
 use Rattle.salvage_made.proofs.Sections.{under}
 
@@ -144,6 +144,11 @@ module _ (set : CharacterSet) where
       by false true others = ap (λ (cs : List Body). b ∷ cs) (others bs (omega arith))
       by false false others = ap (λ (cs : List Body). b ∷ cs) (others bs (omega arith))
 
-  pub each-once : (bs : List Body) → bodiesIn (sectionsMarks set (sectionsOf set bs)) ≡ bs
+  sections-once : (bs : List Body) → bodiesIn (sectionsMarks set (sectionsOf set bs)) ≡ bs
   unfolding sectionsOf
-  each-once bs = sections-bodies (length bs) bs (omega arith)
+  sections-once bs = sections-bodies (length bs) bs (omega arith)
+
+  pub each-once : (bs : List Body) → bodiesIn (marksOf set bs) ≡ bs
+  unfolding marksOf
+  each-once [] = refl
+  each-once (b ∷ bs) = ap (λ (cs : List Body). b ∷ cs) (sections-once bs)

@@ -28,6 +28,10 @@ unfoldable pub byMarks : CharacterSet → Bool → List Marked → List Values
 byMarks set isOpen [] = closing set isOpen (controlValues set fileControl none ∷ [])
 byMarks set isOpen (m ∷ ms) = byFate set isOpen (m .fate) (m .body) (λ o. byMarks set o ms)
 
+-- the kinds that are made new
+abbrev pub isControl : ℕ → Bool
+isControl kind = eqb kind 90 || eqb kind 99
+
 -- whether any record is kept
 abbrev pub isKeptFate : Fate → Bool
 isKeptFate kept = true

@@ -17,7 +17,7 @@ use Rattle.passes.specs.Answers.{numberOf}
 use Rattle.file_as_records.specs.Framed.{Body}
 use Rattle.arrangement.specs.Sound.{indicator, N}
 use Rattle.salvage_model.specs.Runs.{leading, following, Group, run, loose, groupsOf, soundAlone, runFault}
-use Rattle.salvage_model.specs.Kept.{anyBundle, isThrough, sectionsOf, Fate, kept, renewed, dropped, Marked, marked, outOfPlace, runFate, sectionsMarks}
+use Rattle.salvage_model.specs.Kept.{anyBundle, isThrough, sectionsOf, Fate, kept, renewed, dropped, Marked, marked, outOfPlace, runFate, sectionsMarks, marksOf}
 use Rattle.salvage_model.specs.Salvaged.{statusOf, faultNumber}
 use Rattle.salvage_walk.specs.declared.Seen.{Seen}
 use Rattle.salvage_walk.specs.declared.Sort.the-variants.{UnderHeader}
@@ -121,6 +121,45 @@ left-outside set file at end bs s l = record {
   limit = l;
   marks = sym (tail-none set bs) ∙ ap (λ (gs : List Group). groupsMarked set [] false gs ++ tailMarked set false bs) (sym (groups-none set));
 }
+
+-- at the first record of a file: it is kept, and what stands behind it is under no header
+pub left-of-file : (set : CharacterSet) (file : List ℕ) (next end : ℕ) (b : Body) (bs : List Body) → next ≡ 4 + length b → Spans file 0 (b ∷ bs) end
+    → end ≤ 268_435_456
+    → Left set file end (record { at = 0; group = next; stop = next; heading = 0; sound = false; kept = false; status = 0; number = 0 }) (marksOf set (b ∷ bs))
+unfolding marksOf soundAlone typeOf
+left-of-file set file next end b bs e s l = record {
+  fate = kept;
+  header = [];
+  own = b ∷ [];
+  under = [];
+  rest = bs;
+  ownSpans = (s .0, sym e);
+  underSpans = refl;
+  restSpans = subst (λ (m : ℕ). Spans file m bs end) (sym e) (s .1);
+  status = refl;
+  number = refl;
+  sound = refl;
+  stands = λ e. let z : _≡_ {A = ℕ} 0 1 = cc in absurd (omega arith);
+  limit = l;
+  marks =
+      ap (λ (ms : List Marked). marked kept b ∷ ms)
+      (sym (tail-none set bs) ∙ ap (λ (gs : List Group). groupsMarked set [] false gs ++ tailMarked set false bs) (sym (groups-none set)));
+}
+
+-- where the marking stands at the end, nothing is left
+pub left-none : (set : CharacterSet) (file : List ℕ) (end : ℕ) (p : Plan) (ms : List Marked) → Left set file end p ms → end ≤ p .at → ms ≡ []
+left-none set file end p ms v h =
+    let in-own = spans-within file (v .own) (p .at) (p .group) (v .ownSpans) in
+    let in-under = spans-within file (v .under) (p .group) (p .stop) (v .underSpans) in
+    let in-rest = spans-within file (v .rest) (p .stop) end (v .restSpans) in
+    let none-own : v .own ≡ [] = none-left file (p .at) (v .own) (p .group) (v .ownSpans) (omega (arith, in-under, in-rest)) .0 in
+    let none-under : v .under ≡ [] = none-left file (p .group) (v .under) (p .stop) (v .underSpans) (omega (arith, in-own, in-rest)) .0 in
+    let none-rest : v .rest ≡ [] = none-left file (p .stop) (v .rest) end (v .restSpans) (omega (arith, in-own, in-under)) .0 in
+    v .marks
+    ∙ ap (λ (bs : List Body). map (marked (v .fate)) bs ++ (groupsMarked set (v .header) (p .kept) (groupsOf set (v .under)) ++ tailMarked set (p .kept) (v .rest))) none-own
+    ∙ ap (λ (bs : List Body). groupsMarked set (v .header) (p .kept) (groupsOf set bs) ++ tailMarked set (p .kept) (v .rest)) none-under
+    ∙ ap (λ (gs : List Group). groupsMarked set (v .header) (p .kept) gs ++ tailMarked set (p .kept) (v .rest)) (groups-none set)
+    ∙ ap (tailMarked set (p .kept)) none-rest
 
 module _ (set : CharacterSet) (file : List ℕ) (end : ℕ) (p : Plan) (seen : Seen) (told : (b : Body) → Stands file (p .at) b → SeenAs set (p .at) b seen) where
   -- in a group

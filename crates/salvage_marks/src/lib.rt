@@ -4,7 +4,7 @@ use salvage_walk::Seen;
 use salvage_walk::Sort;
 use text::CharacterSet;
 ghost use mathlib.Core.Bool.{true, false, _||_, cond};
-ghost use mathlib.Core.List.{List};
+ghost use mathlib.Core.List.{List, _∷_};
 ghost use mathlib.Core.Path.{_≡_};
 ghost use Prim.Native.Nat.{ℕ, _≤_, _<_};
 ghost use lib.Dec.{eqb};
@@ -13,7 +13,7 @@ ghost use Rattle.layout.specs.Packing.{Packed};
 ghost use Rattle.file_as_records.specs.Framed.{Body};
 ghost use Rattle.arrangement.specs.Sound.{indicator, N};
 ghost use Rattle.salvage_model.specs.Runs.{groupsOf};
-ghost use Rattle.salvage_model.specs.Kept.{Marked, anyBundle, sectionsOf, sectionsMarks};
+ghost use Rattle.salvage_model.specs.Kept.{Marked, anyBundle, sectionsOf, sectionsMarks, marksOf};
 ghost use Rattle.salvage_walk.specs.Spans.{Stands, Spans, SeenAs};
 ghost use Rattle.salvage_runs.specs.RunAt.{RunAt};
 ghost use Rattle.salvage_marks.specs.Left.{Left, Planned, NextMark, GroupNumber};
@@ -54,6 +54,23 @@ pub fn plan_at(at: usize) -> Plan
         kept: false,
         status: 2,
         number: 6,
+    }
+}
+
+// At the first record of a file, which is kept.
+pub fn plan_of_file(set: CharacterSet, file: &[u8], end: usize) -> Plan
+    ensures { λ r. ⌜ ((b : Body) (bs : List Body) → Spans (now (file .entry)) 0 (b ∷ bs) end → end ≤ 268_435_456 → Left set (now (file .entry)) end r (marksOf set (b ∷ bs))) × (r .at ≡ 0) ⌝ }
+{
+    let next = salvage_walk::seen_at(set, file, 0, end).next;
+    Plan {
+        at: 0,
+        group: next,
+        stop: next,
+        heading: 0,
+        sound: false,
+        kept: false,
+        status: 0,
+        number: 0,
     }
 }
 

@@ -1,6 +1,5 @@
 // The runs of a torn file: what lies under a cash letter header, and the first fault of a run under it.
 use judge::Judged;
-use passes::Fault;
 use passes::Turn;
 use salvage_walk::Sort;
 use standing::Standing;
@@ -11,8 +10,7 @@ ghost use mathlib.Core.Path.{_≡_};
 ghost use Prim.Native.Nat.{ℕ, _<_};
 ghost use lib.ListN.{getD};
 ghost use Rattle.layout.specs.Packing.{Packed};
-ghost use Rattle.standing.specs.Standing.{standing, onward, cappedFigures, Roomy};
-ghost use Rattle.passes.specs.CheckOrder.{turnOf};
+ghost use Rattle.standing.specs.Standing.{standing, onward, cappedFigures};
 ghost use Rattle.file_as_records.specs.Framed.{Body};
 ghost use Rattle.arrangement.specs.Sound.{indicator};
 ghost use Rattle.salvage_model.specs.Runs.{groupsOf, soundAlone, runFault};
@@ -48,36 +46,6 @@ pub fn is_sound_alone<'a>(set: CharacterSet, layouts: &'a [u64], kind: u64, body
     }
 }
 
-// The checks of one record in its place, in document 01's order: the reader's own.
-fn judge_next<'a>(
-    set: CharacterSet,
-    layouts: &'a [u64],
-    file: &'a [u8],
-    s: Standing,
-    at: usize,
-    body: &'a [u8],
-) -> Turn
-    requires { ⌜ Packed (now layouts) × Roomy s ⌝ }
-    ensures { λ r. ⌜ r ≡ turnOf set (now (file .entry)) s at (now (body .entry)) ⌝ }
-{
-    if body.len() < 2 {
-        return Turn::Faulty(Fault::Length);
-    }
-    let kind = judge::type_of(set, body);
-    if !order::is_carried(kind) {
-        return Turn::Faulty(Fault::UnknownType);
-    }
-    if !order::may_follow(s.inside, s.last, s.present, kind) {
-        return Turn::Faulty(Fault::Place);
-    }
-    match judge::judge_as(set, layouts, kind, body) {
-        Judged::Sound => passes::agrees(set, file, s, at, kind),
-        Judged::WrongLength => Turn::Faulty(Fault::Length),
-        Judged::UnknownType => Turn::Faulty(Fault::UnknownType),
-        Judged::WrongField(n) => Turn::Faulty(Fault::Field(n)),
-    }
-}
-
 // The figures behind a 01 and a cash letter header and nothing else. Whatever has not come yet stands at the header.
 fn behind_header(set: CharacterSet, file: &[u8], heading: usize) -> Standing
     ensures { λ r. ⌜ r ≡ placedAt (cappedFigures (onward set (now (file .entry)) (cappedFigures (onward set (now (file .entry)) (cappedFigures (standing set (now (file .entry)) [])) 1 heading)) 10 heading)) heading ⌝ }
@@ -109,7 +77,7 @@ pub fn run_fault<'a>(
         let start = seen.start;
         let size = seen.size;
         let body = frame::part_of(file, start, size);
-        match judge_next(set, layouts, file, s, at, body) {
+        match passes::judge_next(set, layouts, file, s, at, body) {
             Turn::Faulty(fault) => {
                 return fault.number();
             }

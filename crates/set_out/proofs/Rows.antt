@@ -1,12 +1,12 @@
 -- Rows set out one after the other: those that are left come to the same behind the longer file. Assumes nothing.
 use Prim.Native.Nat.{ℕ, zero, suc, _+_, _-_, _/_, _≤_, _<_}
 use native.Mathlib.Omega.{arith}
-use mathlib.Core.Bool.{Bool, true, false, _&&_, and-eq-true-iff}
-use lib.Dec.{leb}
+use mathlib.Core.Bool.{Bool, true, false, _&&_, and-eq-true-iff, cond}
+use lib.Dec.{leb, eqb}
 use borrow.Author.Tests.{leb-true, leb-false}
 use borrow.Rule.Slice.PartAt.{part-to-end}
 use mathlib.Core.List.{List, [], _∷_, _++_, append-assoc, append-nil}
-use mathlib.Core.Path.{_≡_, refl, ap, sym, _∙_}
+use mathlib.Core.Path.{_≡_, refl, ap, sym, _∙_, subst}
 use lib.ListN.{length, getD, take, drop, length-append, length-take, length-drop, drop-of-length-le}
 use lib.Seq.{sets, length-sets, drop-drop, take-append-add, take-append-seam, drop-append-add, drop-append-seam}
 use Rattle.text.specs.declared.character_set.CharacterSet.{CharacterSet}
@@ -24,23 +24,24 @@ use Rattle.passes.specs.declared.Fault.the-variants.{Place}
 use Rattle.passes.specs.declared.Totals.{Totals}
 use Rattle.passes.specs.declared.Turn.{Turn}
 use Rattle.passes.specs.declared.Turn.the-variants.{Faulty, Good}
+use Rattle.passes.specs.Reading.{totalsOf}
 use Rattle.file_as_records.specs.Framed.{framed}
 use Rattle.alike.proofs.Figures.{placed}
-use Rattle.draft.specs.declared.Outcome.the-variants.{Written}
+use Rattle.draft.specs.declared.Outcome.the-variants.{Written, Refused}
 use Rattle.draft.specs.Owned.{Owned}
 use Rattle.draft.specs.Values.{Values, layoutOf, valuesAt, valuesOfRow, valuesOfRows}
 use Rattle.draft.specs.Completed.{addendaBehind, fixedPart, allParts, allSizes, completed}
-use Rattle.draft.specs.Drafted.{bodyOf, fileWith, pastWith, completedFrom, made, turnOfRow, afterTurn, answerFrom}
-use Rattle.draft.proofs.Shapes.{AllShaped, shaped-row, fixed-long, completed-long}
+use Rattle.draft.specs.Drafted.{bodyOf, fileWith, pastWith, completedFrom, made, turnOfRow, afterTurn, offsetOf, rowsEnded, answerFrom}
+use Rattle.draft.proofs.Shapes.{shaped-row, fixed-long, completed-long}
 use Rattle.draft.proofs.Own.{carried-owned, carried-wide}
 use Rattle.made_is_read.proofs.Record.{follows-carried}
-use Rattle.made_is_read.proofs.Whole.{appended, written-fits}
+use Rattle.made_is_read.proofs.Whole.{appended}
 use Rattle.sheet.specs.Sheet.{slotOf, OnSheet}
 use Rattle.sheet.proofs.Parts.{part-stored, record-long}
 use Rattle.sheet.proofs.Slots.{low-slot}
 use Rattle.sheet.proofs.Laws.{sheet-starts, sheet-follows, sheet-fixed, sheet-moves}
 use Rattle.set_out.specs.declared.Progress.{Progress}
-use Rattle.set_out.specs.SetOut.{valuesIn, Fits, Ready, Onward, RowsSetOut}
+use Rattle.set_out.specs.SetOut.{valuesIn, Fits, Ready, Onward, RowsSetOut, ReadyOne}
 
 -- the values of rows, one by one
 module _ (set : CharacterSet) (text : List ℕ) where
@@ -58,11 +59,6 @@ module _ (set : CharacterSet) (text : List ℕ) where
   unfolding valuesOfRows
   as-many zero rows = refl
   as-many (suc n) rows = ap suc (as-many n (drop 10 rows))
-
-  pub all-shaped : (n : ℕ) (rows : List ℕ) → AllShaped (valuesOfRows set text n rows)
-  unfolding valuesOfRows
-  all-shaped zero rows = tt
-  all-shaped (suc n) rows = (shaped-row set text rows, all-shaped n (drop 10 rows))
 
 -- figures for which a sheet stands: they leave room for one record more, and their cents have stopped
 module _ {file : List ℕ} {past : List Entry} {sheet : List ℕ} {s : Standing} (stands : OnSheet file past sheet s) where
@@ -119,19 +115,35 @@ module _ (v : Values) (vs : List Values) (file : List ℕ) (past : List Entry) {
   pub good-others : answerFrom vs (fileWith v vs file past) (pastWith v vs file past) ≡ answerFrom (v ∷ vs) file past
   good-others = turned .others ∙ sym w
 
--- the record of the first row
-module _ (set : CharacterSet) (text rows out : List ℕ) (ten : 10 ≤ length rows) {sheet : List ℕ} {s : Standing} (b : Ready (valuesIn set text rows) sheet s (length out)) where
+-- what can be made out comes to as many bytes as the answer says
+written-long : (vs : List Values) (file : List ℕ) (past : List Entry) {n : ℕ} {t : Totals} → answerFrom vs file past ≡ Written n t
+    → length (completedFrom vs file past) ≡ n
+unfolding completedFrom answerFrom rowsEnded
+written-long [] file past {n} {t} e = by (eqb (standing Ascii file past .last) 99) e
+  where
+    by : (b : Bool) → cond b (Written (length file) (totalsOf (standing Ascii file past))) (Refused Place (length past + 1) (offsetOf (length file))) ≡ Written n t
+        → length file ≡ n
+    by true q = cc
+    by false q = cc
+written-long (v ∷ vs) file past e = written-long vs (fileWith v vs file past) (pastWith v vs file past) (turned v vs file past e .others)
+
+-- the record of the first row, with others behind it
+module _ (set : CharacterSet) (text rows out : List ℕ) {addenda : ℕ} {sheet : List ℕ} {s : Standing}
+    (one : ReadyOne (valuesOfRow set text rows) addenda sheet s (length out)) where
   abbrev v : Values
   v = valuesOfRow set text rows
 
   abbrev vs : List Values
-  vs = valuesIn set text (drop 10 rows)
+  vs = one .others
+
+  abbrev b : Ready (v ∷ vs) sheet s (length out)
+  b = one .ready
 
   abbrev t : ℕ
   t = getD rows 0 0
 
   good : answerFrom (v ∷ vs) (b .file) (b .past) ≡ Written (b .fits .size) (b .fits .totals)
-  good = ap (λ (us : List Values). answerFrom us (b .file) (b .past)) (sym (rows-one set text rows ten)) ∙ b .fits .written
+  good = b .fits .written
 
   follows : mayFollow (s .inside) (s .last) (s .present) t ≡ true
   unfolding valuesOfRow valuesAt
@@ -164,12 +176,10 @@ module _ (set : CharacterSet) (text rows out : List ℕ) (ten : 10 ≤ length ro
   unfolding completedFrom longer body
   row-room =
       let more = appended vs longer (pastWith v vs (b .file) (b .past)) in
-      let sized = written-fits (v ∷ vs) (b .file) (b .past) (shaped-row set text rows, all-shaped set text (length (drop 10 rows) / 10) (drop 10 rows)) good .1 in
-      omega (arith, sized, ap length (more .is), length-append longer (more .rest), record-long (b .file) body, body-long, b .fits .within)
+      omega (arith, written-long (v ∷ vs) (b .file) (b .past) good, ap length (more .is), length-append longer (more .rest), record-long (b .file) body, body-long, b .fits .within)
 
   -- it is completed on the sheet
-  module _ {addenda : ℕ} (counted : addenda ≡ addendaBehind t (valuesOfRows set text (length rows / 10 - 1) (drop 10 rows)))
-      {at : ℕ} (slot : at ≡ slotOf t) {n : ℕ} (sized : n ≡ layoutOf t .fixedLength) {sheet′ : List ℕ}
+  module _ {at : ℕ} (slot : at ≡ slotOf t) {n : ℕ} (sized : n ≡ layoutOf t .fixedLength) {sheet′ : List ℕ}
       (stored : sheet′ ≡ sets sheet (at + 4) (fixedPart v addenda s (layoutOf t .lines) (v .fields))) where
     abbrev fixed : List ℕ
     fixed = fixedPart v addenda s (layoutOf t .lines) (v .fields)
@@ -193,32 +203,75 @@ module _ (set : CharacterSet) (text rows out : List ℕ) (ten : 10 ≤ length ro
     body-is : body ≡ fixed ++ allParts (v .parts)
     unfolding valuesOfRow valuesAt completed body
     body-is =
-        let count : length (drop 10 rows) / 10 ≡ length rows / 10 - 1 = omega (arith, length-drop 10 rows) in
-        rw (count, sym counted) (ap (λ (f : List ℕ). f ++ allParts (v .parts)) (sym (sheet-fixed (b .stands) v addenda (layoutOf t .lines) (v .fields))))
+        rw (sym (one .behind)) (ap (λ (f : List ℕ). f ++ allParts (v .parts)) (sym (sheet-fixed (b .stands) v addenda (layoutOf t .lines) (v .fields))))
 
     -- and written
     pub row-onward : {bytes : ℕ} → bytes ≡ 4 + (length (part (at + 4) (at + 4 + n - (at + 4)) sheet′) + allSizes (v .parts)) → {out′ : List ℕ}
         → out′ ≡ framed ((part (at + 4) (at + 4 + n - (at + 4)) sheet′ ++ allParts (v .parts)) ∷ []) ++ drop bytes out
         → {s′ : Standing} → s′ ≡ cappedFigures (onward Ascii sheet′ s t at)
-        → Onward (valuesIn set text rows) (b .file) (b .past) out vs sheet′ s′ bytes out′
+        → Onward (v ∷ vs) (b .file) (b .past) out vs sheet′ s′ bytes out′
     unfolding valuesOfRow valuesAt completedFrom longer body
     row-onward {bytes} counts {out′} written {s′} moved =
-        let all = rows-one set text rows ten in
         let same : part (at + 4) (at + 4 + n - (at + 4)) sheet′ ++ allParts (v .parts) ≡ body =
         ap (λ (g : List ℕ). g ++ allParts (v .parts)) row-stored ∙ sym body-is in
         record {
           longer = longer;
           newer = pastWith v vs (b .file) (b .past);
           stands = rw (moved, stored, slot) (sheet-moves (b .stands) t body fixed (allParts (v .parts)) body-is fixed-sized carried follows);
-          many = omega (arith, ap length all);
-          answer = good-others v vs (b .file) (b .past) good ∙ ap (λ (us : List Values). answerFrom us (b .file) (b .past)) (sym all);
-          whole = ap (λ (us : List Values). completedFrom us (b .file) (b .past)) (sym all);
+          many = omega arith;
+          answer = good-others v vs (b .file) (b .past) good;
+          whole = refl;
           long = omega (arith, record-long (b .file) body, body-long, stored-room .0);
           within = omega (arith, stored-room .1);
           is =
               ap (λ (o : List ℕ). b .file ++ o) (written ∙ ap (λ (g : List ℕ). framed (g ∷ []) ++ drop bytes out) same)
               ∙ sym (append-assoc (b .file) (framed (body ∷ [])) (drop bytes out));
         }
+
+-- the same values, said otherwise
+abbrev pub same-ready : {us vs : List Values} {sheet : List ℕ} {s : Standing} {room : ℕ} → us ≡ vs → Ready us sheet s room → Ready vs sheet s room
+same-ready e b =
+    record {
+      file = b .file;
+      past = b .past;
+      stands = b .stands;
+      few = omega (arith, b .few, ap length e);
+      fits =
+          record {
+            size = b .fits .size;
+            totals = b .fits .totals;
+            written = ap (λ (us : List Values). answerFrom us (b .file) (b .past)) (sym e) ∙ b .fits .written;
+            within = b .fits .within;
+          };
+    }
+
+-- the first of several rows, with those behind it
+module _ (set : CharacterSet) (text rows out : List ℕ) (ten : 10 ≤ length rows) {sheet : List ℕ} {s : Standing} (b : Ready (valuesIn set text rows) sheet s (length out)) where
+  abbrev behind : List Values
+  behind = valuesIn set text (drop 10 rows)
+
+  pub row-ready : {addenda : ℕ} → addenda ≡ addendaBehind (getD rows 0 0) (valuesOfRows set text (length rows / 10 - 1) (drop 10 rows))
+      → ReadyOne (valuesOfRow set text rows) addenda sheet s (length out)
+  unfolding valuesOfRow valuesAt
+  row-ready counted =
+      let fuel : length rows / 10 - 1 ≡ length (drop 10 rows) / 10 = omega (arith, length-drop 10 rows) in
+      record {
+        others = behind;
+        behind = counted ∙ ap (λ (n : ℕ). addendaBehind (getD rows 0 0) (valuesOfRows set text n (drop 10 rows))) fuel;
+        ready = same-ready (rows-one set text rows ten) b;
+      }
+
+  pub row-set-out : {addenda : ℕ} → addenda ≡ addendaBehind (getD rows 0 0) (valuesOfRows set text (length rows / 10 - 1) (drop 10 rows))
+      → {r : Progress} {sheet′ out′ : List ℕ} → r .numbers ≡ 10
+      → ((one : ReadyOne (valuesOfRow set text rows) addenda sheet s (length out))
+      → Onward (valuesOfRow set text rows ∷ one .others) (one .ready .file) (one .ready .past) out (one .others) sheet′ (r .standing) (r .bytes) out′)
+      → Onward (valuesIn set text rows) (b .file) (b .past) out (valuesIn set text (drop (r .numbers) rows)) sheet′ (r .standing) (r .bytes) out′
+  unfolding row-ready
+  row-set-out counted {r} {sheet′} {out′} ten′ done =
+      subst (λ (us : List Values). Onward us (b .file) (b .past) out (valuesIn set text (drop (r .numbers) rows)) sheet′ (r .standing) (r .bytes) out′)
+      (sym (rows-one set text rows ten))
+      (subst (λ (n : ℕ). Onward (valuesOfRow set text rows ∷ behind) (b .file) (b .past) out (valuesIn set text (drop n rows)) sheet′ (r .standing) (r .bytes) out′) (sym ten′)
+      (done (row-ready counted)))
 
 -- nothing yet
 pub onward-none : {vs : List Values} {file : List ℕ} {past : List Entry} (out : List ℕ) {sheet : List ℕ} {s : Standing} → OnSheet file past sheet s
@@ -298,23 +351,37 @@ onward-all vs out {bytes = bytes} o none =
     let long : bytes ≡ length (o .longer) = omega (arith, o .long) in
     o .is ∙ ap (λ (n : ℕ). o .longer ++ drop n out) long ∙ ap (λ (f : List ℕ). f ++ drop (length f) out) whole
 
--- more rows of a draft, from a place of it on, in the rest of the buffer
+-- some more of them, in the rest of the buffer as the code takes it
+module _ (out : List ℕ) {bytes : ℕ} {vs : List Values} {file : List ℕ} {past : List Entry} {out₀ : List ℕ} {left : List Values} {sheet : List ℕ} {s : Standing}
+    (o : Onward vs file past out₀ left sheet s bytes out) (few : length past + length vs ≤ 0x2000_0000_0000_0000) (fits : Fits vs file past (length out₀)) where
+  abbrev pub restOf : List ℕ
+  restOf = take (length out - bytes) (drop bytes out)
+
+  pub rest-ready : Ready left sheet s (length restOf)
+  rest-ready = rw (part-to-end out bytes) (ready-on o few fits)
+
+  pub rest-on : {left′ : List Values} {sheet′ : List ℕ} {s′ : Standing} {bytes′ : ℕ} {rest : List ℕ}
+      → ((b : Ready left sheet s (length restOf)) → Onward left (b .file) (b .past) restOf left′ sheet′ s′ bytes′ rest)
+      → Onward vs file past out₀ left′ sheet′ s′ (bytes + bytes′) (take bytes out ++ (rest ++ drop (length out - bytes) (drop bytes out)))
+  unfolding ready-on
+  rest-on {rest = rest} done =
+      let more = (rw (part-to-end out bytes) at done) (ready-on o few fits) in
+      let none : drop (length out - bytes) (drop bytes out) ≡ [] = drop-of-length-le (drop bytes out) {i = length out - bytes} (omega (arith, length-drop bytes out)) in
+      onward-more o more (ap (λ (x : List ℕ). take bytes out ++ (rest ++ x)) none ∙ ap (λ (x : List ℕ). take bytes out ++ x) (append-nil rest))
+
+-- more rows of a draft, from a place of it on
 module _ (set : CharacterSet) (text rows out : List ℕ) (at : ℕ) {bytes : ℕ} {vs : List Values} {file : List ℕ} {past : List Entry} {out₀ sheet : List ℕ} {s : Standing}
     (o : Onward vs file past out₀ (valuesIn set text (drop at rows)) sheet s bytes out)
     (few : length past + length vs ≤ 0x2000_0000_0000_0000) (fits : Fits vs file past (length out₀)) where
   pub rows-ready : Ready (valuesIn set text (take (length rows - at) (drop at rows))) sheet s (length (take (length out - bytes) (drop bytes out)))
-  rows-ready = rw (part-to-end rows at, part-to-end out bytes) (ready-on o few fits)
+  rows-ready = rw (part-to-end rows at) (rest-ready out o few fits)
 
   pub rows-on : {r : Progress} {sheet′ rest : List ℕ}
       → RowsSetOut set text (take (length rows - at) (drop at rows)) sheet (take (length out - bytes) (drop bytes out)) s r sheet′ rest
       → Onward vs file past out₀ (valuesIn set text (drop (at + r .numbers) rows)) sheet′ (r .standing) (bytes + r .bytes)
       (take bytes out ++ (rest ++ drop (length out - bytes) (drop bytes out)))
-  unfolding ready-on
-  rows-on {r} {sheet′} {rest} done =
-      let more = (rw (part-to-end rows at, part-to-end out bytes) at done) .onward (ready-on o few fits) in
-      let none : drop (length out - bytes) (drop bytes out) ≡ [] = drop-of-length-le (drop bytes out) {i = length out - bytes} (omega (arith, length-drop bytes out)) in
-      rw (sym (drop-drop (r .numbers) at rows))
-      (onward-more o more (ap (λ (x : List ℕ). take bytes out ++ (rest ++ x)) none ∙ ap (λ (x : List ℕ). take bytes out ++ x) (append-nil rest)))
+  rows-on {r} done =
+      rw (sym (drop-drop (r .numbers) at rows)) (rest-on out o few fits ((rw (part-to-end rows at) at done) .onward))
 
 -- the rows of a bundle so far, of which the first is always set out
 pub record Bundle (set : CharacterSet) (text rows sheet₀ out₀ : List ℕ) (s₀ : Standing) (sheet out : List ℕ) (s : Standing) (bytes at : ℕ) (goes : Bool) : Type 0 where

@@ -1,6 +1,6 @@
 -- How far a draft has been set out. Nothing of this has to be believed.
 use Prim.Native.Nat.{ℕ, _+_, _/_, _≤_}
-use mathlib.Core.List.{List, _++_}
+use mathlib.Core.List.{List, _∷_, _++_}
 use mathlib.Core.Path.{_≡_}
 use lib.ListN.{length, drop}
 use Rattle.text.specs.declared.character_set.CharacterSet.{CharacterSet}
@@ -9,6 +9,7 @@ use Rattle.standing.specs.declared.Standing.{Standing}
 use Rattle.passes.specs.declared.Totals.{Totals}
 use Rattle.draft.specs.declared.Outcome.the-variants.{Written}
 use Rattle.draft.specs.Values.{Values, valuesOfRows}
+use Rattle.draft.specs.Completed.{addendaBehind}
 use Rattle.draft.specs.Drafted.{completedFrom, answerFrom}
 use Rattle.sheet.specs.Sheet.{OnSheet}
 use Rattle.set_out.specs.declared.Progress.{Progress}
@@ -50,3 +51,9 @@ pub record RowsSetOut (set : CharacterSet) (text rows sheet out : List ℕ) (s :
   pub within : r .numbers ≤ length rows
   pub onward : (b : Ready (valuesIn set text rows) sheet s (length out))
       → Onward (valuesIn set text rows) (b .file) (b .past) out (valuesIn set text (drop (r .numbers) rows)) sheet′ (r .standing) (r .bytes) out′
+
+-- the same of one record with so many addenda behind it, and of others
+pub record ReadyOne (v : Values) (addenda : ℕ) (sheet : List ℕ) (s : Standing) (room : ℕ) : Type 0 where
+  pub others : List Values
+  pub behind : addenda ≡ addendaBehind (v .type) others
+  pub ready : Ready (v ∷ others) sheet s room

@@ -2,9 +2,9 @@
 // the buffer to the writer of a bundle, and that one the rest to the writer of a record.
 use standing::Standing;
 use text::CharacterSet;
-ghost use mathlib.Core.List.{List, [], _∷_, _++_};
+ghost use mathlib.Core.List.{[], _∷_, _++_};
 ghost use mathlib.Core.Path.{_≡_};
-ghost use Prim.Native.Nat.{ℕ, _+_, _≤_};
+ghost use Prim.Native.Nat.{_+_, _≤_};
 ghost use lib.ListN.{length, getD, drop};
 ghost use lib.Seq.{sets};
 ghost use Rattle.layout.specs.Packing.{Packed};
@@ -13,7 +13,7 @@ ghost use Rattle.draft.specs.Owned.{Owned};
 ghost use Rattle.draft.specs.Values.{layoutOf, valuesOfRow};
 ghost use Rattle.draft.specs.Completed.{allParts, allSizes};
 ghost use Rattle.draft.specs.Drafted.{made};
-ghost use Rattle.set_out.specs.SetOut.{valuesIn, Fits, Ready, RowsSetOut};
+ghost use Rattle.set_out.specs.SetOut.{valuesIn, Fits, Ready, Onward, RowsSetOut, ReadyOne};
 
 // How far the setting out has come: numbers of the draft, bytes of the buffer, and what then stands before the next record.
 pub struct Progress {
@@ -72,7 +72,36 @@ pub fn write_record<'a>(
     4 + size
 }
 
-// The record of the first row: completed on the sheet, and written.
+// The record of the first row, with so many addenda behind it: completed on the sheet, and written.
+pub fn write_counted<'a>(
+    set: CharacterSet,
+    layouts: &'a [u64],
+    text: &[u8],
+    rows: &'a [u64],
+    addenda: u64,
+    s: Standing,
+    sheet: &mut [u8],
+    out: &mut [u8],
+) -> Progress
+    requires { ⌜ Packed (now layouts) × (10 ≤ length (now rows)) × ReadyOne (valuesOfRow set (now text) (now rows)) addenda (now sheet) s (length (now out)) ⌝ }
+    ensures { λ r. ⌜ (r .numbers ≡ 10) × ((b : ReadyOne (valuesOfRow set (now (text .entry)) (now (rows .entry))) addenda (now (sheet .entry)) s (length (now (out .entry)))) → Onward (valuesOfRow set (now (text .entry)) (now (rows .entry)) ∷ b .others) (b .ready .file) (b .ready .past) (now (out .entry)) (b .others) (now (sheet .exit)) (r .standing) (r .bytes) (now (out .exit))) ⌝ }
+{
+    let kind = rows[0];
+    let own = layout::own_numbers(layouts, kind);
+    let at = sheet::slot_of(kind);
+    let body = at + 4;
+    let fixed = completing::complete(set, own, text, rows, addenda, s, sheet, body);
+    let end = body + fixed;
+    let bytes = write_record(set, own, text, rows, &sheet[body..end], out);
+    let standing = standing::moved(CharacterSet::Ascii, sheet, s, kind, at);
+    Progress {
+        numbers: 10,
+        bytes,
+        standing,
+    }
+}
+
+// The same, its addenda counted in the rows behind it.
 fn write_row<'a>(
     set: CharacterSet,
     layouts: &'a [u64],
@@ -85,20 +114,8 @@ fn write_row<'a>(
     requires { ⌜ Packed (now layouts) × (10 ≤ length (now rows)) × Ready (valuesIn set (now text) (now rows)) (now sheet) s (length (now out)) ⌝ }
     ensures { λ r. ⌜ RowsSetOut set (now (text .entry)) (now (rows .entry)) (now (sheet .entry)) (now (out .entry)) s r (now (sheet .exit)) (now (out .exit)) ⌝ }
 {
-    let kind = rows[0];
-    let own = layout::own_numbers(layouts, kind);
     let addenda = draft_rows::addenda_behind(rows);
-    let at = sheet::slot_of(kind);
-    let body = at + 4;
-    let fixed = completing::complete(set, own, text, rows, addenda, s, sheet, body);
-    let end = body + fixed;
-    let bytes = write_record(set, own, text, rows, &sheet[body..end], out);
-    let standing = standing::moved(CharacterSet::Ascii, sheet, s, kind, at);
-    Progress {
-        numbers: 10,
-        bytes,
-        standing,
-    }
+    write_counted(set, layouts, text, rows, addenda, s, sheet, out)
 }
 
 // A bundle: the records from the first row through the next 70, or to the end of the rows.

@@ -16,7 +16,7 @@ use Rattle.salvage_runs.proofs.run_fault.Lts as lts
 use Rattle.frame.proofs.part_of.Reads as part-of-reads
 use Rattle.passes.proofs.Fault.number.Reads as number-reads
 use Rattle.salvage_runs.proofs.behind_header.Reads as behind-header-reads
-use Rattle.salvage_runs.proofs.judge_next.Reads as judge-next-reads
+use Rattle.passes.proofs.judge_next.Reads as judge-next-reads
 use Rattle.salvage_walk.proofs.seen_at.Reads as seen-at-reads
 use Rattle.standing.proofs.moved.Reads as moved-reads
 

@@ -1,0 +1,35 @@
+use denote.Ref.{now}
+use Prim.Native.Nat.{_-_}
+use native.Mathlib.Omega.{arith}
+use Rattle.salvage_list.proofs.Marking.{Looks, step-onward, looks-first, looks-planned, looks-end, looks-kept, looks-on}
+use Rattle.salvage_list.proofs.is_any_kept.Statement.{statement}
+use Rattle.salvage_list.proofs.is_any_kept.Tie as tie
+
+abbrev Inv-loop : tie.InvT-loop
+Inv-loop set layouts file end plan₀ plan = Looks set file end plan₀ plan
+
+abbrev μ-loop : tie.MeasureT-loop
+μ-loop set layouts file end plan₀ plan = end - plan .at
+
+loop-holds : tie.Need-loop-holds Inv-loop μ-loop
+loop-holds c = looks-first _ _ _ _
+
+mark-next-requires : tie.Need-mark-next-requires Inv-loop μ-loop
+mark-next-requires c κs = (c .before .before .before .before .before .pre .0, c .if1 .taken, looks-planned _ _ _ _ (c .before .before .loop .inv) (c .before .before .before .before .before .pre .1))
+
+returns : tie.Need-returns Inv-loop μ-loop
+returns c = looks-kept _ _ _ _ (c .before .before .before .before .before .loop .inv) (c .before .before .mark-next .ensures) (c .if2 .taken)
+
+loop-less : tie.Need-loop-less Inv-loop μ-loop
+loop-less c = omega (arith, c .before .before .before .before .if1 .taken, step-onward (c .before .before .before .before .before .before .before .before .before .args .set) (now (c .before .before .before .before .before .before .before .before .before .args .file)) (c .before .before .before .before .before .before .before .before .before .args .end) (c .before .before .before .before .before .before .before .before .before .args .from) (c .before .before .before .before .before .before .loop .plan) (c .before .before .before .mark-next .result) (c .before .before .before .mark-next .ensures) (looks-planned _ _ _ _ (c .before .before .before .before .before .before .loop .inv) (c .before .before .before .before .before .before .before .before .before .pre .1)))
+
+loop-again : tie.Need-loop-again Inv-loop μ-loop
+loop-again c = looks-on _ _ _ _ (c .before .before .before .before .before .before .loop .inv) (c .before .before .before .mark-next .ensures) (c .before .if2 .left)
+
+returns-2 : tie.Need-returns-2 Inv-loop μ-loop
+returns-2 c = looks-end _ _ _ _ (c .before .before .loop .inv) (c .if1 .left)
+
+pub is-any-kept-spec : {M : Type 1} → statement M
+is-any-kept-spec =
+    tie.close
+    (tie.spec Inv-loop μ-loop loop-holds mark-next-requires returns loop-less loop-again returns-2)

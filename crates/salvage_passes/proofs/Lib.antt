@@ -1,0 +1,4 @@
+pub mod Few
+pub mod Said
+pub mod Deciding
+pub mod Writing

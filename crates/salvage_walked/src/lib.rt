@@ -1,1 +1,0 @@
-// No code: every record walked of a torn file is marked once, in order.
