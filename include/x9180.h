@@ -30,6 +30,11 @@ extern "C" {
  * Refused: the totals are 0 and the whole table is untouched. ROOM gives the rows needed as the record. */
 uint64_t x9_read(const uint8_t *file, size_t file_len, uint64_t *table, size_t table_len, uint64_t answer[12]);
 
+/* The reading of a file of up to 65,536 bytes by the slow reader, which follows the figures of the standard by calls in a cycle and shares no decision with
+ * the first. SIZE (0, 0, 0), the table untouched, for no byte and for 65,537 and more; otherwise the number, the answer and the table of x9_read, proved for
+ * every file and table. A call lies on the stack for each record read. */
+uint64_t x9_read_slowly(const uint8_t *file, size_t file_len, uint64_t *table, size_t table_len, uint64_t answer[12]);
+
 /* The picture call. In the file, at `offset`, the four-byte length of an Image View Data record (type 52) is to stand. Returns the
  * number and fills `place` with
  *   [0] the number   [1] the field at fault, 0 unless FIELD

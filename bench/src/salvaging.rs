@@ -24,8 +24,8 @@ type Tear = fn(Vec<u8>) -> Vec<u8>;
 const CASES: [(&str, Shape, Tear); 5] = [
     ("with pictures, sound", Shape::Pictures, |whole| whole),
     ("without pictures, sound", Shape::NoPictures, |whole| whole),
-    ("without pictures, cut off in its last bundle", Shape::NoPictures, cut_off),
-    ("without pictures, every other bundle unsound", Shape::NoPictures, spoiled),
+    ("lockbox deposits, cut off in the last bundle", Shape::Lockbox, cut_off),
+    ("lockbox deposits, every other bundle unsound", Shape::Lockbox, spoiled),
     ("20s without a 70, and nothing else", Shape::NoPictures, headers_alone),
 ];
 
@@ -44,12 +44,12 @@ impl Lent {
     }
 }
 
-/// The records of a file, with their lengths.
+/// The records that the lengths of a file frame, with their lengths.
 fn records(whole: &[u8]) -> impl Iterator<Item = &[u8]> {
     let mut left = whole;
     std::iter::from_fn(move || {
         let length = u32::from_be_bytes(*left.first_chunk()?) as usize;
-        let (record, rest) = left.split_at(4 + length);
+        let (record, rest) = left.split_at_checked(4 + length)?;
         left = rest;
         Some(record)
     })

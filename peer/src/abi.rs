@@ -4,6 +4,7 @@ use peer_reader::descent::LISTED;
 
 extern "C" {
     fn x9_read(file: *const u8, file_len: usize, table: *mut u64, table_len: usize, answer: *mut u64) -> u64;
+    fn x9_read_slowly(file: *const u8, file_len: usize, table: *mut u64, table_len: usize, answer: *mut u64) -> u64;
     fn x9_picture(file: *const u8, file_len: usize, offset: u64, place: *mut u64) -> u64;
     fn x9_write(
         text: *const u8,
@@ -54,6 +55,15 @@ pub fn read(file: &[u8], table: &mut [u64]) -> Result<Listed, String> {
     let mut answer = [UNTOUCHED; LISTED + GUARD];
     // SAFETY: each pointer goes with its slice's own length, and the answer holds more than the twelve numbers the call fills.
     let number = unsafe { x9_read(file.as_ptr(), file.len(), table.as_mut_ptr(), table.len(), answer.as_mut_ptr()) };
+    unguarded(number, &answer)
+}
+
+/// The same by the slow reader.
+pub fn read_slowly(file: &[u8], table: &mut [u64]) -> Result<Listed, String> {
+    let mut answer = [UNTOUCHED; LISTED + GUARD];
+    // SAFETY: as in `read`.
+    let number =
+        unsafe { x9_read_slowly(file.as_ptr(), file.len(), table.as_mut_ptr(), table.len(), answer.as_mut_ptr()) };
     unguarded(number, &answer)
 }
 

@@ -5,12 +5,37 @@ use crate::judge::Answer;
 
 extern "C" {
     fn x9_picture(file: *const u8, file_len: usize, offset: u64, place: *mut u64) -> u64;
+    fn x9_read(file: *const u8, file_len: usize, table: *mut u64, table_len: usize, answer: *mut u64) -> u64;
+    fn x9_read_slowly(file: *const u8, file_len: usize, table: *mut u64, table_len: usize, answer: *mut u64) -> u64;
     fn x9_record(record: *const u8, record_len: usize, answer: *mut u64) -> u64;
     fn x9_record_in(record: *const u8, record_len: usize, set: u64, answer: *mut u64) -> u64;
 }
 
 /// Stands in every slot before a call: the slots lent must change, the one before and the one after must not.
 const GUARD: u64 = 0xA5A5_5A5A_C3C3_3C3C;
+
+/// A call that reads a whole file.
+type Reading = unsafe extern "C" fn(*const u8, usize, *mut u64, usize, *mut u64) -> u64;
+
+/// Reads a file into a table: the twelve numbers.
+pub fn read(file: &[u8], table: &mut [u64]) -> [u64; 12] {
+    read_by(x9_read, file, table)
+}
+
+/// The same by the slow reader.
+pub fn read_slowly(file: &[u8], table: &mut [u64]) -> [u64; 12] {
+    read_by(x9_read_slowly, file, table)
+}
+
+fn read_by(call: Reading, file: &[u8], table: &mut [u64]) -> [u64; 12] {
+    let mut slots = [GUARD; 14];
+    let answer = slots[1..13].as_mut_ptr();
+    // SAFETY: the bytes and the table are lent for the call, each with its own length, and twelve slots follow the pointer.
+    let number = unsafe { call(file.as_ptr(), file.len(), table.as_mut_ptr(), table.len(), answer) };
+    assert_eq!([slots[0], slots[13]], [GUARD; 2], "a reading wrote beside its answer");
+    assert_eq!(number, slots[1], "a reading returns one number and writes another");
+    slots[1..13].try_into().expect("twelve slots")
+}
 
 /// Judges one record alone.
 pub fn record(body: &[u8]) -> Answer {

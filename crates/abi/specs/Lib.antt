@@ -1,3 +1,4 @@
 pub mod Filled
 pub mod Outcomes
 pub mod Salvaging
+pub mod Slowly

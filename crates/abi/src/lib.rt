@@ -1,5 +1,6 @@
 // The calls for C and Rust (include/x9180.h).
 mod salvaging;
+mod slowly;
 
 use book_model::Change;
 use book_model::Entering;
@@ -10,6 +11,7 @@ use passes::Answer;
 use passes::Fault;
 use passes::Totals;
 pub use salvaging::x9_salvage;
+pub use slowly::x9_read_slowly;
 use text::CharacterSet;
 ghost use mathlib.Core.Path.{_≡_};
 ghost use Rattle.text.specs.declared.character_set.CharacterSet.the-variants.{Ascii};

@@ -7,7 +7,7 @@ use mathlib.Core.List.{List}
 use lib.Dec.{eqb}
 use lib.ListN.{length}
 use Rattle.text.specs.declared.character_set.CharacterSet.{CharacterSet}
-use Rattle.order.specs.MayFollow.{follows}
+use Rattle.order.specs.MayFollow.{table, inTable, follows}
 use Rattle.standing.specs.declared.Standing.{Standing}
 use Rattle.passes.specs.declared.Answer.{Answer}
 use Rattle.slow_step.specs.declared.Entered.{Entered}
@@ -17,6 +17,11 @@ use Rattle.slow_step.specs.Places.{typeAt, IsAnswer, Reached, Called, Go
 -- in a bundle or outside, behind a record of a type
 abbrev pub behind : Bool → ℕ → Bool
 behind inside kind = cond (eqb kind 20) true (cond (eqb kind 70) false inside)
+
+-- what the table says; the functions of the cycle are shown by it, so that none of their proofs has to unfold `follows`
+said : (b : Bool) (last next : ℕ) {v : Bool} → inTable (table b) last next ≡ v → follows b last next ≡ v
+unfolding follows
+said b last next e = e
 
 module _ {set : CharacterSet} {file : List ℕ} {s : Standing} {at : ℕ} {b : Bool} {kind : ℕ} (p : Called set file s at b kind) where
   pub enters : Called set file s at (s .inside) kind
@@ -31,7 +36,7 @@ module _ {set : CharacterSet} {file : List ℕ} {s : Standing} {at : ℕ} {b : B
       goes = subst (Enters set file s at kind) q e
 
       -- with fewer bytes left
-      pub calls : (k t : ℕ) → length file - at ≡ t → called ≡ k → follows (behind b kind) kind k ≡ true
+      pub calls : (k t : ℕ) → length file - at ≡ t → called ≡ k → inTable (table (behind b kind)) kind k ≡ true
           → (length file - next < t) × Called set file here next (behind b kind) k
       calls k t m c f = (
         omega (arith, goes .fewer, goes .reached .within),
@@ -39,10 +44,10 @@ module _ {set : CharacterSet} {file : List ℕ} {s : Standing} {at : ℕ} {b : B
           reached = goes .reached;
           level = goes .level ∙ ap (λ (x : Bool). behind x kind) (p .level);
           type = sym (goes .type) ∙ c;
-          place = rw (goes .last) f;
+          place = rw (goes .last) (said (behind b kind) kind k f);
         },
       )
 
-      pub turns-away : follows (behind b kind) kind called ≡ false
+      pub turns-away : inTable (table (behind b kind)) kind called ≡ false
           → Reached set file next here × (follows (here .inside) (here .last) (typeAt set file next) ≡ false)
-      turns-away f = (goes .reached, rw (goes .level, p .level, goes .last, sym (goes .type)) f)
+      turns-away f = (goes .reached, rw (goes .level, p .level, goes .last, sym (goes .type)) (said (behind b kind) kind called f))

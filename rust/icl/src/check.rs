@@ -5,14 +5,14 @@ use std::io::Write;
 
 use x9180::{CharacterSet, Reading, Refusal, Totals};
 
+use crate::answer::told;
 use crate::args::Args;
 use crate::each::{self, Around, Done};
 use crate::files::Files;
 use crate::forms::{Cell, Form, Rows};
 use crate::input::{bytes, judged, Input};
-use crate::screen::{coloured, Colour};
 use crate::stop::{Stop, DONE, REFUSED};
-use crate::words::{self, counted, set_told, sums};
+use crate::words::{self, set_told};
 
 const COLUMNS: &[&str] = &[
     "file",
@@ -120,28 +120,4 @@ fn unread(file: &OsStr, message: &str) -> Vec<Cell> {
 fn of_totals(totals: &Totals) -> [Cell; 9] {
     let Totals { records, letters, bundles, items, views, debit, credit_items, credit } = *totals;
     [records, letters, bundles, items, views, totals.debit_items(), debit, credit_items, credit].map(Cell::number)
-}
-
-/// The line for a file, and the plain words that explain it.
-fn told(result: &Result<Reading, Refusal>) -> (String, String) {
-    match result {
-        Ok(reading) => (coloured(&reading.line(), Colour::Green), accepted(&reading.totals())),
-        Err(refusal) => (coloured(&refusal.line(), Colour::Red), refused(refusal)),
-    }
-}
-
-/// The fault, and whether bytes that follow could mend the file.
-fn refused(refusal: &Refusal) -> String {
-    let more_bytes = refusal.more_bytes().map_or_else(String::new, |words| format!("\n{words}"));
-    format!("{refusal:#}{more_bytes}")
-}
-
-fn accepted(totals: &Totals) -> String {
-    let parts = [
-        counted(totals.records, "record"),
-        counted(totals.letters, "cash letter"),
-        counted(totals.bundles, "bundle"),
-        sums(totals),
-    ];
-    format!("ACCEPTED: all rules hold\n{}", parts.join(", "))
 }

@@ -86,11 +86,15 @@ fn values(use_of: &Use) -> String {
 fn flags(uses: &[Use]) -> String {
     let mut known: Vec<(String, Vec<&str>)> = Vec::new();
     for use_of in uses {
-        let flags = use_of.flags.iter().chain(use_of.options.iter().map(|(option, _)| option));
+        let mut flags: Vec<&str> =
+            use_of.flags.iter().chain(use_of.options.iter().map(|(option, _)| option)).copied().collect();
         let pattern = pattern(use_of);
         match known.iter_mut().find(|(other, _)| *other == pattern) {
-            Some((_, others)) => others.extend(flags),
-            None => known.push((pattern, flags.copied().collect())),
+            Some((_, others)) => {
+                flags.retain(|flag| !others.contains(flag));
+                others.extend(flags);
+            }
+            None => known.push((pattern, flags)),
         }
     }
     let known = known.iter().filter(|(_, flags)| !flags.is_empty());

@@ -30,6 +30,7 @@ use:
   icl find [--csv | --json] FILE... --sequence N | --amount A | --routing R | --account TEXT
            [--pictures DIR [--force]]
   icl show FILE RECORD|OFFSET
+  icl follow [--all] FILE
   icl summary [--csv | --json] FILE...
   icl diff A B
   icl completion bash
@@ -290,6 +291,24 @@ Exit status: 0 the file is accepted, 1 it is refused (the record is shown all th
 has no such record.
 ";
 
+const FOLLOW: &str = "\
+icl follow [--all] FILE
+
+Shows, for new staff, how a reader comes to its answer: the proved slow reader's way through a file of at most
+65536 bytes (64 KiB), step by step, set in by level (file, cash letter, bundle, item, addendum or view). Each step is a
+function of that reader, a box of the standard's figures, and tells
+  stands at   the record: its number, the offset of its length, its type
+  found       what stands in it: amounts, dates, sequence numbers; of a control record each count and sum that it
+              states, and what the records before come to
+  may come    the types of record that it looks for behind its own
+  comes       what stands there, and the function that it calls for it
+The last step gives the answer, as icl check --explain tells it. docs/FOLLOWING.md has the figures, and a file followed.
+On a terminal a step is shown at a key press: space or enter the next one, e all to the end, q quits. Elsewhere, and
+where FILE is -, all are shown at once.
+  --all       all at once on a terminal too
+Exit status: 0 the file is accepted, 1 it is refused (its steps are shown all the same), 2 it could not be read.
+";
+
 const SUMMARY: &str = "\
 icl summary [--csv | --json] FILE...
 
@@ -342,6 +361,7 @@ pub fn of(command: &str) -> Option<&'static str> {
         "book" => Some(BOOK),
         "find" => Some(FIND),
         "show" => Some(SHOW),
+        "follow" => Some(FOLLOW),
         "summary" => Some(SUMMARY),
         "diff" => Some(DIFF),
         "completion" => Some(COMPLETION),

@@ -4,14 +4,16 @@
 // Imports go one way. This root imports the modules, and no module imports the root; among themselves each imports only those on lines
 // below its own. `x9180/tests/imports.rs` fails where that is not so.
 //
-//     check, rows, tree, pictures, tags, draft, write, salvage, book, find, show, summary, diff, completion, manual    the commands
+//     check, rows, tree, pictures, tags, draft, write, salvage, book, find, show, follow, summary, diff, completion, manual    the commands
+//     follow_words
 //     book_convert, find_query, meaning, walked, tree_rows, salvage_told, salvage_list
 //     book_words, each, taking
-//     args, input, output, sheet, names, usage, book_file, book_list, durable, facts, codes, verdicts, walk, fields, diff_match, diff_records, salvage_sums
+//     answer, args, input, output, sheet, names, usage, book_file, book_list, durable, facts, codes, verdicts, walk, fields, diff_match, diff_records, salvage_sums
 //     store, forms, places, files, help
-//     screen, interrupt, json
+//     screen, interrupt, json, keys
 //     stop
 //     words
+mod answer;
 mod args;
 mod book;
 mod book_convert;
@@ -32,11 +34,14 @@ mod fields;
 mod files;
 mod find;
 mod find_query;
+mod follow;
+mod follow_words;
 mod forms;
 mod help;
 mod input;
 mod interrupt;
 mod json;
+mod keys;
 mod manual;
 mod meaning;
 mod names;
@@ -117,6 +122,7 @@ fn run(mut words: Vec<OsString>) -> Result<u8, Stop> {
         Some("salvage") => salvage::run(args),
         Some("find") => find::run(args),
         Some("show") => show::run(args),
+        Some("follow") => follow::run(args),
         Some("summary") => summary::run(args),
         Some("diff") => diff::run(args),
         Some("completion") => completion::run(args),

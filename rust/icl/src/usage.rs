@@ -92,7 +92,6 @@ mod tests {
         assert_eq!(options, ["--sequence", "--amount", "--routing", "--account", "--pictures"]);
         assert_eq!(of("picture"), (vec!["--force"], vec!["-o"]));
         let commands: Vec<&str> = all().iter().map(|use_of| use_of.command).collect();
-        assert_eq!(of("salvage").1, ["-o", "-o"]);
         assert!(["check", "rows", "tree", "tags", "write", "salvage", "book", "show"]
             .iter()
             .all(|name| commands.contains(name)));

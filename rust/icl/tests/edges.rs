@@ -84,6 +84,8 @@ fn completion_in_bash() {
         (vec!["icl", "--v"], vec!["--version"]),
         (vec!["icl", "tree", "--"], vec!["--csv", "--depth", "--help", "--json", "--walk"]),
         (vec!["icl", "tree", "--depth", ""], vec!["bundle", "item", "letter"]),
+        (vec!["icl", "salvage", "-"], vec!["--csv", "--force", "--help", "--json", "--list", "-o"]),
+        (vec!["icl", "salvage", "a", "-o", "samp"], vec!["samples"]),
         (vec!["icl", "book", "en"], vec!["enter"]),
         (vec!["icl", "book", "enter", "a", "b", "--owner", ""], vec!["1", "2"]),
         (vec!["icl", "book", "enter", "a", "b", "--n"], vec!["--number"]),
@@ -119,8 +121,8 @@ fn the_manual_page() {
             .join(" "),
     );
     for command in [
-        "check", "rows", "tree", "picture", "pictures", "tags", "draft", "write", "book", "find", "show", "summary",
-        "diff",
+        "check", "rows", "tree", "picture", "pictures", "tags", "draft", "write", "salvage", "book", "find", "show",
+        "follow", "summary", "diff",
     ] {
         assert!(plain.contains(&format!("\n.SS icl {command}\n")), "{command}");
         let (_, help, _) = run(&format!("{command} --help"));

@@ -444,8 +444,8 @@ fn commands_not_understood() {
 #[test]
 fn help_and_version_everywhere() {
     let commands = [
-        "check", "rows", "tree", "picture", "pictures", "tags", "draft", "write", "book", "find", "show", "summary",
-        "diff",
+        "check", "rows", "tree", "picture", "pictures", "tags", "draft", "write", "book", "find", "show", "follow",
+        "summary", "diff",
     ];
     for command in commands {
         for words in [format!("{command} --help"), format!("{command} x --help y")] {

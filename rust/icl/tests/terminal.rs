@@ -168,3 +168,53 @@ fn waiting_for_a_book() {
     assert_eq!(run(&format!("book show {book} 1 --owner 1")).0, 0);
     holder.join().unwrap();
 }
+
+/// A step at a key press: the keys stand on the last line, which is wiped; other keys ask for nothing.
+#[test]
+fn steps_by_keys() {
+    const FILE: &str = "peer/samples/damaged-03-place.x9";
+    const KEYS: &str = "space or enter: next step   e: to the end   q: quit";
+    let whole = run(&format!("follow {FILE}")).1.replace('\n', "\r\n");
+    let at = |words: &str| whole.find(words).unwrap();
+    let (second, answer) = (at("not_called_for stands"), at("\r\nrefused 6"));
+    let [first, second, last] = [&whole[..second], &whole[second..answer], &whole[answer..]];
+    let wiped = format!("{KEYS}\r\x1b[K");
+    // What is shown until the keys are, and then all that is left once these keys have been pressed.
+    for (keys, left) in [
+        (" \r", format!("{wiped}{second}{wiped}{last}")),
+        ("x\x1b[B e", format!("{wiped}{second}{wiped}{last}")),
+        ("e", format!("{wiped}{second}{last}")),
+        (" q", format!("{wiped}{second}{wiped}")),
+        ("q", wiped.clone()),
+        ("\x03", wiped.clone()),
+    ] {
+        let (written, mut shown) = terminal();
+        let mut command = icl(["follow", FILE]);
+        command.env("NO_COLOR", "1").stdin(written.try_clone().unwrap()).stdout(written.try_clone().unwrap());
+        let mut child = command.stderr(Stdio::null()).spawn().unwrap();
+        drop((command, written));
+        let mut begin = vec![0; first.len() + KEYS.len()];
+        shown.read_exact(&mut begin).unwrap();
+        assert_eq!(String::from_utf8(begin).unwrap(), format!("{first}{KEYS}"));
+        shown.write_all(keys.as_bytes()).unwrap();
+        assert_eq!(format!("{KEYS}{}", text(shown)), left, "{keys:?}");
+        // The answer's own status, however it ended.
+        assert_eq!(child.wait().unwrap().code(), Some(1), "{keys:?}");
+    }
+}
+
+/// With `--all`, and where no key can be read, all at once.
+#[test]
+fn steps_at_once() {
+    let whole = run("follow peer/samples/damaged-03-place.x9").1.replace('\n', "\r\n");
+    let mut command = icl(["follow", "peer/samples/damaged-03-place.x9"]);
+    command.env("NO_COLOR", "1");
+    assert_eq!(on_terminal(command), whole);
+    let (written, shown) = terminal();
+    let mut command = icl(["follow", "--all", "peer/samples/damaged-03-place.x9"]);
+    command.env("NO_COLOR", "1").stdin(written.try_clone().unwrap()).stdout(written.try_clone().unwrap());
+    let mut child = command.stderr(Stdio::null()).spawn().unwrap();
+    drop((command, written));
+    assert_eq!(text(shown), whole);
+    assert_eq!(child.wait().unwrap().code(), Some(1));
+}

@@ -4,8 +4,31 @@
 use crate::character_set::CharacterSet;
 use crate::digits::number_in;
 use crate::kinds::Kind;
+use crate::reading::Totals;
 use crate::shown::shown;
 use crate::sums::{Stated, Sums};
+
+impl SoFar {
+    /// Its numbers in one list, to be put beside those of another: records, cash letters, bundles of the letter, items of the file and of the bundle; for file, letter and bundle the debits, their
+    /// cents, the credits, their cents and the views; the MICR valid cents; of the item its addenda stated, those that came, the first and the last of them, and its views. Cents stop at 10^16, since no
+    /// control field has more digits.
+    pub fn numbers(&self) -> [u64; 26] {
+        let cents = |sum: u64| sum.min(10_000_000_000_000_000);
+        let of = |level: &Totals| {
+            let (debit, credit) = (cents(level.debit), cents(level.credit));
+            [level.debit_items(), debit, level.credit_items, credit, level.views]
+        };
+        let (file, letter, bundle, item) = (&self.file, &self.letter, &self.bundle, &self.item);
+        let mut numbers = [0; 26];
+        numbers[..5].copy_from_slice(&[file.records, file.letters, letter.bundles, file.items, bundle.items]);
+        numbers[5..20].copy_from_slice([of(file), of(letter), of(bundle)].as_flattened());
+        let addenda = [item.addenda, item.first_addenda, item.last_addenda];
+        numbers[20..22].copy_from_slice(&[cents(self.micr_valid), self.stated_addenda.unwrap_or(0)]);
+        numbers[22..25].copy_from_slice(&addenda);
+        numbers[25] = item.views;
+        numbers
+    }
+}
 
 /// A record before the fault.
 #[derive(Clone, Copy)]
@@ -34,6 +57,19 @@ impl<'f> Earlier<'f> {
         self.number(if self.is_credit() { 7 } else { 6 }).unwrap_or(0)
     }
 
+    /// The field in which an item states its addenda; a 61 has none.
+    fn addendum_count(&self) -> Option<u64> {
+        match self.kind.number {
+            25 => Some(12),
+            31 => Some(8),
+            _ => None,
+        }
+    }
+
+    fn stated_addenda(&self) -> Option<u64> {
+        self.number(self.addendum_count()?)
+    }
+
     fn stands_before(&self) -> String {
         format!("the record before it is record {}, {}", self.ordinal, self.kind)
     }
@@ -46,7 +82,7 @@ impl<'f> Earlier<'f> {
 }
 
 /// What the records before the fault come to.
-#[derive(Default)]
+#[derive(Clone, Copy, Default)]
 pub(crate) struct Before<'f> {
     last: Option<Earlier<'f>>,
     /// The headers of the cash letter and of the bundle that are open.
@@ -69,12 +105,33 @@ pub(crate) struct Before<'f> {
 }
 
 /// Of the newest item: its views, its addenda, and those of each numbered kind.
-#[derive(Clone, Copy, Default)]
-struct OfItem {
-    views: u64,
-    addenda: u64,
-    first_addenda: u64,
-    last_addenda: u64,
+#[derive(Clone, Copy, Debug, Default, PartialEq, Eq)]
+pub struct OfItem {
+    /// Image View Detail Records (type 50).
+    pub views: u64,
+    /// Addenda of every kind.
+    pub addenda: u64,
+    /// Those of the bank of first deposit (types 26 and 32), numbered by themselves.
+    pub first_addenda: u64,
+    /// Those of later endorsers (types 28 and 35), numbered by themselves.
+    pub last_addenda: u64,
+}
+
+/// What the records before one come to, at each level.
+#[derive(Clone, Copy, Debug, Default, PartialEq, Eq)]
+pub struct SoFar {
+    /// Of the whole file.
+    pub file: Totals,
+    /// Since the newest Cash Letter Header Record (type 10).
+    pub letter: Totals,
+    /// Since the newest Bundle Header Record (type 20).
+    pub bundle: Totals,
+    /// Cents since that record, of the items with MICR Valid Indicator 1.
+    pub micr_valid: u64,
+    /// Of the newest item.
+    pub item: OfItem,
+    /// The addenda that the newest item states; `None` where there is none.
+    pub stated_addenda: Option<u64>,
 }
 
 impl<'f> Before<'f> {
@@ -110,6 +167,11 @@ impl<'f> Before<'f> {
             before.enter(Earlier { ordinal, kind, set, body });
         }
         before
+    }
+
+    /// One record more.
+    pub fn go_on(&mut self, ordinal: u64, kind: &'static Kind, set: CharacterSet, body: &'f [u8]) {
+        self.enter(Earlier { ordinal, kind, set, body });
     }
 
     fn enter(&mut self, record: Earlier<'f>) {
@@ -164,6 +226,30 @@ impl<'f> Before<'f> {
         }
     }
 
+    /// What they come to, at each level.
+    pub fn so_far(&self) -> SoFar {
+        let records = self.last.map_or(0, |last| last.ordinal);
+        let micr_valid = self.in_bundle.of(Stated::MicrValidCents).map_or(0, |cents| cents as u64);
+        SoFar {
+            file: Totals { records, letters: self.letters, ..self.file.totals() },
+            letter: self.in_letter.totals(),
+            bundle: self.in_bundle.totals(),
+            micr_valid,
+            item: self.of_item,
+            stated_addenda: self.item.map(|item| item.stated_addenda().unwrap_or(0)),
+        }
+    }
+
+    /// The item that is open, by its record.
+    pub fn item_record(&self) -> Option<u64> {
+        self.item.map(|item| item.ordinal)
+    }
+
+    /// The header over a view, by its record: that of its bundle, or directly in a cash letter the cash letter's.
+    pub fn header_record(&self) -> Option<u64> {
+        self.bundle.or(self.letter).map(|header| header.ordinal)
+    }
+
     /// Which record stands last before the fault.
     pub fn stands_last(&self) -> Option<String> {
         self.last.map(|last| last.stands_before())
@@ -206,6 +292,11 @@ impl<'f> Before<'f> {
             (Some(_), None) => "a cash letter is open here, and no bundle",
             (None, None) => "no cash letter is open here",
         }
+    }
+
+    /// What a control field should state, in numbers alone.
+    pub fn comes_to(&self, record_type: u64, field: u64, record: u64) -> Option<u64> {
+        self.counted(record_type, field, record).and_then(|counted| u64::try_from(counted).ok())
     }
 
     /// What a control field should state. The control record itself is of this ordinal.
@@ -279,8 +370,8 @@ impl<'f> Before<'f> {
 
     /// An addendum too many, or a record before the last addendum.
     fn link_of_addenda(&self, kind: &'static Kind, item: Earlier<'f>) -> Option<String> {
-        let count = if item.kind.number == 25 { 12 } else { 8 };
-        let (stated, came) = (item.number(count)?, self.of_item.addenda);
+        let (count, came) = (item.addendum_count()?, self.of_item.addenda);
+        let stated = item.number(count)?;
         match kind.number {
             26..=28 | 32..=35 => Some(format!("{}, and this would be addendum {}", item.says(count)?, came + 1)),
             _ if came < stated => Some(format!("{}, and {came} came", item.says(count)?)),

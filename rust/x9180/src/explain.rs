@@ -21,6 +21,15 @@ pub(crate) fn size(length: u64) -> Refusal {
     Refusal { number: Number::SIZE, record: 0, field: 0, offset: 0, words: Box::new(words) }
 }
 
+/// The refusal that the slow reading answered: the reading's own, but that fewer bytes may be read slowly.
+pub(crate) fn slow_reading(file: &[u8], number: Number, record: u64, field: u64, offset: u64) -> Refusal {
+    let mut refusal = reading(file, number, record, field, offset);
+    if number == Number::SIZE {
+        refusal.words.meaning = Some("the file has no byte, or more than the 65536 that are read slowly");
+    }
+    refusal
+}
+
 /// The refusal that the reading answered.
 pub(crate) fn reading(file: &[u8], number: Number, record: u64, field: u64, offset: u64) -> Refusal {
     let fault = Fault::in_file(file, number, field, offset);

@@ -7,6 +7,7 @@ use crate::row::Row;
 
 extern "C" {
     fn x9_read(file: *const u8, file_len: usize, table: *mut u64, table_len: usize, answer: *mut u64) -> u64;
+    fn x9_read_slowly(file: *const u8, file_len: usize, table: *mut u64, table_len: usize, answer: *mut u64) -> u64;
     fn x9_picture(file: *const u8, file_len: usize, offset: u64, place: *mut u64) -> u64;
     fn x9_record_in(body: *const u8, body_len: usize, set: u64, answer: *mut u64) -> u64;
     fn x9_write(
@@ -63,6 +64,15 @@ pub(crate) fn read(file: &[u8], rows: &mut [Row]) -> [u64; 12] {
     // at one pointer, which the exclusive borrow keeps apart from the file. The answer has the twelve numbers that the call fills. No
     // pointer of a slice is null, and the call keeps none.
     unsafe { x9_read(file.as_ptr(), file.len(), rows.as_mut_ptr().cast(), numbers, answer.as_mut_ptr()) };
+    answer
+}
+
+/// The same by the slow reader.
+pub(crate) fn read_slowly(file: &[u8], rows: &mut [Row]) -> [u64; 12] {
+    let mut answer = [0; 12];
+    let numbers = rows.len() * Row::NUMBERS;
+    // SAFETY: as in `read`.
+    unsafe { x9_read_slowly(file.as_ptr(), file.len(), rows.as_mut_ptr().cast(), numbers, answer.as_mut_ptr()) };
     answer
 }
 

@@ -3,9 +3,10 @@
 //! What is right or wrong in a file is decided by the proved static library `libabi.a` alone (`rt staticlib abi` at the root of the
 //! repository builds it). This crate lends it the bytes, keeps the rows that come back, and says refusals in plain words.
 //!
-//! [`read`] reads a file and [`picture`] finds a picture in it; [`tags`] judges the tags of a TIFF picture, one that came in or one that is to go
-//! out; [`make`] makes a file out from nothing, and [`Draft`] changes one and writes it again; [`salvage`] makes out what is sound of a torn one. [`Book`] is
-//! a day book that files are entered into, which two bureaus may share.
+//! [`read`] reads a file and [`picture`] finds a picture in it; [`read_slowly`] is a second proved reader, whose way through a file [`follow`] shows;
+//! [`tags`] judges the tags of a TIFF picture, one that came in or one that is to go out; [`make`] makes a file out from nothing, and [`Draft`] changes
+//! one and writes it again; [`salvage`] makes out what is sound of a torn one. [`Book`] is a day book that files are entered into, which two bureaus may
+//! share.
 //!
 //! ```
 //! # fn main() -> Result<(), Box<dyn std::error::Error>> {
@@ -53,6 +54,8 @@
 //     explain_tags → shown → character_set
 //     explain_tags → directory
 //     before → kinds → digits → character_set
+//     follow → before → sums → reading → row → kinds → digits → character_set
+//     follow → refusal → kinds
 //     book → explain_book → book_refusal → refusal → kinds
 //     book → explain_book → book_refusal → figures
 //     book → explain_book → book_refusal → owner
@@ -83,6 +86,7 @@ mod explain_tags;
 mod ffi;
 mod figures;
 mod fit;
+pub mod follow;
 mod given;
 mod kinds;
 mod listed;
@@ -115,7 +119,7 @@ pub use given::Record;
 pub use kinds::{DataType, Field, Form, Kind, Place, RoutingForm, Usage, KINDS};
 pub use listed::{Listed, Status};
 pub use misfit::Misfit;
-pub use more_bytes::LIMIT;
+pub use more_bytes::{LIMIT, SLOW_LIMIT};
 pub use reading::{Bundle, Content, Item, ItemKind, Letter, Reading, Totals, View};
 pub use refusal::{Number, Refusal};
 pub use row::Row;
@@ -138,18 +142,49 @@ pub use value::{Date, Time, Value};
 /// # }
 /// ```
 pub fn read(file: &[u8]) -> Result<Reading, Refusal> {
+    read_by(ffi::read, explain::reading, file)
+}
+
+/// Reads a whole file of at most [`SLOW_LIMIT`] bytes by the slow reader: another proved reader, which shares no decision with that of [`read`] and is proved to give the same answer and
+/// the same rows. Its sources (`crates/slow_cycle`) are written to be followed by eye: a function for each box of the standard's figures, which calls for what may come next. A
+/// file of more bytes, or of none, is refused with `SIZE`.
+///
+/// Every record is a call deeper, so it wants more stack than [`read`]: one MiB is enough.
+///
+/// ```
+/// # fn main() -> Result<(), Box<dyn std::error::Error>> {
+/// let file = std::fs::read("../../peer/samples/sound-6-two-letters.x9")?;
+/// assert_eq!(x9180::read_slowly(&file), x9180::read(&file));
+/// let refusal = x9180::read_slowly(&vec![0; x9180::SLOW_LIMIT + 1]).unwrap_err();
+/// assert_eq!(
+///     refusal.to_string(),
+///     "SIZE: the file has no byte, or more than the 65536 that are read slowly; found 65537 bytes"
+/// );
+/// # Ok(())
+/// # }
+/// ```
+pub fn read_slowly(file: &[u8]) -> Result<Reading, Refusal> {
+    read_by(ffi::read_slowly, explain::slow_reading, file)
+}
+
+/// Reads a file by one of the two readers, with its words for a refusal.
+fn read_by(
+    call: fn(&[u8], &mut [Row]) -> [u64; 12],
+    refusal: fn(&[u8], Number, u64, u64, u64) -> Refusal,
+    file: &[u8],
+) -> Result<Reading, Refusal> {
     let mut rows = Vec::new();
     loop {
-        let [number, record, field, offset, totals @ ..] = ffi::read(file, &mut rows);
+        let [number, record, field, offset, totals @ ..] = call(file, &mut rows);
         match Number(number) {
             Number::ACCEPTED => {
                 let totals = Totals::of_answer(totals);
-                let no_memory = || explain::reading(file, Number::ROOM, totals.records, 0, 0);
+                let no_memory = || refusal(file, Number::ROOM, totals.records, 0, 0);
                 return Reading::of(file, rows, totals).ok_or_else(no_memory);
             }
             // The first call, with no rows, tells how many are needed; the second has them.
             Number::ROOM if rows.is_empty() && room::room(&mut rows, record) => {}
-            refused => return Err(explain::reading(file, refused, record, field, offset)),
+            refused => return Err(refusal(file, refused, record, field, offset)),
         }
     }
 }

@@ -9,6 +9,9 @@ use crate::refusal::Number;
 /// The most bytes that a file may have.
 pub const LIMIT: usize = 268_435_456;
 
+/// The most bytes that a file may have to be read slowly ([`read_slowly`](crate::read_slowly)).
+pub const SLOW_LIMIT: usize = 65_536;
+
 /// The fewest bytes that the record which ends a file has: the File Control Record (type 99, clause 35).
 const SHORTEST_END: u64 = 80;
 

@@ -110,6 +110,8 @@ pub struct Refusal {
 /// What can be said of a fault beyond its numbers.
 #[derive(Clone, Debug, Default, PartialEq, Eq)]
 pub(crate) struct Words {
+    /// What the number says here, where that is not what it says elsewhere.
+    pub meaning: Option<&'static str>,
     /// The kind that the record's first two characters name.
     pub kind: Option<&'static Kind>,
     /// The bytes at the fault.
@@ -205,7 +207,7 @@ impl Refusal {
 
 impl std::fmt::Display for Refusal {
     fn fmt(&self, f: &mut std::fmt::Formatter<'_>) -> std::fmt::Result {
-        write!(f, "{}: {}", self.number.name(), self.number.meaning())?;
+        write!(f, "{}: {}", self.number.name(), self.words.meaning.unwrap_or(self.number.meaning()))?;
         let between = if f.alternate() { "\n" } else { "; " };
         self.words.lines.iter().try_for_each(|line| write!(f, "{between}{line}"))
     }

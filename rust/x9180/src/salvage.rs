@@ -84,7 +84,7 @@ impl Salvage {
     ///
     /// # fn main() -> Result<(), Box<dyn std::error::Error>> {
     /// let mut file = std::fs::read("../../samples/two-letters-with-pictures.x9")?;
-    /// file[2_534 + 4 + 26] = b'9'; // the check digit of a check in the second bundle, 3 before
+    /// file[2_534 + 4 + 26] = b'9'; // the check digit of a check in the second bundle, 4 before
     /// let salvage = x9180::salvage(&file)?;
     /// let parts = salvage.parts();
     /// let bundle = parts.iter().filter(|part| part.sort == Sort::Bundle).nth(1).ok_or("no second bundle")?;

@@ -1,5 +1,7 @@
 //! What the items and views of a part of a file add up to, and which control field states what. For the plain words of a TOTAL only; the
-//! library adds up for itself. Imports no module.
+//! library adds up for itself. Of the crate's modules it imports `reading` alone.
+
+use crate::reading::Totals;
 
 /// Debits or credits: how many, and their cents. Three million amounts of fourteen digits pass 64 bits, and stay far below 128.
 #[derive(Clone, Copy, Default)]
@@ -113,6 +115,20 @@ impl Sums {
             Stated::AllItems => self.debits.items + self.credits.items,
             Stated::Letters | Stated::Records => return None,
         })
+    }
+
+    /// The same numbers, each stopped at 64 bits.
+    pub fn totals(&self) -> Totals {
+        let number = |sum: u128| u64::try_from(sum).unwrap_or(u64::MAX);
+        Totals {
+            bundles: number(self.bundles),
+            items: number(self.debits.items + self.credits.items),
+            views: number(self.views),
+            debit: number(self.debits.cents),
+            credit_items: number(self.credits.items),
+            credit: number(self.credits.cents),
+            ..Totals::default()
+        }
     }
 
     /// Where a part holds Credit/Reconciliation Records: what the other side comes to. A sender that took a debit for a credit is then seen.

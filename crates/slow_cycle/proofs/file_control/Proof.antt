@@ -1,6 +1,5 @@
 use mathlib.Core.Path.{refl}
 use borrow.Author.Needs.{needs}
-use Rattle.order.specs.MayFollow.{follows}
 use Rattle.slow_step.proofs.Cycle.{enters, stopped, turns-away}
 use Rattle.slow_cycle.proofs.file_control.Statement.{statement}
 use Rattle.slow_cycle.proofs.file_control.Tie as tie
@@ -15,7 +14,6 @@ enum-known-here : tie.Need-enum-known-here
 enum-known-here c = search needs
 
 not-called-for-requires : tie.Need-not-called-for-requires
-unfolding follows
 not-called-for-requires c κs = turns-away (c .before .before .before .before .before .pre) (c .before .before .before .enter .ensures) (c .before .here .given .1) refl
 
 returns : tie.Need-returns

@@ -10,6 +10,17 @@ use peer_reader::tally::Tally;
 use proved::again::round_trip;
 use proved::{abi, Difference};
 
+use crate::slow::{self, Slowly};
+
+/// A reader of the proved library.
+pub struct Reader {
+    pub name: &'static str,
+    pub read: fn(&[u8], &mut [u64]) -> Result<abi::Listed, String>,
+}
+
+/// The one that the bureau uses.
+pub const FIRST: Reader = Reader { name: "proved", read: abi::read };
+
 /// Counts of what was put to both sides.
 #[derive(Clone, Copy, Default)]
 pub struct Counts {
@@ -23,6 +34,8 @@ pub struct Counts {
     pub tails: u64,
     /// Accepted files, tails among them, that were written again.
     pub again: u64,
+    /// Steps of the slow reader.
+    pub steps: u64,
 }
 
 impl Counts {
@@ -35,25 +48,41 @@ impl Counts {
         self.pictures += other.pictures;
         self.tails += other.tails;
         self.again += other.again;
+        self.steps += other.steps;
     }
 
     pub fn in_words(&self) -> String {
         format!(
-            "{} files ({} accepted, {} bytes), {} tails, {} written again, {} readings, {} rows, {} pictures",
-            self.files, self.accepted, self.bytes, self.tails, self.again, self.readings, self.rows, self.pictures
+            "{} files ({} accepted, {} bytes), {} tails, {} written again, {} readings, {} rows, {} pictures, {} slow steps",
+            self.files,
+            self.accepted,
+            self.bytes,
+            self.tails,
+            self.again,
+            self.readings,
+            self.rows,
+            self.pictures,
+            self.steps
         )
     }
 }
 
 /// Compares both sides on one file, and gives the independent reading of it.
-pub fn check(file: &[u8], random: &mut Random, tally: &mut Tally, counts: &mut Counts) -> Result<Reading, Difference> {
+pub fn check(
+    file: &[u8],
+    slowly: Slowly,
+    random: &mut Random,
+    tally: &mut Tally,
+    counts: &mut Counts,
+) -> Result<Reading, Difference> {
     let reading = read_in(Set::by_library(file), file);
     tally.note_reading(file, &reading);
     counts.files += 1;
     counts.bytes += file.len() as u64;
     let rows = reading.rows.len();
-    for length in table_lengths(&reading, random) {
-        readings_agree(file, &reading, length, random)?;
+    let lengths = table_lengths(&reading, random);
+    for length in lengths.iter().copied() {
+        readings_agree(&FIRST, file, &reading, length, random)?;
         counts.readings += 1;
         tally.note_table(file, &reading, length);
     }
@@ -67,6 +96,7 @@ pub fn check(file: &[u8], random: &mut Random, tally: &mut Tally, counts: &mut C
         counts.pictures += 1;
     }
     tally.note_within_images(file);
+    counts.steps += slow::check(file, &reading, &lengths, slowly, random)?;
     Ok(reading)
 }
 
@@ -86,11 +116,12 @@ pub fn written_again(
 
 /// The difference on a file, for the shrinking.
 pub fn differs(file: &[u8]) -> Option<Difference> {
-    check(file, &mut Random::new(1), &mut Tally::default(), &mut Counts::default()).err()
+    check(file, Slowly::InEach, &mut Random::new(1), &mut Tally::default(), &mut Counts::default()).err()
 }
 
-/// Both sides on one file and one table length: the number, the answer, every row, every number left alone. Gives the proved library's answer.
+/// Both sides on one file and one table length, by a reader of the proved library: the number, the answer, every row, every number left alone. Gives that reader's answer.
 pub fn readings_agree(
+    reader: &Reader,
     file: &[u8],
     reading: &Reading,
     length: usize,
@@ -101,17 +132,17 @@ pub fn readings_agree(
     let mut theirs = vec![pattern; length + GUARD];
     let mut ours = theirs.clone();
     let expected = reading.fill(&mut ours[..length]).listed();
-    let (number, answer) = abi::read(file, &mut theirs[..length])?;
+    let (name, (number, answer)) = (reader.name, (reader.read)(file, &mut theirs[..length])?);
     if answer != expected || number != expected[0] {
         return Err(format!(
-            "table of {length} numbers\n  proved      returns {number}, answer {answer:?}\n  independent answer {expected:?} ({})",
+            "table of {length} numbers\n  {name:11} returns {number}, answer {answer:?}\n  independent answer {expected:?} ({})",
             reading.why
         ));
     }
     if let Some(at) = (0..ours.len()).find(|at| ours[*at] != theirs[*at]) {
         let (row, column) = (at / 7 + 1, at % 7 + 1);
         return Err(format!(
-            "table of {length} numbers, answer {answer:?}: row {row} number {column}\n  proved      {}\n  independent {} (untouched is {pattern})",
+            "table of {length} numbers, answer {answer:?}: row {row} number {column}\n  {name:11} {}\n  independent {} (untouched is {pattern})",
             theirs[at], ours[at]
         ));
     }

@@ -1,4 +1,5 @@
-//! The largest files, once in a whole run: exactly the limit, one byte more, and 61s whose sums pass 64 bits.
+//! The largest files. Once in every run: exactly the slow reader's limit, one byte more, and none. Once in a whole run: exactly the limit of the first reader, one byte more, and 61s
+//! whose sums pass 64 bits.
 
 use peer_reader::brim::{letter_past, letter_past_64_bits, Stated};
 use peer_reader::charset::EBCDIC_CARRIED;
@@ -13,12 +14,26 @@ use proved::run::{Found, Options};
 
 use crate::check::{check, Counts};
 use crate::report;
+use crate::slow::{at_the_limit, Slowly};
+
+/// Puts the files at the slow reader's limit to both sides, in both sets.
+pub fn check_slow_limit(options: &Options, tally: &mut Tally, counts: &mut Counts, found: &Found) {
+    let mut random = Random::new(65);
+    for (name, file) in at_the_limit() {
+        let versions = [Some(file.clone()), EBCDIC_CARRIED.then(|| to_ebcdic(&file))];
+        for file in versions.into_iter().flatten() {
+            if let Err(difference) = check(&file, Slowly::InEach, &mut random, tally, counts) {
+                report(options, &format!("slow-{name}"), "large", &file, &difference, found);
+            }
+        }
+    }
+}
 
 /// Puts all of them to both sides.
 pub fn check_largest(options: &Options, tally: &mut Tally, counts: &mut Counts, found: &Found) {
     let mut random = Random::new(27);
     let mut put = |name: &str, file: &[u8], random: &mut Random| {
-        if let Err(difference) = check(file, random, tally, counts) {
+        if let Err(difference) = check(file, Slowly::Once, random, tally, counts) {
             report(options, name, "large", file, &difference, found);
         }
     };

@@ -1,8 +1,10 @@
-//! Compares the proved library with the independent reader over many generated files, and has it write every accepted one again.
-//! Use: compare [--files N] [--seed S] [--save DIR] [--threads T] [--sweep | --no-sweep]
+//! Compares the proved library with the independent reader over many generated files, and has it write every accepted one again. Its slow reader is put beside them, and so are the steps that are shown of it: on every
+//! file of the stream, and on one in some of the sweep, with --sweep-slowly on each of them too.
+//! Use: compare [--files N] [--seed S] [--save DIR] [--threads T] [--sweep | --no-sweep | --sweep-slowly]
 
 mod check;
 mod large;
+mod slow;
 mod sweep;
 mod tails;
 
@@ -18,17 +20,24 @@ use proved::run::{on_threads, Case, Found, Options, Outcome, Program};
 use proved::shrink::shrink;
 
 use check::{differs, Counts};
+use slow::Slowly;
 use tails::Broken;
 
-const PROGRAM: Program =
-    Program { name: "compare", things: "files", whole_run: 100_000, flags: &["--sweep", "--no-sweep"], side: "reader" };
+const PROGRAM: Program = Program {
+    name: "compare",
+    things: "files",
+    whole_run: 100_000,
+    flags: &["--sweep", "--no-sweep", "--sweep-slowly"],
+    side: "reader",
+};
 
 fn main() -> ExitCode {
     PROGRAM.run(|options, found| {
         let (mut tally, mut counts) = stream_of_files(options, found);
         let (whole, going) = (PROGRAM.is_whole(options), !found.enough());
         // A whole run sweeps by itself; a flag forces or forbids it.
-        let sweeping = options.flags.last().map_or(whole, |flag| flag == "--sweep");
+        let sweeping = options.flags.last().map_or(whole, |flag| flag != "--no-sweep");
+        large::check_slow_limit(options, &mut tally, &mut counts, found);
         if going && whole {
             large::check_largest(options, &mut tally, &mut counts, found);
         }
@@ -88,7 +97,7 @@ fn work(options: &Options, found: &Found, first: u64) -> (Tally, Counts) {
 
 /// Puts a file of this seed and index to both sides, and other tails of it where it is chosen for that (request 7).
 fn put(file: &[u8], seed: u64, index: u64, tally: &mut Tally, counts: &mut Counts) -> Result<(), Broken> {
-    let checked = check::check(file, &mut Random::for_file(!seed, index), tally, counts);
+    let checked = check::check(file, Slowly::Once, &mut Random::for_file(!seed, index), tally, counts);
     let reading = checked.map_err(|difference| Broken { file: file.to_vec(), difference })?;
     match peer_reader::tails::chosen(seed, index, file, &reading) {
         Some(mut random) => tails::check_tails(file, &reading, &mut random, tally, counts),

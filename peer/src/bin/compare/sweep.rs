@@ -15,6 +15,7 @@ use proved::run::{on_threads, Found, Options};
 
 use crate::check::{check, Counts};
 use crate::report;
+use crate::slow::Slowly;
 
 /// The two-character fields with defined values.
 const PAIRS: [(u8, u8); 13] = [
@@ -32,6 +33,9 @@ const PAIRS: [(u8, u8); 13] = [
     (50, 16),
     (61, 11),
 ];
+
+/// One in so many of the swept files is read slowly, unless all of them are asked for. It has no factor in common with the 256 values of a byte, so that every value has its turn.
+const SLOWLY: u64 = 17;
 
 /// Contents of each form of a routing number, and none: what is one character away from them is tried.
 const ROUTINGS: [&[u8; 9]; 6] = [b"123456780", b"12345-678", b"1234-5678", b" 12345678", b" 1234567 ", b"         "];
@@ -184,7 +188,9 @@ impl Part<'_> {
     }
 
     fn put(&mut self, code: u8, file: &[u8]) {
-        if let Err(difference) = check(file, &mut self.random, &mut self.tally, &mut self.counts) {
+        let all = self.options.flags.last().is_some_and(|flag| flag == "--sweep-slowly");
+        let slowly = if all || self.counts.files.is_multiple_of(SLOWLY) { Slowly::Once } else { Slowly::Not };
+        if let Err(difference) = check(file, slowly, &mut self.random, &mut self.tally, &mut self.counts) {
             if !self.found.enough() {
                 let name = format!("sweep-type{code}-thread{}-file{}", self.first, self.counts.files);
                 report(self.options, &name, "sweep", file, &difference, self.found);

@@ -8,7 +8,8 @@ use peer_reader::tally::{Point, Tally};
 
 use proved::Difference;
 
-use crate::check::{readings_agree, written_again, Counts};
+use crate::check::{readings_agree, written_again, Counts, FIRST};
+use crate::slow::{self, Slowly};
 
 /// A file of which a claim does not hold, or on which the sides differ.
 pub struct Broken {
@@ -37,14 +38,16 @@ pub fn check_tails(
 fn check_trial(trial: &Trial, random: &mut Random, counts: &mut Counts) -> Result<(), Difference> {
     let reading = read_in(Set::by_library(&trial.bytes), &trial.bytes);
     for length in trial.tables.iter().copied() {
-        let proved = readings_agree(&trial.bytes, &reading, length, random)
+        let proved = readings_agree(&FIRST, &trial.bytes, &reading, length, random)
             .map_err(|difference| format!("{:?}, {} bytes, {difference}", trial.point, trial.bytes.len()))?;
         trial.holds_for("proved", &proved, length)?;
         trial.holds_for("independent", &reading.with_rows(length / 7).listed(), length)?;
         counts.readings += 1;
     }
-    written_again(&trial.bytes, &reading, random, counts)
-        .map_err(|difference| format!("{:?}, {} bytes, {difference}", trial.point, trial.bytes.len()))
+    let named = |difference| format!("{:?}, {} bytes, {difference}", trial.point, trial.bytes.len());
+    let steps = slow::check(&trial.bytes, &reading, &trial.tables, Slowly::Once, random).map_err(named)?;
+    counts.steps += steps;
+    written_again(&trial.bytes, &reading, random, counts).map_err(named)
 }
 
 /// Files of this length are not written out.
