@@ -1,4 +1,6 @@
 // The calls for C and Rust (include/x9180.h).
+#![tactic(auto)]
+
 mod salvaging;
 mod slowly;
 

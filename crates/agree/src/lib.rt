@@ -1,4 +1,6 @@
 // What is judged of a record against those before it: links, and the totals of a control record.
+#![tactic(auto)]
+
 ghost use Rattle.std.specs.Prelude.{◌≡◌, ◌||◌, not, cond, ℕ, ◌+◌, ◌-◌, ◌<◌, ◌≤◌, eqb, length};
 ghost use Rattle.text.specs.Characters.{is_blank};
 ghost use Rattle.text.specs.DataTypes.{every};

@@ -1,4 +1,6 @@
 // The ASCII copy of a file (request 5), and that a record gets of it what it gets itself.
+#![tactic(auto)]
+
 ghost use Rattle.std.specs.Prelude.{◌≡◌, ◌≤◌, ◌<◌};
 ghost use Rattle.text.specs.declared.character_set.CharacterSet.TheVariants.{Ebcdic};
 ghost use Rattle.text.specs.Capitals.{capital};

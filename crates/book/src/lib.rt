@@ -1,4 +1,6 @@
 // The calls of the day book: it copies a cash letter's own figures when its file is accepted, and no later file can alter them.
+#![tactic(auto)]
+
 ghost use Rattle.std.specs.Prelude.{true, ◌≡◌, ◌+◌, ◌-◌, ◌*◌, ◌≤◌, ◌<◌, length};
 ghost use Rattle.letters.specs.Letters.{letters_of};
 ghost use Rattle.letters.specs.OfArrangement.{LettersOwn};

@@ -1,4 +1,6 @@
 // Gaps among the rows of a day book: found, made and closed (request 10).
+#![tactic(auto)]
+
 ghost use Rattle.std.specs.Prelude.{true, ◌≡◌, ◌+◌, ◌*◌, ◌≤◌, length};
 ghost use Rattle.std.proofs.lemmas.List.Edits.{sets};
 ghost use Rattle.frame.specs.Frames.{part};
@@ -10,7 +12,7 @@ use book_model::Entry;
 use figures::Figures;
 
 // A row that is free, and how many of the rows claimed are still to come behind it.
-#[derive(Drop)]
+#[derive(Clone, Copy)]
 pub struct Spot {
     pub at: usize,
     pub rows: u64,

@@ -1,9 +1,11 @@
 // No code: what a day book is, and what each of its calls answers and leaves, stands in `specs/`. The types of its entries and answers are declared here.
+#![tactic(auto)]
+
 use figures::Figures;
 use passes::{Fault, Totals};
 
 // One cash letter as it was entered: its entry number, the caller's number for its file, its own figures.
-#[derive(Drop)]
+#[derive(Clone, Copy)]
 pub struct Entry {
     pub number: u64,
     pub file: u64,
@@ -11,27 +13,27 @@ pub struct Entry {
 }
 
 // What entering a file gives: the first entry number given and the totals of the file, or the fault, the record and the offset.
-#[derive(Drop)]
+#[derive(Clone, Copy)]
 pub enum Entering {
     Entered(u64, Totals),
     Refused(Fault, u64, usize),
 }
 
-#[derive(Drop)]
+#[derive(Clone, Copy)]
 pub enum Finding {
     Found(Entry),
     Refused(Fault),
 }
 
 // How many entries there are, the running totals and the net position.
-#[derive(Drop)]
+#[derive(Clone, Copy)]
 pub enum Tally {
     Totals(u64, Figures, i64),
     Refused(Fault),
 }
 
 // What withdrawing an entry and tidying up give.
-#[derive(Drop)]
+#[derive(Clone, Copy)]
 pub enum Change {
     Done,
     Refused(Fault),

@@ -1,4 +1,6 @@
 // A day book in a lent table: its head and rows read, judged and written. The plain list that a table holds stands in `specs/`.
+#![tactic(auto)]
+
 ghost use Rattle.std.specs.Prelude.{true, ◌&&◌, ◌∷◌, ◌≡◌, ◌+◌, ◌*◌, ◌≤◌, ◌<◌, leb, length, get_or, set};
 ghost use Rattle.std.proofs.lemmas.List.Edits.{sets};
 ghost use Rattle.figures.specs.Figures.{numbers_of, figures_at, plus, minus, same, covers, fits};

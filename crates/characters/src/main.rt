@@ -1,6 +1,8 @@
 // Prints what the proved code answers at each of the 256 bytes in each character set: a line of names, then for each set and byte the name of
 // the set, the number of the byte, and a 1 or a 0 for each basic character type (clauses 5.1 and 5.2) and each data type (clause 5.3).
 // docs/CHARACTERS.md is made from it.
+#![tactic(auto)]
+
 use libc::STDOUT_FILENO;
 use text::{CharacterSet, DataType};
 

@@ -1,5 +1,7 @@
 // One record of a draft made out: its fixed part, with what is worked out filled in. `rows` are the draft's numbers from the record's row on, `own`
 // the numbers of its layout.
+#![tactic(auto)]
+
 ghost use Rattle.std.specs.Prelude.{cond, List, ◌≡◌, ℕ, ◌+◌, ◌-◌, ◌/◌, ◌%◌, ◌≤◌, length, get_or};
 ghost use Rattle.std.proofs.lemmas.List.Edits.{sets};
 ghost use Rattle.text.specs.declared.character_set.CharacterSet.{CharacterSet};

@@ -1,4 +1,6 @@
 // Bytes set down in a lent buffer: as they are, as their characters in ASCII, or one byte many times.
+#![tactic(auto)]
+
 ghost use Rattle.std.specs.Prelude.{◌≡◌, ◌+◌, ◌≤◌, length};
 ghost use Rattle.std.proofs.lemmas.List.Edits.{sets};
 ghost use Rattle.frame.specs.Frames.{part};

@@ -1,7 +1,9 @@
 // What becomes of a draft.
+#![tactic(auto)]
+
 use passes::{Fault, Totals};
 
-#[derive(Drop)]
+#[derive(Clone, Copy)]
 pub enum Outcome {
     // The bytes of the file, and what it adds up to.
     Written(usize, Totals),

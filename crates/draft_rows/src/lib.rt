@@ -1,4 +1,6 @@
 // What the rows of a draft say. `rows` are the draft's numbers from a record's row on, `own` the numbers of its layout.
+#![tactic(auto)]
+
 ghost use Rattle.std.specs.Prelude.{◌||◌, List, ◌≡◌, ℕ, ◌+◌, ◌-◌, ◌/◌, ◌<◌, ◌≤◌, leb, eqb, length, get_or, drop};
 ghost use Rattle.text.specs.declared.character_set.CharacterSet.{CharacterSet};
 ghost use Rattle.layout.specs.Layout.{sized_parts};

@@ -1,4 +1,6 @@
 // The writer's first pass: whether a draft can be made out, and how many bytes it comes to. No byte of the buffer is touched.
+#![tactic(auto)]
+
 ghost use Rattle.std.specs.Prelude.{List, [], true, ◌≡◌, ℕ, ◌+◌, ◌/◌, ◌≤◌, length, get_or, drop};
 ghost use Rattle.text.specs.declared.character_set.CharacterSet.TheVariants.{Ascii};
 ghost use Rattle.layout.specs.Packing.{Packed};

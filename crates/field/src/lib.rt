@@ -1,4 +1,6 @@
 // When one field is right: its usage, and its Format line or defined values. Its data type is judged by `text`.
+#![tactic(auto)]
+
 ghost use Rattle.std.specs.Prelude.{◌≡◌, ◌&&◌, ◌||◌, ◌≤◌, length, get_or};
 ghost use Rattle.text.specs.Ranges.{within};
 ghost use Rattle.text.specs.Characters.{is_numeric, is_blank, is_dash};
@@ -12,14 +14,14 @@ ghost use Rattle.field.specs.Rules.{digits_with, one_or_two_digits, code, clippi
 use text::{CharacterSet, DataType};
 
 // Clause 6.3.
-#[derive(Drop)]
+#[derive(Clone, Copy)]
 pub enum Usage {
     Mandatory,
     Conditional,
 }
 
 // The lists of one-character codes that more than one range makes up, or that are letters.
-#[derive(Drop)]
+#[derive(Clone, Copy)]
 pub enum CodeList {
     FileTypes,
     YesNo,
@@ -34,7 +36,7 @@ pub enum CodeList {
 }
 
 // The forms of a routing number that a field's Format lines list.
-#[derive(Drop)]
+#[derive(Clone, Copy)]
 pub struct Forms {
     // TTTTAAAAC
     pub checked: bool,
@@ -49,7 +51,7 @@ pub struct Forms {
 }
 
 // A field's Format line or Defined Values (clauses 6.7 and 6.8).
-#[derive(Drop)]
+#[derive(Clone, Copy)]
 pub enum Rule {
     // Neither: the data type alone.
     DataTypeAlone,

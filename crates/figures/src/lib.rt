@@ -1,11 +1,13 @@
 // The six figures of a cash letter, and the running totals that add them up. The totals are updated where they stand, by `add` and `take`, thin
 // operations over the updates by value, `with` and `without`.
+#![tactic(auto)]
+
 ghost use Rattle.std.specs.Prelude.{true, ◌≡◌, ◌+◌, leb};
 ghost use Rattle.figures.specs.Figures.{no_figures, plus, minus, same, covers, fits};
 
 use measure::{Cents, Items, Sums, Views};
 
-#[derive(Drop)]
+#[derive(Clone, Copy)]
 pub struct Figures {
     pub bundles: u64,
     pub sums: Sums,

@@ -1,5 +1,7 @@
 // What of a draft's record cannot be had or breaks its rule. `rows` are the draft's numbers from the record's row on, `own` the numbers of its
 // layout.
+#![tactic(auto)]
+
 ghost use Rattle.std.specs.Prelude.{◌&&◌, cond, List, ◌≡◌, ℕ, ◌+◌, ◌-◌, ◌≤◌, min, length, get_or};
 ghost use Rattle.text.specs.declared.character_set.CharacterSet.TheVariants.{Ascii};
 ghost use Rattle.text.specs.DataTypes.{of_type};

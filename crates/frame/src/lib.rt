@@ -1,9 +1,11 @@
 // Records in a file: the four-byte length before each, and parts of a slice.
+#![tactic(auto)]
+
 ghost use Rattle.std.specs.Prelude.{◌≡◌, ◌+◌, ◌≤◌, length, get_or, drop};
 ghost use Rattle.frame.specs.Frames.{part, length_in, frame_at};
 
 // What stands at a length field's offset.
-#[derive(Drop)]
+#[derive(Clone, Copy)]
 pub enum Frame {
     // Fewer than four bytes are left, or fewer than the length says.
     Cut,
@@ -12,7 +14,7 @@ pub enum Frame {
 }
 
 // A place in a file where a length field is to stand.
-#[derive(Drop)]
+#[derive(Clone, Copy)]
 pub struct Cursor {
     pub offset: usize,
 }

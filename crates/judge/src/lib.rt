@@ -1,4 +1,6 @@
 // One record alone: its length, its fixed fields, its stated sizes and its variable fields.
+#![tactic(auto)]
+
 ghost use Rattle.std.specs.Prelude.{◌≡◌, List, [], ℕ, ◌+◌, ◌-◌, ◌≤◌, min, eqb, length, take, drop, true};
 ghost use Rattle.judge.specs.Alone.{number_of, field_of, line_holds, first_wrong, stated_size, stated_sizes, first_wrong_part, judged, type_of, judged_as, judged_record, alone};
 ghost use Rattle.judge.specs.ByNumbers.{by_own};
@@ -12,7 +14,7 @@ use layout::ImageViewData;
 use text::CharacterSet;
 
 // What is found of a record alone.
-#[derive(Drop)]
+#[derive(Clone, Copy)]
 pub enum Judged {
     Sound,
     WrongLength,

@@ -2,7 +2,7 @@
 use crate::packing::{ANS, BINARY, FIRST, SIZE};
 
 // Clause 7: File Header Record (Type 01).
-#[derive(Drop)]
+#[derive(Clone, Copy)]
 pub struct FileHeader {}
 
 impl FileHeader {
@@ -14,7 +14,7 @@ impl FileHeader {
 }
 
 // Clause 8: Cash Letter Header Record (Type 10).
-#[derive(Drop)]
+#[derive(Clone, Copy)]
 pub struct CashLetterHeader {}
 
 impl CashLetterHeader {
@@ -26,7 +26,7 @@ impl CashLetterHeader {
 }
 
 // Clause 9: Bundle Header Record (Type 20).
-#[derive(Drop)]
+#[derive(Clone, Copy)]
 pub struct BundleHeader {}
 
 impl BundleHeader {
@@ -38,7 +38,7 @@ impl BundleHeader {
 }
 
 // Clause 10: Check Detail Record (Type 25).
-#[derive(Drop)]
+#[derive(Clone, Copy)]
 pub struct CheckDetail {}
 
 impl CheckDetail {
@@ -50,7 +50,7 @@ impl CheckDetail {
 }
 
 // Clause 11: Check Detail Addendum A Record (Type 26).
-#[derive(Drop)]
+#[derive(Clone, Copy)]
 pub struct CheckDetailAddendumA {}
 
 impl CheckDetailAddendumA {
@@ -62,7 +62,7 @@ impl CheckDetailAddendumA {
 }
 
 // Clause 12: Check Detail Addendum B Record (Type 27).
-#[derive(Drop)]
+#[derive(Clone, Copy)]
 pub struct CheckDetailAddendumB {}
 
 impl CheckDetailAddendumB {
@@ -74,7 +74,7 @@ impl CheckDetailAddendumB {
 }
 
 // Clause 13: Check Detail Addendum C Record (Type 28).
-#[derive(Drop)]
+#[derive(Clone, Copy)]
 pub struct CheckDetailAddendumC {}
 
 impl CheckDetailAddendumC {
@@ -86,7 +86,7 @@ impl CheckDetailAddendumC {
 }
 
 // Clause 14: Return Record (Type 31).
-#[derive(Drop)]
+#[derive(Clone, Copy)]
 pub struct ReturnRecord {}
 
 impl ReturnRecord {
@@ -98,7 +98,7 @@ impl ReturnRecord {
 }
 
 // Clause 15: Return Addendum A Record (Type 32).
-#[derive(Drop)]
+#[derive(Clone, Copy)]
 pub struct ReturnAddendumA {}
 
 impl ReturnAddendumA {
@@ -110,7 +110,7 @@ impl ReturnAddendumA {
 }
 
 // Clause 16: Return Addendum B Record (Type 33).
-#[derive(Drop)]
+#[derive(Clone, Copy)]
 pub struct ReturnAddendumB {}
 
 impl ReturnAddendumB {
@@ -122,7 +122,7 @@ impl ReturnAddendumB {
 }
 
 // Clause 17: Return Addendum C Record (Type 34).
-#[derive(Drop)]
+#[derive(Clone, Copy)]
 pub struct ReturnAddendumC {}
 
 impl ReturnAddendumC {
@@ -134,7 +134,7 @@ impl ReturnAddendumC {
 }
 
 // Clause 18: Return Addendum D Record (Type 35).
-#[derive(Drop)]
+#[derive(Clone, Copy)]
 pub struct ReturnAddendumD {}
 
 impl ReturnAddendumD {
@@ -146,7 +146,7 @@ impl ReturnAddendumD {
 }
 
 // Clause 21: Image View Detail Record (Type 50).
-#[derive(Drop)]
+#[derive(Clone, Copy)]
 pub struct ImageViewDetail {}
 
 impl ImageViewDetail {
@@ -158,7 +158,7 @@ impl ImageViewDetail {
 }
 
 // Clause 22: Image View Data Record (Type 52).
-#[derive(Drop)]
+#[derive(Clone, Copy)]
 pub struct ImageViewData {}
 
 impl ImageViewData {
@@ -181,7 +181,7 @@ impl ImageViewData {
 }
 
 // Clause 23: Image View Analysis Record (Type 54).
-#[derive(Drop)]
+#[derive(Clone, Copy)]
 pub struct ImageViewAnalysis {}
 
 impl ImageViewAnalysis {
@@ -193,7 +193,7 @@ impl ImageViewAnalysis {
 }
 
 // Clause 26: Credit/Reconciliation Record (Type 61).
-#[derive(Drop)]
+#[derive(Clone, Copy)]
 pub struct CreditRecord {}
 
 impl CreditRecord {
@@ -205,7 +205,7 @@ impl CreditRecord {
 }
 
 // Clause 31: Bundle Control Record (Type 70).
-#[derive(Drop)]
+#[derive(Clone, Copy)]
 pub struct BundleControl {}
 
 impl BundleControl {
@@ -217,7 +217,7 @@ impl BundleControl {
 }
 
 // Clause 34: Cash Letter Control Record (Type 90).
-#[derive(Drop)]
+#[derive(Clone, Copy)]
 pub struct CashLetterControl {}
 
 impl CashLetterControl {
@@ -229,7 +229,7 @@ impl CashLetterControl {
 }
 
 // Clause 35: File Control Record (Type 99).
-#[derive(Drop)]
+#[derive(Clone, Copy)]
 pub struct FileControl {}
 
 impl FileControl {

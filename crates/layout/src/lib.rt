@@ -1,4 +1,6 @@
 // The layouts of the carried kinds of record.
+#![tactic(auto)]
+
 mod kinds;
 mod packed;
 mod packing;

@@ -8,7 +8,7 @@ use field::{CodeList, Forms, Rule, Usage};
 use text::DataType;
 
 // Where the characters of a field come from when a record is made out (request 4).
-#[derive(Drop)]
+#[derive(Clone, Copy)]
 pub enum Origin {
     Given,
     // Worked out: the record's type; the size of the part that the field sizes; how many addenda an item has; the addendum's number in it.

@@ -1,21 +1,23 @@
 // Cents, items, views and records: each a measure of its own, so that no sum can blend them.
+#![tactic(auto)]
+
 ghost use Rattle.std.specs.Prelude.{cond, ◌≡◌, ◌+◌, ◌<◌};
 ghost use Rattle.measure.specs.Measures.{cents, items, views, no_sums, together, capped, capped_sums, Small};
 
-#[derive(Drop)]
+#[derive(Clone, Copy)]
 pub struct Cents(pub u64);
 
-#[derive(Drop)]
+#[derive(Clone, Copy)]
 pub struct Items(pub u64);
 
-#[derive(Drop)]
+#[derive(Clone, Copy)]
 pub struct Views(pub u64);
 
-#[derive(Drop)]
+#[derive(Clone, Copy)]
 pub struct Records(pub u64);
 
 // What a bundle, a cash letter and the file each add up.
-#[derive(Drop)]
+#[derive(Clone, Copy)]
 pub struct Sums {
     pub debits: Items,
     pub debit: Cents,

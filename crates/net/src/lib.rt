@@ -1,4 +1,6 @@
 // The net position of an owner: credit cents minus debit cents, an i64, in a table as two's complement.
+#![tactic(auto)]
+
 ghost use Rattle.std.specs.Prelude.{◌^◌, ◌<◌, true, ◌≡◌, pos, negsuc, ◌+ℤ◌, ◌-ℤ◌};
 ghost use Rattle.std.specs.Int.Signed.{mag};
 ghost use Rattle.net.specs.Net.{net_of, bits_of, signed, is_net, within};

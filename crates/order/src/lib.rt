@@ -1,4 +1,6 @@
 // Which record may follow.
+#![tactic(auto)]
+
 ghost use Rattle.std.specs.Prelude.{cond, ◌≡◌, ◌≤◌};
 ghost use Rattle.order.specs.MayFollow.{is_carried, follows, is_check_or_return, is_item, is_addendum, may_follow};
 

@@ -1,4 +1,6 @@
 // The two passes of the reader over a file in lent memory: the first decides, the second writes the rows.
+#![tactic(auto)]
+
 ghost use Rattle.std.specs.Prelude.{cond, ◌≡◌, List, [], ◌∷◌, ◌++◌, ℕ, ◌+◌, ◌*◌, ◌<◌, ◌≤◌, length, drop};
 ghost use Rattle.std.proofs.lemmas.List.Edits.{sets};
 ghost use Rattle.layout.specs.Packing.{Packed};
@@ -15,7 +17,7 @@ use standing::Standing;
 use text::CharacterSet;
 
 // Why a file is refused.
-#[derive(Drop)]
+#[derive(Clone, Copy)]
 pub enum Fault {
     Size,
     Room,
@@ -39,21 +41,21 @@ pub enum Fault {
 }
 
 // What is found of one record in its place: a fault, or its type.
-#[derive(Drop)]
+#[derive(Clone, Copy)]
 pub enum Turn {
     Faulty(Fault),
     Good(u64),
 }
 
 // What stands at a record boundary that is not the end: a fault, or a good record's type and length.
-#[derive(Drop)]
+#[derive(Clone, Copy)]
 pub enum Step {
     Stop(Fault),
     On(u64, usize),
 }
 
 // What an accepted file adds up to.
-#[derive(Drop)]
+#[derive(Clone, Copy)]
 pub struct Totals {
     pub records: Records,
     pub letters: u64,
@@ -62,7 +64,7 @@ pub struct Totals {
     pub sums: Sums,
 }
 
-#[derive(Drop)]
+#[derive(Clone, Copy)]
 pub enum Answer {
     Accepted(Totals),
     // The fault, the record (from 1), and the offset of its length field.

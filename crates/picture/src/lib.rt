@@ -1,4 +1,6 @@
 // The picture call: a check's own picture from its own file.
+#![tactic(auto)]
+
 ghost use Rattle.std.specs.Prelude.{◌≡◌, ◌+◌, ◌≤◌, length};
 ghost use Rattle.ascii_copy.specs.AsciiCopy.{ascii_copy, Begins};
 ghost use Rattle.picture.specs.Picture.{number_of, field_of, start_of, size_of, bytes_of, in_body, picture_at};
@@ -9,7 +11,7 @@ use layout::ImageViewData;
 use text::CharacterSet;
 
 // What the picture call finds at an offset of a file.
-#[derive(Drop)]
+#[derive(Clone, Copy)]
 pub enum Found {
     // The Image Data part: where it starts in the file, and how long it is.
     At(usize, usize),

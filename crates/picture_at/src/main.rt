@@ -1,4 +1,6 @@
 // Reads a file from standard input and says where the picture of the 52 at an offset stands: the offset is the first argument.
+#![tactic(auto)]
+
 use libc::{STDIN_FILENO, STDOUT_FILENO};
 use picture::Found;
 use text::CharacterSet;

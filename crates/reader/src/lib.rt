@@ -1,4 +1,6 @@
 // The reader: the answer to a file, and in the lent table the rows of an accepted one.
+#![tactic(auto)]
+
 ghost use Rattle.std.specs.Prelude.{◌≡◌, length};
 ghost use Rattle.passes.specs.Reading.{answer_of, table_of};
 ghost use Rattle.arrangement.specs.Arranged.{Arranged};

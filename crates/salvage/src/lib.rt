@@ -1,4 +1,6 @@
 // A torn file salvaged: the good bundles and credits in a new file, and what became of each record in a list (request 11).
+#![tactic(auto)]
+
 ghost use Rattle.std.specs.Prelude.{true, ◌&&◌, ◌≡◌, leb, length};
 ghost use Rattle.layout.specs.Packing.{Packed};
 ghost use Rattle.salvage_model.specs.Walked.{walked};

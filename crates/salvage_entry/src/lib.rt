@@ -1,4 +1,6 @@
 // A file made out record by record, without a draft (request 4, reading 47): one record more, judged on the sheet.
+#![tactic(auto)]
+
 ghost use Rattle.std.specs.Prelude.{◌≤◌, length};
 ghost use Rattle.layout.specs.Packing.{Packed};
 ghost use Rattle.draft.specs.Values.{values_of_row};
@@ -9,13 +11,13 @@ use standing::Standing;
 use text::CharacterSet;
 
 // The figures of the records so far, and the bytes that they take; 2^64 - 1 stands for as many or more.
-#[derive(Drop)]
+#[derive(Clone, Copy)]
 pub struct Pen {
     pub standing: Standing,
     pub bytes: usize,
 }
 
-#[derive(Drop)]
+#[derive(Clone, Copy)]
 pub enum Entered {
     // The fault, the record (from 1), and the offset that its length field would have.
     Refused(Fault, u64, usize),

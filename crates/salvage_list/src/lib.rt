@@ -1,4 +1,6 @@
 // What became of each record walked, in the lent list (request 11, reading 66), and whether any is kept.
+#![tactic(auto)]
+
 ghost use Rattle.std.specs.Prelude.{List, [], ◌∷◌, ◌++◌, ◌≡◌, ◌+◌, ◌≤◌, length, drop};
 ghost use Rattle.std.proofs.lemmas.List.Edits.{sets};
 ghost use Rattle.layout.specs.Packing.{Packed};

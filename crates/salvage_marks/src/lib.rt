@@ -1,4 +1,6 @@
 // What becomes of each record walked, one after the other: kept, made new, or dropped with a number (request 11, readings 63 and 64).
+#![tactic(auto)]
+
 ghost use Rattle.std.specs.Prelude.{true, false, ◌||◌, cond, List, ◌∷◌, ◌≡◌, ℕ, ◌≤◌, ◌<◌, eqb, length};
 ghost use Rattle.layout.specs.Packing.{Packed};
 ghost use Rattle.file_as_records.specs.Framed.{Body};
@@ -15,7 +17,7 @@ use text::CharacterSet;
 
 // Where the marking stands: the next record; where the group ends in which it lies; where the records under its cash letter header end, at which
 // offset that header stands, whether it is sound alone, and whether it is kept; status and number of the group.
-#[derive(Drop)]
+#[derive(Clone, Copy)]
 pub struct Plan {
     pub at: usize,
     pub group: usize,
@@ -28,7 +30,7 @@ pub struct Plan {
 }
 
 // A record marked: where its body starts, how long it is, its type, its status, its number where it is dropped; and where the marking stands then.
-#[derive(Drop)]
+#[derive(Clone, Copy)]
 pub struct Marking {
     pub start: usize,
     pub size: usize,

@@ -1,4 +1,6 @@
 // The records of the new file one by one: those that are kept, and the new controls where they belong (request 11, readings 63 and 65).
+#![tactic(auto)]
+
 ghost use Rattle.std.specs.Prelude.{false, List, ◌≡◌, eqb};
 ghost use Rattle.layout.specs.Packing.{Packed};
 ghost use Rattle.file_as_records.specs.Framed.{Body};
@@ -12,7 +14,7 @@ use salvage_marks::{Marking, Plan};
 use text::CharacterSet;
 
 // Where the making out stands: what is marked next; whether a cash letter is open; whether the file's control has been made out.
-#[derive(Drop)]
+#[derive(Clone, Copy)]
 pub struct Cue {
     pub plan: Plan,
     pub open: bool,
@@ -21,7 +23,7 @@ pub struct Cue {
 
 // A record of the new file: whether it is kept as it stands or a new control; its type; the body that it is, or the walked control whose free fields
 // it takes (of none: size 0); how many addenda stand behind it; and where the making out stands then.
-#[derive(Drop)]
+#[derive(Clone, Copy)]
 pub struct Entry {
     pub kept: bool,
     pub kind: u64,

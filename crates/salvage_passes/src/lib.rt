@@ -1,4 +1,6 @@
 // The two passes over what is left of a torn file: whether a file can be made of it, and the file set out in the lent buffer.
+#![tactic(auto)]
+
 ghost use Rattle.std.specs.Prelude.{List, [], ◌∷◌, ◌++◌, ◌≡◌, length, drop};
 ghost use Rattle.layout.specs.Packing.{Packed};
 ghost use Rattle.draft.specs.Values.{Values};

@@ -1,4 +1,6 @@
 // What the new file needs beside the records kept as they stand: how many addenda an item has.
+#![tactic(auto)]
+
 ghost use Rattle.std.specs.Prelude.{List, ◌≡◌, ℕ};
 ghost use Rattle.file_as_records.specs.Framed.{Body};
 ghost use Rattle.draft.specs.Completed.{is_own_addendum};

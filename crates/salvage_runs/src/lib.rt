@@ -1,4 +1,6 @@
 // The runs of a torn file: what lies under a cash letter header, and the first fault of a run under it.
+#![tactic(auto)]
+
 ghost use Rattle.std.specs.Prelude.{true, List, [], ◌≡◌, ℕ, ◌<◌, get_or};
 ghost use Rattle.layout.specs.Packing.{Packed};
 ghost use Rattle.standing.specs.Standing.{standing, onward, capped_figures};
@@ -17,7 +19,7 @@ use standing::Standing;
 use text::CharacterSet;
 
 // A group under a header: where it ends, whether it is a run, and the type of its first record.
-#[derive(Drop)]
+#[derive(Clone, Copy)]
 pub struct Grouped {
     pub end: usize,
     pub run: bool,

@@ -1,4 +1,6 @@
 // The records of a torn file one by one: how far the lengths lead, and where records of a sort end.
+#![tactic(auto)]
+
 ghost use Rattle.std.specs.Prelude.{Bool, List, ◌≡◌, ℕ, ◌+◌, ◌<◌, ◌≤◌, length};
 ghost use Rattle.file_as_records.specs.Framed.{Body};
 ghost use Rattle.salvage_model.specs.Walked.{walked_from};
@@ -8,14 +10,14 @@ use frame::{Cursor, Frame};
 use text::CharacterSet;
 
 // How far the walk leads, and over how many records.
-#[derive(Drop)]
+#[derive(Clone, Copy)]
 pub struct Way {
     pub end: usize,
     pub count: u64,
 }
 
 // A record: where its body starts, how long it is, where the next one stands, and its type.
-#[derive(Drop)]
+#[derive(Clone, Copy)]
 pub struct Seen {
     pub start: usize,
     pub size: usize,
@@ -24,7 +26,7 @@ pub struct Seen {
 }
 
 // What is passed over: the records under a cash letter header, those of a stretch behind its 20, the views behind a 61.
-#[derive(Drop)]
+#[derive(Clone, Copy)]
 pub enum Sort {
     UnderHeader,
     InStretch,

@@ -1,5 +1,7 @@
 // The writer's second pass: a draft that can be made out is set out in the lent buffer, record behind record. The writer of a file lends the rest of
 // the buffer to the writer of a bundle, and that one the rest to the writer of a record.
+#![tactic(auto)]
+
 ghost use Rattle.std.specs.Prelude.{[], ◌∷◌, ◌++◌, ◌≡◌, ◌+◌, ◌≤◌, length, get_or, drop};
 ghost use Rattle.std.proofs.lemmas.List.Edits.{sets};
 ghost use Rattle.layout.specs.Packing.{Packed};
@@ -14,7 +16,7 @@ use standing::Standing;
 use text::CharacterSet;
 
 // How far the setting out has come: numbers of the draft, bytes of the buffer, and what then stands before the next record.
-#[derive(Drop)]
+#[derive(Clone, Copy)]
 pub struct Progress {
     pub numbers: usize,
     pub bytes: usize,

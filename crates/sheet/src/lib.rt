@@ -1,4 +1,6 @@
 // The sheet on which a record's fixed part is completed.
+#![tactic(auto)]
+
 ghost use Rattle.std.specs.Prelude.{◌≡◌};
 ghost use Rattle.sheet.specs.Sheet.{slot_of};
 

@@ -3,6 +3,8 @@
 // against those before it, and calls for what the figures show behind it. A record that it does not call for has no place there.
 // The names are the standard's, cut short, since the proof of the cycle is a module that is named by all of them. `own_` is what stands directly in
 // a cash letter: a credit of its own, with its views, which Figure 1c leaves out "in order to enhance clarity".
+#![tactic(auto)]
+
 ghost use Rattle.std.specs.Prelude.{◌≡◌, true, false, ◌≤◌, length};
 ghost use Rattle.text.specs.CharacterSet.{set_of};
 ghost use Rattle.slow_step.specs.Places.{IsAnswer, Called};

@@ -1,5 +1,7 @@
 // When one field is right, for the slow reader (request 12): its usage, its data type, and its Format or Defined Values. It calls nothing of
 // `field` and shares its types and definitions.
+#![tactic(auto)]
+
 mod formats;
 mod values;
 

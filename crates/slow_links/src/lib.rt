@@ -1,4 +1,6 @@
 // What the slow reader asks of a record against those before it: links, and the totals of a control record.
+#![tactic(auto)]
+
 ghost use Rattle.std.specs.Prelude.{◌≡◌, ◌&&◌, ◌||◌, not, cond, ℕ, ◌+◌, ◌<◌, ◌≤◌, eqb};
 ghost use Rattle.text.specs.Characters.{is_blank};
 ghost use Rattle.text.specs.DataTypes.{every};

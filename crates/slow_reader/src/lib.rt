@@ -1,4 +1,6 @@
 // The slow reader: the answer of the cycle, and in the lent table the rows of an accepted file.
+#![tactic(auto)]
+
 ghost use Rattle.std.specs.Prelude.{cond, ◌≡◌, ◌++◌, ◌+◌, ◌≤◌, length, drop};
 ghost use Rattle.std.proofs.lemmas.List.Edits.{sets};
 ghost use Rattle.text.specs.CharacterSet.{set_of};

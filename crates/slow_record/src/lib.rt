@@ -1,5 +1,7 @@
 // One record alone, for the slow reader (request 12): where it stands in the file, its type, and its fields. It calls nothing of `frame`, `layout` or
 // `judge` and shares their types and definitions.
+#![tactic(auto)]
+
 mod lines;
 mod table;
 

@@ -1,4 +1,6 @@
 // One record that was called for, and what stands behind it.
+#![tactic(auto)]
+
 ghost use Rattle.std.specs.Prelude.{◌≡◌, false, leb, length};
 ghost use Rattle.frame.specs.Unless.{unless};
 ghost use Rattle.judge.specs.Alone.{type_of, judged_as};
@@ -19,7 +21,7 @@ use text::CharacterSet;
 
 // A record that was called for: the answer where it has a fault; else the figures with it, the offset behind it, and the type of the
 // record that stands there.
-#[derive(Drop)]
+#[derive(Clone, Copy)]
 pub enum Entered {
     Stop(Answer),
     On(Standing, usize, u64),

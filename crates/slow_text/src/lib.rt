@@ -1,4 +1,6 @@
 // Clause 5 for the slow reader (request 12). It calls nothing of `text` and shares its types and definitions.
+#![tactic(auto)]
+
 mod basic_types;
 mod data_types;
 mod numbers;

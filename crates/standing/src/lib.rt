@@ -1,4 +1,6 @@
 // What stands before a record: the figures of all the records read so far, and how one record more moves them on.
+#![tactic(auto)]
+
 ghost use Rattle.std.specs.Prelude.{◌≡◌, true, false, ◌||◌, cond, List, [], ◌∷◌, ℕ, ◌+◌, ◌-◌, ◌<◌, ◌≤◌, eqb, get_or};
 ghost use Rattle.text.specs.declared.character_set.CharacterSet.{CharacterSet};
 ghost use Rattle.text.specs.Number.{number};
@@ -10,7 +12,7 @@ ghost use Rattle.standing.specs.Standing.{standing, onward, capped_figures, Room
 use measure::{Cents, Items, Records, Sums, Views};
 use text::CharacterSet;
 
-#[derive(Drop)]
+#[derive(Clone, Copy)]
 pub struct Standing {
     // The type of the last record, 0 at the start; whether a bundle is open; the type of the checks or returns in the open bundle, and that of
     // the newest item in it or, where none is open, directly in the cash letter, 0 where there is none yet.

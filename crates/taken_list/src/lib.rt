@@ -1,4 +1,6 @@
 // The list of file numbers taken, in lent memory: from entry on it alone says whether an owner has entered a file number (request 10).
+#![tactic(auto)]
+
 ghost use Rattle.std.specs.Prelude.{true, ◌≡◌, ◌≤◌, leb, get_or};
 ghost use Rattle.book_model.specs.PlainList.{is_taken};
 ghost use Rattle.book_model.specs.Table.{places_claimed, places_there, free_places, taken_from, taken_by, is_list, with_taken};

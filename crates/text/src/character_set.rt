@@ -2,7 +2,7 @@
 ghost use Rattle.std.specs.Prelude.{◌≡◌};
 ghost use Rattle.text.specs.CharacterSet.{set_of};
 
-#[derive(Drop)]
+#[derive(Clone, Copy)]
 pub enum CharacterSet {
     Ascii,
     Ebcdic,

@@ -11,7 +11,7 @@ use crate::characters::{
 };
 
 // By the names that the standard gives them, in the order of the clause; ANC (5.3.4) is in no carried record.
-#[derive(Drop)]
+#[derive(Clone, Copy)]
 pub enum DataType {
     AB,
     A,

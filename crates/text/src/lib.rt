@@ -1,4 +1,6 @@
 // Clause 5: characters, field data types, and the number in a run of digits.
+#![tactic(auto)]
+
 mod character_set;
 mod characters;
 mod data_types;

@@ -1,5 +1,7 @@
 // The tags of one image, declared as TIFF, against X9.100-181 (request 13). It is a call of its own: letters are read whatever their pictures hold. No
 // byte of the picture itself is looked at, so the time grows with the directory alone.
+#![tactic(auto)]
+
 ghost use Rattle.std.specs.Prelude.{cond, ◌≡◌, ◌+◌, ◌*◌, ◌≤◌, min, ltb, length};
 ghost use Rattle.tiff_directory.specs.Entries.{entries_from};
 ghost use Rattle.tiff.specs.Image.{is_marked, type_size, value_inside, values_inside, first_with, is_number, number_in, strip_inside, directory_inside, is_inside, entries_of, entry_count, directory_start, disordered, lowest};
@@ -8,7 +10,7 @@ ghost use Rattle.tiff.specs.Judged.{number_of, tag_of, tags_of};
 
 use tiff_directory::Entry;
 
-#[derive(Drop)]
+#[derive(Clone, Copy)]
 pub enum Tags {
     Right,
     // Something lies outside the image.

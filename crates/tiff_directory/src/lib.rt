@@ -1,10 +1,12 @@
 // The entries of a TIFF directory. A directory reader holds the image bytes and moves from entry to entry; what it does is done by functions on a
 // slice and a number. Any image and any place get their answer: what lies past the end counts as 0.
+#![tactic(auto)]
+
 ghost use Rattle.std.specs.Prelude.{◌≡◌, ◌+◌, ◌<◌, ◌≤◌, ◌^◌, get_or};
 ghost use Rattle.tiff_directory.specs.Entries.{short_at, long_at, EntryRead};
 
 // One entry: its tag, its type, its count, and its four value bytes as a number, which is the value's offset where the value is longer.
-#[derive(Drop)]
+#[derive(Clone, Copy)]
 pub struct Entry {
     pub tag: u64,
     pub kind: u64,
@@ -13,7 +15,7 @@ pub struct Entry {
 }
 
 // The image, and where the entry stands that is read next.
-#[derive(Drop)]
+#[derive(Clone, Copy)]
 pub struct DirectoryReader<'a> {
     pub image: &'a [u8],
     pub at: usize,

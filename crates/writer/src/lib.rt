@@ -1,4 +1,6 @@
 // The writer: a draft made out in the lent buffer.
+#![tactic(auto)]
+
 ghost use Rattle.std.specs.Prelude.{◌≡◌, length};
 ghost use Rattle.draft.specs.Values.{values_of_draft};
 ghost use Rattle.draft.specs.Drafted.{outcome_of, buffer_of};

@@ -1,4 +1,6 @@
 // Reads one file from standard input and prints one line: accepted, with what it adds up to, or refused, with the first fault.
+#![tactic(auto)]
+
 use libc::{STDIN_FILENO, STDOUT_FILENO};
 use passes::{Answer, Fault, Totals};
 
