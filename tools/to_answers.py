@@ -16,29 +16,45 @@ PATH = re.compile(r"(?<![\w.'′-])([\w₀-₉]+)((?:\.before)*)\.([A-Za-z_][\w'
 
 def plain(name):
     """A name of either form: scripts before this one turned dashes, capitals and endings of the names of steps."""
-    return re.sub(r"_lem$", "", name.replace("-", "_").lower())
+    return re.sub(r"_lem$", "", re.sub(r"^Is(?=[A-Z])", "", name).replace("-", "_").lower())
 
 
 class Function:
     def __init__(self, names):
-        self.needs = {plain(a): b for a, b in names["needs"]}
-        self.steps = {}
-        for place in names["places"]:
+        self.needs, self.place_of = {}, {}
+        self.order = [plain(a) for a, _ in names["needs"]]
+        for (old, new), (place, _) in zip(names["needs"], names["asked_at"]):
+            self.needs[plain(old)] = new
+            self.place_of[plain(old)] = plain(place)
+        self.places, self.steps = {}, {}
+        for n, place in enumerate(names["places"]):
             old, new = place[2]
+            arm = names["arms"][n] if n < len(names["arms"]) else None
+            told = {(plain(step),) + tuple(path): f"{arm[0]}.{field}" for field, step, path in arm[2]} if arm else {}
+            by_name = names["places_by_name"][n] if n < len(names["places_by_name"]) else None
+            self.places[plain(place[0])] = (place[1] and plain(place[1]), plain(old), new, told, by_name)
             if old and new:
                 self.steps[plain(old)] = new
         self.at = {plain(a): b for a, b in names["asked_at"]}
-        self.given = {}
-        for arm in names["arms"]:
-            if not arm:
-                continue
-            for field, step, path in arm[2]:
-                if path:
-                    self.given[(plain(step),) + tuple(path)] = f"{arm[0]}.{field}"
         self.loops = {a[0][0]: (a[0][1], a[1]) for a in names["loops"]}
 
+    def told(self, place, befores, key):
+        """The arm's own name for a fact, where the place is that of a match."""
+        for _ in range(befores):
+            if place in self.places:
+                place = self.places[place][0]
+        while place in self.places:
+            parent, old, new, told, _ = self.places[place]
+            for n in range(len(key), 0, -1):
+                if key[:n] in told:
+                    return told[key[:n]], key[n:]
+            if old == key[0]:
+                return new, key[1:]
+            place = parent
+        return None
 
-def renamed(f, text, problems):
+
+def renamed(f, text, place, problems):
     """Paths through the older record of facts, each as the step's own name in today's."""
 
     def one(m):
@@ -49,11 +65,11 @@ def renamed(f, text, problems):
             return head + rest if rest else head
         if step in ("args", "requires", "ranges"):
             return f"{head}.{step}{rest}"
-        key = (plain(step),) + tuple(x for x in rest.split(".") if x)
-        for n in range(len(key), 1, -1):
-            if key[:n] in f.given:
-                tail = "".join("." + x for x in key[n:])
-                return f"{head}.{f.given[key[:n]]}{tail}"
+        words = [x for x in rest.split(".") if x]
+        found = f.told(place, before.count(".before"), (plain(step),) + tuple(words))
+        if found:
+            new, tail = found
+            return ".".join([head, new] + words[len(words) - len(tail):])
         new = f.steps.get(plain(step))
         if new is None:
             problems.append(step)
@@ -62,6 +78,45 @@ def renamed(f, text, problems):
 
     # a test of `!x` now says that `x` is false, where it said that `not x` is true
     return re.sub(r"not-(?:true|false) (?:_|[\w.-]+|\([^()]*\)) (c\.if-not-[\w-]+\.(?:true|false))", r"\1", PATH.sub(one, text))
+
+
+HELPER = re.compile(r"^(?:abbrev\s+)?([^\s:(){}]+) : \((\w+) : tie\.((?:After|Else|Start|Then|At|In)[\w-]*)\) → (.*)$")
+
+
+def helpers(f, declared, problems):
+    """Lemmas over the facts at a place: {name: (variable, type, body, unfolding)}, which are written where they are used."""
+    out = {}
+    for d in declared:
+        m = HELPER.match(d["lines"][0])
+        if not m or d["name"] is None:
+            continue
+        name, var, place, typ = m.groups()
+        rest = "\n".join(d["lines"][1:])
+        unfolding = [l for l in d["lines"][1:] if l.startswith("unfolding")]
+        k = re.search(r"(?m)^" + re.escape(name) + r" " + re.escape(var) + r" =\s*(.*)\Z", rest, re.S)
+        if not k or re.search(r"(?m)^" + re.escape(name) + r"(?![\w'-])", rest[k.end(0):]) or "where" in rest.split():
+            continue
+        out[name] = (var, typ, k.group(1).rstrip(), unfolding, plain(place))
+    return out
+
+
+def inlined(f, text, them, problems, unfolding):
+    """Each use of a lemma over a place's facts, as a `let` of its type at the facts that are known here."""
+    for _ in range(6):
+        change = False
+        for name, (var, typ, body, more, place) in them.items():
+            pattern = re.compile(r"(?<![\w.'′-])" + re.escape(name) + r" (c(?:\.before)*)(?![\w.'′-])")
+
+            def put(m):
+                it = f"(let {plain(name)}' : {typ} = {body} in {plain(name)}')"
+                unfolding.extend(x for x in more if x not in unfolding)
+                return renamed(f, it, place, problems) if var == "c" else m.group(0)
+
+            new = pattern.sub(put, text)
+            change, text = change or new != text, new
+        if not change:
+            break
+    return text
 
 
 def parts(text):
@@ -116,8 +171,7 @@ def invariant(f, d, problems):
 NEED = re.compile(r"tie\.Need-([\w'-]+)((?:\s+(?:invariant|decreases)-[\w-]+)*)")
 
 
-def answer(f, d, problems):
-    text = "\n".join(d["lines"])
+def answer(f, d, problems, them, own):
     m = NEED.search(d["lines"][0])
     old = m.group(1)
     new = f.needs.get(plain(old))
@@ -131,8 +185,21 @@ def answer(f, d, problems):
     if not re.fullmatch(re.escape(d["name"]) + r" : ", signature):
         problems.append("signature of " + old)
     rest = "\n".join(d["lines"][1:])
+    others = {a: b for a, b in own.items() if a != d["name"]}
+    if others:
+        cited = re.compile(r"(?<![\w.'′-])(" + "|".join(sorted(map(re.escape, others), key=len, reverse=True)) + r")(?![\w'′-])")
+        rest = cited.sub(lambda k: others[k.group(1)], rest)
     rest = re.sub(r"(?m)^" + re.escape(d["name"]) + r"(?![\w'-])((?:\s+[^\s=]+)*)\s*=", lambda k: new + re.sub(r"\s+κs\b", "", k.group(1)) + " =", rest)
-    rest = renamed(f, rest, problems)
+    unfolding = []
+    rest = renamed(f, rest, f.place_of.get(plain(old)), problems) if not them else rest
+    if them:
+        # the uses first, while the place of each is still written, then the paths
+        first = inlined(f, rest, them, problems, unfolding)
+        rest = renamed(f, first, f.place_of.get(plain(old)), problems)
+    more = [w for line in unfolding for w in line.split()[1:]]
+    if more:
+        here = re.match(r"unfolding ([^\n]*)\n", rest)
+        rest = "unfolding " + " ".join(dict.fromkeys((here.group(1).split() if here else []) + more)) + "\n" + (rest[here.end():] if here else rest)
     if re.fullmatch(re.escape(new) + r"( c| _)* = search rules\s*", rest.strip()):
         return new, None
     return new, head + "\n" + rest.rstrip()
@@ -164,6 +231,39 @@ def used(body, uses):
     return kept
 
 
+def arguments(text):
+    """The arguments of a call, by blanks outside brackets."""
+    out, depth, now = [], 0, ""
+    for ch in text:
+        depth += ch in "([{"
+        depth -= ch in ")]}"
+        if ch.isspace() and depth == 0:
+            if now:
+                out.append(now)
+            now = ""
+        else:
+            now += ch
+    return out + ([now] if now else [])
+
+
+def written_in(f, d):
+    """The answers that stand as functions in the call of `tie.spec` itself, as declarations."""
+    text = "\n".join(d["lines"])
+    inside = text[text.index("tie.spec") + len("tie.spec"):].rstrip()
+    opened = text[: text.index("tie.spec")]
+    if opened.rstrip().endswith("("):
+        inside = inside[:-1]
+    args = [a for a in arguments(inside) if not re.match(r"(invariant|decreases)-", a)]
+    unfolding = [l for l in d["lines"] if l.startswith("unfolding")]
+    made = []
+    for need, arg in zip(f.order, args):
+        m = re.match(r"\(λ\s+(\w+)((?:\s+\S+)*?)\.\s*(.*)\)\Z", arg, re.S)
+        if m:
+            name = "it-" + need
+            made.append({"name": name, "comment": [], "lines": [f"{name} : tie.Need-{need}"] + unfolding + [f"{name} {m.group(1)} = {m.group(3)}"]})
+    return made
+
+
 def turn(path, f, crate, function):
     text = open(path, encoding="utf-8").read()
     if "tie.spec" not in text:
@@ -173,28 +273,28 @@ def turn(path, f, crate, function):
     module = re.search(r"use (Rattle\.[\w.+]+)\.Tie as tie", text).group(1)
     head = [l for l in text.split("\n") if l.startswith("--")][:1] if text.startswith("--") else []
     problems, invariants, answers = [], [], []
+    for d in list(declared):
+        if d["name"] and "tie.spec" in "\n".join(d["lines"]):
+            declared += written_in(f, d)
+    own = {d["name"]: f.needs.get(plain(NEED.search(d["lines"][0]).group(1))) for d in declared if "tie.Need-" in d["lines"][0]}
+    own = {a: b for a, b in own.items() if b and a != b}
+    them = helpers(f, declared, problems)
     for d in declared:
         first = d["lines"][0]
         if d["name"] and re.match(r"(invariant|decreases)-", d["name"]) and "tie." in first:
             invariants.append(invariant(f, d, problems))
         elif "tie.Need-" in first:
-            new, it = answer(f, d, problems)
+            new, it = answer(f, d, problems, them, own)
             if it is not None:
                 answers.append(it)
-        elif "tie.spec" in "\n".join(d["lines"]):
+        elif "tie.spec" in "\n".join(d["lines"]) or d["name"] in them:
             continue
         else:
-            it = renamed(f, "\n".join(d["lines"]), problems)
+            it = renamed(f, "\n".join(d["lines"]), None, problems)
             it = re.sub(r"tie\.((?:After|Else|Start)[\w-]*)", lambda m: "goal." + f.at.get(plain(m.group(1)), m.group(1)), it)
             answers.append("\n".join(d["comment"] + [it]) if not any(re.match(r"-- src/", c) for c in d["comment"]) else it)
     folder = os.path.dirname(path)
     os.remove(path)
-    # an answer that cites another by its older name
-    own = {d["name"]: f.needs.get(plain(NEED.search(d["lines"][0]).group(1))) for d in declared if "tie.Need-" in d["lines"][0]}
-    own = {a: b for a, b in own.items() if b and a != b}
-    if own:
-        cited = re.compile(r"(?<![\w.'′-])(" + "|".join(sorted(map(re.escape, own), key=len, reverse=True)) + r")(?![\w'′-])")
-        answers = [a.split("\n", 1)[0] + "\n" + cited.sub(lambda m: own[m.group(1)], a.split("\n", 1)[1]) if a.startswith("pub ") and "\n" in a else a for a in answers]
     for name, these, last in (("Invariants", invariants, f"use {module}.Given as goal"), ("Answers", answers, f"use {module}.Goals as goal")):
         if these:
             body = "\n\n".join(t.strip("\n") for t in these)

@@ -21,6 +21,7 @@ tested b x (y ∷ ys) = tested (b || eqb x y) x ys ∙ or_assoc b (eqb x y) (is_
 
 -- `match x { k | j | .. => .., _ => .. }`
 pub is_key : (ks : List ℕ) (x : ℕ) → OneOf ks x → true ≡ is_one_of x ks
+is_key [] x h = elim h [ ]
 is_key (k ∷ []) x h = rw (eq-eqb x k h)
 is_key (k ∷ (j ∷ js)) x (inl h) = rw (eq-eqb x k h)
 is_key (k ∷ (j ∷ js)) x (inr h) = rw (← is_key (j ∷ js) x h, or-true)

@@ -1,0 +1,24 @@
+use Rattle.agree.specs.Links.{link_fault}
+use mathlib.Core.Path.{sym, ◌∙◌}
+use borrow.Author.Tests.{eq-eqb, ne_eqb}
+use Rattle.agree.proofs.link_fault.Goals as goal
+
+pub returns-then-not-addenda_kept : goal.returns-then-not-addenda_kept
+unfolding link_fault
+returns-then-not-addenda_kept c = simp (sym c.addenda_kept.ensures ∙ c.if-not-addenda_kept.true)
+
+pub returns-then-not-annex_b_kept : goal.returns-then-not-annex_b_kept
+unfolding link_fault
+returns-then-not-annex_b_kept c = simp (sym c.addenda_kept.ensures ∙ c.if-not-addenda_kept.false, sym c.annex_b_kept.ensures ∙ c.if-not-annex_b_kept.true)
+
+pub returns-then-not-numbered_on : goal.returns-then-not-numbered_on
+unfolding link_fault
+returns-then-not-numbered_on c = simp (sym c.addenda_kept.ensures ∙ c.if-not-addenda_kept.false, sym c.annex_b_kept.ensures ∙ c.if-not-annex_b_kept.false, sym c.numbered_on.ensures ∙ c.if-not-numbered_on.true)
+
+pub returns-then-kind-ne52 : goal.returns-then-kind-ne52
+unfolding link_fault
+returns-then-kind-ne52 c = simp (sym c.addenda_kept.ensures ∙ c.if-not-addenda_kept.false, sym c.annex_b_kept.ensures ∙ c.if-not-annex_b_kept.false, sym c.numbered_on.ensures ∙ c.if-not-numbered_on.false, ne_eqb _ _ c.if-kind-ne52.true)
+
+pub returns : goal.returns
+unfolding link_fault
+returns c = simp (sym c.addenda_kept.ensures ∙ c.if-not-addenda_kept.false, sym c.annex_b_kept.ensures ∙ c.if-not-annex_b_kept.false, sym c.numbered_on.ensures ∙ c.if-not-numbered_on.false, eq-eqb _ _ c.if-kind-ne52.false) c.view_fault.ensures
