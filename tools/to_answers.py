@@ -38,6 +38,13 @@ class Function:
         self.at = {plain(a): b for a, b in names["asked_at"]}
         self.loops = {a[0][0]: (a[0][1], a[1]) for a in names["loops"]}
 
+    def need(self, old):
+        """The goal's key: the older name said which kind of goal it is, or did not."""
+        key = plain(old)
+        if key not in self.needs:
+            key = re.sub(r"^(overflow|slice_bounds|bounds|nonzero|offset_bounds)_", "", key)
+        return key
+
     def told(self, place, befores, key):
         """The arm's own name for a fact, where the place is that of a match."""
         for _ in range(befores):
@@ -174,9 +181,7 @@ NEED = re.compile(r"tie\.Need-([\w'-]+)((?:\s+(?:invariant|decreases)-[\w-]+)*)"
 def answer(f, d, problems, them, own):
     m = NEED.search(d["lines"][0])
     old = m.group(1)
-    new = f.needs.get(plain(old))
-    if new is None:
-        new = f.needs.get(re.sub(r"^(overflow|slice_bounds|bounds|nonzero|offset_bounds)_", "", plain(old)))
+    new = f.needs.get(f.need(old))
     if new is None:
         problems.append("goal " + old)
         new = old
@@ -191,11 +196,11 @@ def answer(f, d, problems, them, own):
         rest = cited.sub(lambda k: others[k.group(1)], rest)
     rest = re.sub(r"(?m)^" + re.escape(d["name"]) + r"(?![\w'-])((?:\s+[^\s=]+)*)\s*=", lambda k: new + re.sub(r"\s+κs\b", "", k.group(1)) + " =", rest)
     unfolding = []
-    rest = renamed(f, rest, f.place_of.get(plain(old)), problems) if not them else rest
+    rest = renamed(f, rest, f.place_of.get(f.need(old)), problems) if not them else rest
     if them:
         # the uses first, while the place of each is still written, then the paths
         first = inlined(f, rest, them, problems, unfolding)
-        rest = renamed(f, first, f.place_of.get(plain(old)), problems)
+        rest = renamed(f, first, f.place_of.get(f.need(old)), problems)
     more = [w for line in unfolding for w in line.split()[1:]]
     if more:
         here = re.match(r"unfolding ([^\n]*)\n", rest)
@@ -276,7 +281,7 @@ def turn(path, f, crate, function):
     for d in list(declared):
         if d["name"] and "tie.spec" in "\n".join(d["lines"]):
             declared += written_in(f, d)
-    own = {d["name"]: f.needs.get(plain(NEED.search(d["lines"][0]).group(1))) for d in declared if "tie.Need-" in d["lines"][0]}
+    own = {d["name"]: f.needs.get(f.need(NEED.search(d["lines"][0]).group(1))) for d in declared if "tie.Need-" in d["lines"][0]}
     own = {a: b for a, b in own.items() if b and a != b}
     them = helpers(f, declared, problems)
     for d in declared:

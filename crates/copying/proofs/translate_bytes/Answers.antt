@@ -1,0 +1,19 @@
+use Prim.Native.Nat.{◌-◌}
+use Rattle.frame.specs.Frames.{part}
+use Rattle.ascii_copy.specs.AsciiCopy.{translated}
+use mathlib.Core.Path.{◌∙◌}
+use Rattle.copying.proofs.Laws.{down-none, down-one, down-all, length-translated, translated-at}
+use borrow.Author.Rules.{rules}
+use Rattle.copying.proofs.translate_bytes.Goals as goal
+
+pub loop-i-init : goal.loop-i-init
+loop-i-init c = down-none
+
+pub loop-i-preserved : goal.loop-i-preserved
+loop-i-preserved c = down-one (length-translated c.args.text.now c.args.from c.args.size c.requires.0) c.loop-i.invariant (search rules) _ (c.counterpart_of.ensures ∙ translated-at c.args.text.now c.args.from c.args.size c.requires.0 c.loop-i.i (search rules))
+
+pub shape_of-out : goal.shape_of-out
+shape_of-out c = c.loop-i.invariant.long
+
+pub returns : goal.returns
+returns c = down-all (length-translated c.args.text.now c.args.from c.args.size c.requires.0) c.loop-i.invariant (search rules)
