@@ -1,7 +1,7 @@
 -- "Items in a bundle are all 25 or all 31, as the first": from item to item, as the reading tests it. Assumes nothing.
 use Prim.Native.Nat.{ℕ}
 use mathlib.Core.Bool.{Bool, true, false, ◌||◌, cond}
-use mathlib.Core.Path.{◌≡◌, refl, sym}
+use mathlib.Core.Path.{◌≡◌, refl, sym, subst}
 use mathlib.Core.List.{List, [], ◌∷◌}
 use lib.Dec.{eqb}
 use borrow.Author.Tests.{eqb-true, eq-eqb}
@@ -20,7 +20,7 @@ As t us = All (λ (u : ℕ). u ≡ t) us
 same_in : (present t : ℕ) (ts : List ℕ) (fresh : Bool) → fresh || eqb present t ≡ true → As t ts
     → AllTheFirst (cond fresh (t ∷ ts) (present ∷ t ∷ ts))
 same_in present t ts true e h = h
-same_in present t ts false e h = rw (eqb-true present t e) (refl, h)
+same_in present t ts false e h = (sym (eqb-true present t e), subst (λ (u : ℕ). As u ts) (sym (eqb-true present t e)) h)
 
 same_out : (present t : ℕ) (ts : List ℕ) (fresh : Bool) → AllTheFirst (cond fresh (t ∷ ts) (present ∷ t ∷ ts))
     → (fresh || eqb present t ≡ true) × As t ts

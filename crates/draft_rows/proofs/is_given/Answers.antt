@@ -1,0 +1,2 @@
+use Rattle.draft_rows.proofs.Origins.{others}
+use Rattle.draft_rows.proofs.is_given.Goals as goal
