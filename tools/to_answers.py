@@ -70,6 +70,9 @@ def renamed(f, text, place, problems):
             return m.group(0)
         if step == "before":
             return head + rest if rest else head
+        if step == "args" or plain(step) in f.loops:
+            # names of the source keep their underscores
+            rest = re.sub(r"^\.[\w-]+", lambda k: k.group(0).replace("-", "_") if k.group(0) != ".invariant" else k.group(0), rest)
         if step in ("args", "requires", "ranges"):
             return f"{head}.{step}{rest}"
         words = [x for x in rest.split(".") if x]
@@ -183,8 +186,9 @@ def answer(f, d, problems, them, own):
     old = m.group(1)
     new = f.needs.get(f.need(old))
     if new is None:
+        # today's check has other goals for the two ends of a slice, and proves them by itself
         problems.append("goal " + old)
-        new = old
+        return old, None
     signature = d["lines"][0][: m.start()]
     head = f"pub {new} : goal.{new}"
     if not re.fullmatch(re.escape(d["name"]) + r" : ", signature):
