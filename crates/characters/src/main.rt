@@ -3,86 +3,94 @@
 // docs/CHARACTERS.md is made from it.
 #![tactic(auto)]
 
-use libc::STDOUT_FILENO;
+use std::io;
 use text::{CharacterSet, DataType};
 
-fn say(admitted: bool) {
-    if admitted {
-        io::write_all(STDOUT_FILENO, b" 1");
-        return;
+// In the order of the columns.
+const DATA_TYPES: [DataType; 13] = [
+    DataType::AB,
+    DataType::A,
+    DataType::AN,
+    DataType::ANS,
+    DataType::Binary,
+    DataType::N,
+    DataType::NB,
+    DataType::NBD,
+    DataType::NBQ,
+    DataType::NBMc,
+    DataType::NBMcd,
+    DataType::NBMcdo,
+    DataType::NBMU,
+];
+
+fn say(rt: &impl Print, admitted: bool) -> io::Result<()> {
+    let digit = u8::from(admitted);
+    print!(rt; " {digit}")
+}
+
+fn say_basic_types(rt: &impl Print, set: CharacterSet, byte: u8) -> io::Result<()> {
+    let answers = [
+        text::is_alphabetic(set, byte),
+        text::is_blank(set, byte),
+        text::is_numeric(set, byte),
+        text::is_questionable(set, byte),
+        text::is_special(set, byte),
+        text::is_amount_symbol(set, byte),
+        text::is_cannot_read(set, byte),
+        text::is_dash(set, byte),
+        text::is_on_us_symbol(set, byte),
+        text::is_transit_symbol(set, byte),
+    ];
+    for admitted in answers {
+        say(rt, admitted)?;
     }
-    io::write_all(STDOUT_FILENO, b" 0");
+    Ok(())
 }
 
-fn say_basic_types(set: CharacterSet, x: u8) {
-    say(text::is_alphabetic(set, x));
-    say(text::is_blank(set, x));
-    say(text::is_numeric(set, x));
-    say(text::is_questionable(set, x));
-    say(text::is_special(set, x));
-    say(text::is_amount_symbol(set, x));
-    say(text::is_cannot_read(set, x));
-    say(text::is_dash(set, x));
-    say(text::is_on_us_symbol(set, x));
-    say(text::is_transit_symbol(set, x));
-}
-
-fn say_data_type(set: CharacterSet, t: DataType, x: u8) {
+fn say_data_type(
+    rt: &impl Print,
+    set: CharacterSet,
+    data_type: DataType,
+    byte: u8,
+) -> io::Result<()> {
     match set {
-        CharacterSet::Ascii => say(text::admits_in_ascii(t, x)),
-        CharacterSet::Ebcdic => say(text::admits_in_ebcdic(t, x)),
+        CharacterSet::Ascii => say(rt, text::admits_in_ascii(data_type, byte)),
+        CharacterSet::Ebcdic => say(rt, text::admits_in_ebcdic(data_type, byte)),
     }
 }
 
-fn say_data_types(set: CharacterSet, x: u8) {
-    say_data_type(set, DataType::AB, x);
-    say_data_type(set, DataType::A, x);
-    say_data_type(set, DataType::AN, x);
-    say_data_type(set, DataType::ANS, x);
-    say_data_type(set, DataType::Binary, x);
-    say_data_type(set, DataType::N, x);
-    say_data_type(set, DataType::NB, x);
-    say_data_type(set, DataType::NBD, x);
-    say_data_type(set, DataType::NBQ, x);
-    say_data_type(set, DataType::NBMc, x);
-    say_data_type(set, DataType::NBMcd, x);
-    say_data_type(set, DataType::NBMcdo, x);
-    say_data_type(set, DataType::NBMU, x);
+fn say_data_types(rt: &impl Print, set: CharacterSet, byte: u8) -> io::Result<()> {
+    for data_type in DATA_TYPES {
+        say_data_type(rt, set, data_type, byte)?;
+    }
+    Ok(())
 }
 
-fn say_name(set: CharacterSet) {
+fn name_of(set: CharacterSet) -> &'static str {
     match set {
-        CharacterSet::Ascii => {
-            io::write_all(STDOUT_FILENO, b"ASCII ");
-        }
-        CharacterSet::Ebcdic => {
-            io::write_all(STDOUT_FILENO, b"EBCDIC ");
-        }
+        CharacterSet::Ascii => "ASCII",
+        CharacterSet::Ebcdic => "EBCDIC",
     }
 }
 
-fn say_answers(set: CharacterSet, x: u8) {
-    say_name(set);
-    io::print_decimal(STDOUT_FILENO, x as u64);
-    say_basic_types(set, x);
-    say_data_types(set, x);
-    io::write_all(STDOUT_FILENO, b"\n");
+fn say_answers(rt: &impl Print, set: CharacterSet, byte: u8) -> io::Result<()> {
+    let name = name_of(set);
+    print!(rt; "{name} {byte}")?;
+    say_basic_types(rt, set, byte)?;
+    say_data_types(rt, set, byte)?;
+    println!(rt;)
 }
 
-fn say_set(set: CharacterSet) {
-    let mut x: u64 = 0;
-    while x < 256 {
-        say_answers(set, x as u8);
-        x += 1;
+fn say_set(rt: &impl Print, set: CharacterSet) -> io::Result<()> {
+    for byte in 0..=u8::MAX {
+        say_answers(rt, set, byte)?;
     }
+    Ok(())
 }
 
-fn main() {
-    io::write_all(STDOUT_FILENO, b"set byte A B N Q S Ma Mc Md Mo Mr");
-    io::write_all(
-        STDOUT_FILENO,
-        b" AB A AN ANS Binary N NB NBD NBQ NBMc NBMcd NBMcdo NBMU\n",
-    );
-    say_set(CharacterSet::Ascii);
-    say_set(CharacterSet::Ebcdic);
+fn main(rt: HostRuntime) -> io::Result<()> {
+    print!(rt; "set byte A B N Q S Ma Mc Md Mo Mr")?;
+    println!(rt; " AB A AN ANS Binary N NB NBD NBQ NBMc NBMcd NBMcdo NBMU")?;
+    say_set(&rt, CharacterSet::Ascii)?;
+    say_set(&rt, CharacterSet::Ebcdic)
 }

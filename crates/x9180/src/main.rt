@@ -1,42 +1,52 @@
 // Reads one file from standard input and prints one line: accepted, with what it adds up to, or refused, with the first fault.
 #![tactic(auto)]
 
-use libc::{STDIN_FILENO, STDOUT_FILENO};
 use passes::{Answer, Fault, Totals};
+use std::io;
+use std::io::Read;
 
-fn say(word: &[u8], n: u64) {
-    io::write_all(STDOUT_FILENO, word);
-    io::print_decimal(STDOUT_FILENO, n);
+const LONGEST_FILE: u64 = 65_536;
+
+// One byte more than the longest file, so that a file that is too long shows.
+const BUFFER_SIZE: usize = 65_537;
+
+// Rows for 1,000 records, seven numbers each.
+const TABLE_SIZE: usize = 7_000;
+
+// Reads standard input until it ends or the buffer is full, and returns how many bytes that put into the buffer.
+fn read_file(rt: &impl Input, buffer: &mut [u8; BUFFER_SIZE]) -> io::Result<u64> {
+    let mut free: &mut [u8] = buffer;
+    io::copy(&mut rt.reader().take(BUFFER_SIZE as u64), &mut free)
 }
 
-fn say_accepted(totals: Totals) {
-    let sums = totals.sums;
-    say(b"accepted records ", totals.records.0);
-    say(b" letters ", totals.letters);
-    say(b" bundles ", totals.bundles);
-    say(b" items ", totals.items.0);
-    say(b" views ", sums.views.0);
-    say(b" debit ", sums.debit.0);
+fn say_accepted(rt: &impl Print, totals: Totals) -> io::Result<()> {
+    let records = totals.records.0;
+    let letters = totals.letters;
+    let bundles = totals.bundles;
+    let items = totals.items.0;
+    let views = totals.sums.views.0;
+    let debit = totals.sums.debit.0;
+    println!(rt;
+        "accepted records {records} letters {letters} bundles {bundles} items {items} views {views} debit {debit}"
+    )
 }
 
-fn say_refused(fault: Fault, record: u64, offset: usize) {
-    say(b"refused ", fault.number());
-    say(b" record ", record);
-    say(b" field ", fault.field() as u64);
-    say(b" offset ", offset as u64);
+fn say_refused(rt: &impl Print, fault: Fault, record: u64, offset: usize) -> io::Result<()> {
+    let number = fault.number();
+    let field = fault.field();
+    println!(rt; "refused {number} record {record} field {field} offset {offset}")
 }
 
-fn main() {
-    let mut file = [0u8; 65537];
-    let got = io::read_full(STDIN_FILENO, &mut file);
-    if 65536 < got {
-        io::write_all(STDOUT_FILENO, b"too long for this program\n");
-        return;
+fn main(rt: HostRuntime) -> io::Result<()> {
+    let mut buffer = [0u8; BUFFER_SIZE];
+    let length = read_file(&rt, &mut buffer)?;
+    if length > LONGEST_FILE {
+        return println!(rt; "too long for this program");
     }
-    let mut table = [0u64; 7000];
-    match reader::read(&file[..got], &mut table) {
-        Answer::Accepted(totals) => say_accepted(totals),
-        Answer::Refused(fault, record, offset) => say_refused(fault, record, offset),
+    let file = &buffer[..length as usize];
+    let mut table = [0u64; TABLE_SIZE];
+    match reader::read(file, &mut table) {
+        Answer::Accepted(totals) => say_accepted(&rt, totals),
+        Answer::Refused(fault, record, offset) => say_refused(&rt, fault, record, offset),
     }
-    io::write_all(STDOUT_FILENO, b"\n");
 }
