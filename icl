@@ -6,7 +6,8 @@ tool=$here/rust/target/release/icl
 built=$here/rust/target/built
 
 if [ -x "$tool" ] && [ -f "$built" ]; then
-    newer=$(find "$here/crates" "$here/crates.txt" "$here/include" "$here/rust/x9180" "$here/rust/icl" "$here/rust/Cargo.toml" "$here/rust/Cargo.lock" -newer "$built" -print -quit)
+    newer=$(find "$here/crates" "$here/crates.txt" "$here/include" "$here/rust/x9180" "$here/rust/icl" "$here/rust/Cargo.toml" "$here/rust/Cargo.lock" \
+        -path "$here/crates/*/out" -prune -o -type f -newer "$built" -print -quit)
     [ -n "$newer" ] || exec "$tool" "$@"
     echo "icl: ${newer#"$here/"} is newer than what was built: building anew" >&2
 fi
