@@ -9,7 +9,7 @@ use std::path::{Path, PathBuf};
 fn main() {
     let manifest = PathBuf::from(env::var_os("CARGO_MANIFEST_DIR").expect("cargo sets the manifest's folder"));
     let crates = manifest.join("../../crates");
-    println!("cargo:rerun-if-changed={}", crates.display());
+    println!("cargo:rerun-if-changed={}", manifest.join("../../crates.txt").display());
     println!("cargo:rerun-if-changed=translate.rs");
     let names = slow_crates(&crates);
     let own = names.iter().map(|name| translate::own(name, &sources(&crates.join(name).join("src"))));
@@ -35,6 +35,7 @@ fn slow_crates(crates: &Path) -> Vec<String> {
 
 /// The sources of a crate, each with the name of its module.
 fn sources(folder: &Path) -> Vec<(String, String)> {
+    println!("cargo:rerun-if-changed={}", folder.display());
     let mut sources: Vec<(String, String)> = fs::read_dir(folder)
         .unwrap_or_else(|error| panic!("{}: {error}", folder.display()))
         .map(|entry| entry.expect("a name").path())

@@ -1,5 +1,6 @@
-//! The slow reader's sources as plain Rust. Nothing is reckoned here: lines of contracts and `ghost use` are dropped, crates become modules, the types that both readers share
-//! are copied from where they are declared, and one line is put at the start of each function of the cycle. Every other line stays as it is.
+//! The slow reader's sources as plain Rust. Nothing is reckoned here: lines of contracts, `ghost use` and the prover's own attributes are dropped, crates
+//! become modules, the types that both readers share are copied from where they are declared, and one line is put at the start of each function of the
+//! cycle. Every other line stays as it is.
 
 /// The types of other crates that the slow reader names, by the crates that declare them.
 pub const SHARED: [(&str, &[&str]); 7] = [
@@ -12,7 +13,7 @@ pub const SHARED: [(&str, &[&str]); 7] = [
     ("passes", &["Fault", "Turn", "Step", "Totals", "Answer"]),
 ];
 
-/// What each type is made to have: in Rattle values are copied.
+/// What each type is made to have, in the place of what it derives itself.
 const COPIED: &str = "#[derive(Clone, Copy, Debug, PartialEq, Eq)]\n";
 
 /// The beginning of every module: the others, by the names that the sources call them.
@@ -40,15 +41,18 @@ fn is_module(line: &str) -> bool {
 
 /// Some types of a crate as a module, with what it takes from the others of them.
 pub fn shared(name: &str, types: &[&str], sources: &str) -> String {
-    let taken = sources.lines().filter(|line| takes_shared(line)).map(|line| format!("{line}\n"));
+    let taken = sources.lines().filter_map(taken);
     let taken: String = taken.chain(types.iter().map(|one| declaration(one, sources))).collect();
     format!("pub mod {name} {{\n{OTHERS}{taken}}}\n")
 }
 
-/// `use measure::Cents;` of a type that is shared.
-fn takes_shared(line: &str) -> bool {
-    let path = line.strip_prefix("use ").and_then(|rest| rest.strip_suffix(';')?.split_once("::"));
-    path.is_some_and(|(name, one)| SHARED.iter().any(|(of, types)| *of == name && types.contains(&one)))
+/// Of `use measure::{Cents, ..};` what takes types that are shared.
+fn taken(line: &str) -> Option<String> {
+    let (name, listed) = line.strip_prefix("use ")?.strip_suffix(';')?.split_once("::")?;
+    let (_, types) = SHARED.iter().find(|(of, _)| *of == name)?;
+    let listed = listed.trim_start_matches('{').trim_end_matches('}').split(", ");
+    let listed: Vec<&str> = listed.filter(|one| types.contains(one)).collect();
+    (!listed.is_empty()).then(|| format!("use {name}::{{{}}};\n", listed.join(", ")))
 }
 
 /// The declaration of a type, to the line with the brace that ends it, or to the semicolon on its first line.
@@ -68,23 +72,38 @@ fn declaration(name: &str, sources: &str) -> String {
     text
 }
 
-/// A source without what only the prover reads: `ghost use`, and the lines of contracts between a function's head and its body.
+/// A source without what only the prover reads: `ghost use`, its attributes, and the clauses of contracts between a function's head and its body. Each of them
+/// stands on a line of its own.
 fn without_contracts(source: &str) -> String {
-    let is_ghost = |line: &&str| {
-        let bare = line.trim_start();
-        bare.starts_with("ghost use ") || bare.starts_with("requires ") || bare.starts_with("ensures ")
-    };
     let mut text = String::new();
-    for line in source.lines().filter(|line| !is_ghost(line)) {
-        let code = line.split("//").next().unwrap_or_default();
-        assert!(!code.contains(['⌜', '⌝', 'λ', '≡']), "a contract that goes over several lines: {line}");
-        if code.starts_with("pub enum ") || code.starts_with("pub struct ") {
-            text += COPIED;
+    for line in source.lines() {
+        let bare = line.trim_start();
+        let begins = |starts: &[&str]| starts.iter().any(|start| bare.starts_with(start));
+        if begins(&["requires ", "ensures "]) {
+            assert!(is_closed(bare, '{', '}'), "a contract that goes over several lines: {line}");
+        } else if begins(&["ghost "]) {
+            assert!(
+                bare.starts_with("ghost use ") && bare.ends_with(';'),
+                "a ghost item, or one over several lines: {line}"
+            );
+        } else if begins(&["#![tactic(", "#[tactic(", "#[cycle(", "#[derive("]) {
+            assert!(is_closed(bare, '[', ']'), "an attribute that goes over several lines: {line}");
+        } else {
+            let code = line.split("//").next().unwrap_or_default();
+            assert!(code.is_ascii(), "what is neither Rust nor a line of a contract: {line}");
+            if code.starts_with("pub enum ") || code.starts_with("pub struct ") {
+                text += COPIED;
+            }
+            text += line;
+            text.push('\n');
         }
-        text += line;
-        text.push('\n');
     }
     text
+}
+
+/// Whether a line ends what it begins.
+fn is_closed(line: &str, opens: char, closes: char) -> bool {
+    line.ends_with(closes) && line.matches(opens).count() == line.matches(closes).count()
 }
 
 /// The source with one line more at the start of each function of the cycle: its name, the figures so far and the offset.
@@ -119,14 +138,16 @@ mod tests {
     use super::*;
 
     const SOURCE: &str = "// A comment ≡ stays.
+#![tactic(auto)]
 mod inner;
+ghost use Rattle.std.specs.Prelude.{◌≡◌};
 use crate::inner::other;
 use standing::Standing;
-ghost use mathlib.Core.Path.{_≡_};
 
+#[cycle(box_other)]
 fn box(set: CharacterSet, file: &[u8], s: Standing, at: usize) -> Answer
-    requires { ⌜ Called set (now file) s at false 1 ⌝ }
-    ensures { λ r. ⌜ IsAnswer set (now (file .entry)) r ⌝ }
+    requires { Called set file.now s at false 1 }
+    ensures number { IsAnswer set file.now result }
 {
     if at == 0 {
         return other(s);
@@ -134,7 +155,7 @@ fn box(set: CharacterSet, file: &[u8], s: Standing, at: usize) -> Answer
 }
 
 fn ended(s: Standing, at: usize) -> Answer
-    ensures { λ r. ⌜ r ≡ endedWith s at ⌝ }
+    ensures { result ≡ ended_with s at }
 {
     other(s)
 }
@@ -144,7 +165,10 @@ fn ended(s: Standing, at: usize) -> Answer
     fn contracts_go_and_notes_come() {
         let text = own(
             "slow_one",
-            &[("inner".to_string(), "pub enum E {\n    A,\n}\n".to_string()), ("lib".to_string(), SOURCE.to_string())],
+            &[
+                ("inner".to_string(), "#[derive(Clone, Copy)]\npub enum E {\n    A,\n}\n".to_string()),
+                ("lib".to_string(), SOURCE.to_string()),
+            ],
         );
         let expected = "pub mod slow_one {
 use crate::sources::*;
@@ -179,7 +203,15 @@ pub enum E {
     #[test]
     #[should_panic(expected = "a contract that goes over several lines")]
     fn a_contract_over_several_lines_is_refused() {
-        without_contracts("fn f() -> u64\n    ensures {\n        λ r. ⌜ r ≡ 0 ⌝\n    }\n{\n    0\n}\n");
+        without_contracts("fn f() -> u64\n    ensures zero {\n        result == 0\n    }\n{\n    0\n}\n");
+    }
+
+    #[test]
+    fn of_other_crates_the_shared_types_are_taken() {
+        assert_eq!(taken("use measure::Cents;"), Some("use measure::{Cents};\n".to_string()));
+        assert_eq!(taken("use measure::{Cents, within, Sums};"), Some("use measure::{Cents, Sums};\n".to_string()));
+        assert_eq!(taken("use measure::within;"), None);
+        assert_eq!(taken("use order::Order;"), None);
     }
 
     #[test]
