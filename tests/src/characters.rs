@@ -161,7 +161,7 @@ Which characters each type of clause 5 of ANS X9.100-180-2006 admits, in ASCII a
 answers of the proved code at each of the 256 bytes in each set (the characters are the same in both); the other words are those of Tables 1
 and 2. The page is made by
 
-    target/bin/characters | cargo run --release --offline --locked --manifest-path tests/Cargo.toml --bin characters_page > docs/CHARACTERS.md
+    cargo run --release --offline --locked --manifest-path tests/Cargo.toml --bin characters_page < crates/characters/stdout > docs/CHARACTERS.md
 
 and the gate fails where it differs from those answers, or they from Tables 1 and 2 as `tests/src/characters.rs` has them and code page 037 as
 `tests/src/ebcdic.rs` has it. The code itself is to be laid beside the clause: `crates/text/src/characters.rt` for clauses 5.1 and 5.2,

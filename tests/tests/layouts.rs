@@ -43,10 +43,10 @@ fn routing_in_capitals(forms: &[&str]) -> Vec<String> {
 fn rule_in_capitals(rule: &str) -> Vec<String> {
     let words: Vec<&str> = rule.trim_matches(|c| c == '(' || c == ')').split(' ').collect();
     match words[..] {
-        ["none" | "anyNumber" | "notJudged"] => Vec::new(),
+        ["none" | "any_number" | "not_judged"] => Vec::new(),
         ["only", n] => vec!["NUMBERS".into(), format!("{n} * LOW"), n.into()],
         ["numbers", low, high] => vec!["NUMBERS".into(), format!("{low} * LOW"), high.into()],
-        ["clippedBy", position] => vec!["CLIPPED_BY".into(), position.into()],
+        ["clipped_by", position] => vec!["CLIPPED_BY".into(), position.into()],
         ["Code", list] => vec![in_capitals(list)],
         ["routing", ..] => routing_in_capitals(&words[1..]),
         [one] => vec![in_capitals(one)],

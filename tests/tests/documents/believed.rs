@@ -11,10 +11,13 @@ use crate::repository::*;
 type Module = (String, String);
 
 /// A line that imports from the definitions of a crate: whose, and the names by which it is known from then on. What is declared in a crate's own code
-/// (`declared`) is a type and no definition.
+/// (`declared`) is a type and no definition, and what is imported from the toolchain's library is none of ours.
 fn import(line: &str) -> Option<(Module, Vec<String>)> {
-    let line = line.trim_start_matches("ghost ").strip_prefix("use Rattle·")?.trim_end_matches(';');
+    let line = line.trim_start_matches("ghost ").strip_prefix("use Rattle.")?.trim_end_matches(';');
     let (name, path) = line.split_once(".specs.")?;
+    if !root().join("crates").join(name).is_dir() {
+        return None;
+    }
     let end = path.find(".{").or(path.find(" as ")).unwrap_or(path.len());
     let module = path[..end].to_string();
     if module == "declared" || module.starts_with("declared.") {
@@ -22,7 +25,7 @@ fn import(line: &str) -> Option<(Module, Vec<String>)> {
     }
     let listed = path[end..].trim_start_matches(".{").trim_end_matches('}');
     let known = listed.split(',').filter_map(|word| word.split_whitespace().last()).map(str::to_string).collect();
-    Some(((name.trim_end_matches("·specs").to_string(), module), known))
+    Some(((name.to_string(), module), known))
 }
 
 /// The contracts of a file's public functions: from `pub fn` to the brace that opens the body.

@@ -130,12 +130,12 @@ fn figures_are_those_of_the_independent_table() {
 fn figures_are_those_that_the_checker_computes() {
     let laid = "crates/layout/specs/Laid.antt";
     assert_eq!(figure("record types carried"), number_behind(laid, "length layouts ≡"));
-    assert_eq!(figure("fields in all"), number_behind(laid, "fieldsOf layouts ≡"));
+    assert_eq!(figure("fields in all"), number_behind(laid, "fields_of layouts ≡"));
     let reading = "crates/passes/specs/Reading.antt";
     assert_eq!(figure("largest file in bytes"), number_behind(reading, "&& leb (length file)"));
-    assert_eq!(figure("numbers in a row"), number_behind(reading, "length (rowsOf file) ≡"));
+    assert_eq!(figure("numbers in a row"), number_behind(reading, "length (rows_of file) ≡"));
     let answers = text("crates/passes/specs/Answers.antt");
-    let faults = answers.lines().filter(|line| line.starts_with("numberOf ") && line.contains(" = ")).count();
+    let faults = answers.lines().filter(|line| line.starts_with("number_of ") && line.contains(" = ")).count();
     assert_eq!(figure("answers"), (faults + 1).to_string());
 }
 

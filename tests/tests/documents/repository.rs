@@ -33,11 +33,11 @@ pub fn quoted(text: &str) -> Vec<(String, String)> {
     found
 }
 
-/// The documents that a successor reads; the landing notes tell of their own day and keep their figures.
+/// The documents that a successor reads; the landing notes, and the page on the port, tell of their own day and keep their figures.
 pub fn documents() -> Vec<String> {
     let mut found: Vec<String> = names_in(&root()).into_iter().filter(|name| name.ends_with(".md")).collect();
     for name in names_in(&root().join("docs")) {
-        if name.ends_with(".md") {
+        if name.ends_with(".md") && name != "PORT.md" {
             found.push(format!("docs/{name}"));
         }
     }
@@ -50,7 +50,7 @@ pub fn documents() -> Vec<String> {
     found
 }
 
-/// Every text of the repository below these folders, by its path: what git would keep, and can be read as text.
+/// Every text of the repository below these folders, by its path: what git would keep, and can be read as text. In `out` stands what `rt` makes.
 pub fn texts_below(folders: &[&str]) -> Vec<(String, String)> {
     let mut found = Vec::new();
     for folder in folders {
@@ -63,7 +63,7 @@ fn gather(path: &str, found: &mut Vec<(String, String)>) {
     let whole = root().join(path);
     if whole.is_dir() {
         for name in names_in(&whole) {
-            if name != "target" && name != ".git" {
+            if name != "target" && name != "out" && name != ".git" {
                 let below = if path == "." { name } else { format!("{path}/{name}") };
                 gather(&below, found);
             }
