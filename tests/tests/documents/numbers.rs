@@ -2,9 +2,10 @@
 //! docs/DECISIONS.md or docs/ICL-DECISIONS.md, and nothing cites by "point" any more, which was a list outside the repository.
 use crate::repository::*;
 
-/// The places that cite: all but the papers that tell how a citation looks, these tests among them.
+/// The places that cite: all but these tests, which tell how a citation looks, and patches, which hold lines that have gone.
 fn citing() -> Vec<(String, String)> {
-    texts_below(&["."]).into_iter().filter(|(path, _)| !path.starts_with("tests/tests/documents")).collect()
+    let cites = |path: &str| !path.starts_with("tests/tests/documents") && !path.ends_with(".patch");
+    texts_below(&["."]).into_iter().filter(|(path, _)| cites(path)).collect()
 }
 
 /// A text in one line, without the marks that begin a line of a comment, so that a citation may be broken there.
