@@ -1,8 +1,8 @@
 // The slow reader, which follows the figures of the standard: a cash letter calls for a bundle, a bundle for an item, and whatever closes one calls
 // for the next, each with fewer bytes left. Each function stands at the record that it is named for. It enters the record, which judges it alone and
 // against those before it, and calls for what the figures show behind it. A record that it does not call for has no place there.
-// The names are the standard's, cut short, since the proof of the cycle is a module that is named by all of them. `own_` is what stands directly in
-// a cash letter: a credit of its own, with its views, which Figure 1c leaves out "in order to enhance clarity".
+// The names are the standard's, cut short. `own_` is what stands directly in a cash letter: a credit of its own, with its views, which Figure 1c
+// leaves out "in order to enhance clarity".
 #![tactic(auto)]
 
 ghost use Rattle.std.specs.Prelude.{◌≡◌, true, false, ◌≤◌, length};
@@ -29,7 +29,7 @@ fn file_header(set: CharacterSet, file: &[u8], s: Standing, at: usize) -> Answer
 }
 
 // Cash Letter Header (10), clause 8, Figures 1 and 2: a cash letter calls for a bundle, for a credit of its own, or, with no detail, for its control.
-#[cycle(analysis_bundle_bundle_control_check_check_a_check_b_check_c_credit_letter_letter_control_own_analysis_own_credit_own_data_own_view_return_a_return_b_return_c_return_d_returned_view_view_data)]
+#[cycle(arranging)]
 fn letter(set: CharacterSet, file: &[u8], s: Standing, at: usize) -> Answer
     requires { Called set file.now s at false 10 }
     ensures { IsAnswer set file.now result }
@@ -46,7 +46,7 @@ fn letter(set: CharacterSet, file: &[u8], s: Standing, at: usize) -> Answer
 }
 
 // Bundle Header (20), clause 9, Figures 1a and 1b: a bundle calls for the first item: a check, a return or a credit.
-#[cycle(analysis_bundle_bundle_control_check_check_a_check_b_check_c_credit_letter_letter_control_own_analysis_own_credit_own_data_own_view_return_a_return_b_return_c_return_d_returned_view_view_data)]
+#[cycle(arranging)]
 fn bundle(set: CharacterSet, file: &[u8], s: Standing, at: usize) -> Answer
     requires { Called set file.now s at false 20 }
     ensures { IsAnswer set file.now result }
@@ -63,7 +63,7 @@ fn bundle(set: CharacterSet, file: &[u8], s: Standing, at: usize) -> Answer
 }
 
 // Check Detail (25), clause 10, Figure 1a: a check calls for its addenda and views, and what closes it for the next check, a credit or the bundle control.
-#[cycle(analysis_bundle_bundle_control_check_check_a_check_b_check_c_credit_letter_letter_control_own_analysis_own_credit_own_data_own_view_return_a_return_b_return_c_return_d_returned_view_view_data)]
+#[cycle(arranging)]
 fn check(set: CharacterSet, file: &[u8], s: Standing, at: usize) -> Answer
     requires { Called set file.now s at true 25 }
     ensures { IsAnswer set file.now result }
@@ -84,7 +84,7 @@ fn check(set: CharacterSet, file: &[u8], s: Standing, at: usize) -> Answer
 }
 
 // Check Detail Addendum A (26), clause 11: it calls for more of them, for B and C, and for what a check calls for behind its addenda.
-#[cycle(analysis_bundle_bundle_control_check_check_a_check_b_check_c_credit_letter_letter_control_own_analysis_own_credit_own_data_own_view_return_a_return_b_return_c_return_d_returned_view_view_data)]
+#[cycle(arranging)]
 fn check_a(set: CharacterSet, file: &[u8], s: Standing, at: usize) -> Answer
     requires { Called set file.now s at true 26 }
     ensures { IsAnswer set file.now result }
@@ -105,7 +105,7 @@ fn check_a(set: CharacterSet, file: &[u8], s: Standing, at: usize) -> Answer
 }
 
 // Check Detail Addendum B (27), clause 12: there is one, and C may follow.
-#[cycle(analysis_bundle_bundle_control_check_check_a_check_b_check_c_credit_letter_letter_control_own_analysis_own_credit_own_data_own_view_return_a_return_b_return_c_return_d_returned_view_view_data)]
+#[cycle(arranging)]
 fn check_b(set: CharacterSet, file: &[u8], s: Standing, at: usize) -> Answer
     requires { Called set file.now s at true 27 }
     ensures { IsAnswer set file.now result }
@@ -124,7 +124,7 @@ fn check_b(set: CharacterSet, file: &[u8], s: Standing, at: usize) -> Answer
 }
 
 // Check Detail Addendum C (28), clause 13: it calls for more of them, for views, or for the next item.
-#[cycle(analysis_bundle_bundle_control_check_check_a_check_b_check_c_credit_letter_letter_control_own_analysis_own_credit_own_data_own_view_return_a_return_b_return_c_return_d_returned_view_view_data)]
+#[cycle(arranging)]
 fn check_c(set: CharacterSet, file: &[u8], s: Standing, at: usize) -> Answer
     requires { Called set file.now s at true 28 }
     ensures { IsAnswer set file.now result }
@@ -143,7 +143,7 @@ fn check_c(set: CharacterSet, file: &[u8], s: Standing, at: usize) -> Answer
 }
 
 // Return (31), clause 14, Figure 1b: a returned item calls for its addenda A, and for the B that it must have.
-#[cycle(analysis_bundle_bundle_control_check_check_a_check_b_check_c_credit_letter_letter_control_own_analysis_own_credit_own_data_own_view_return_a_return_b_return_c_return_d_returned_view_view_data)]
+#[cycle(arranging)]
 fn returned(set: CharacterSet, file: &[u8], s: Standing, at: usize) -> Answer
     requires { Called set file.now s at true 31 }
     ensures { IsAnswer set file.now result }
@@ -159,7 +159,7 @@ fn returned(set: CharacterSet, file: &[u8], s: Standing, at: usize) -> Answer
 }
 
 // Return Addendum A (32), clause 15: it calls for more of them, or for B.
-#[cycle(analysis_bundle_bundle_control_check_check_a_check_b_check_c_credit_letter_letter_control_own_analysis_own_credit_own_data_own_view_return_a_return_b_return_c_return_d_returned_view_view_data)]
+#[cycle(arranging)]
 fn return_a(set: CharacterSet, file: &[u8], s: Standing, at: usize) -> Answer
     requires { Called set file.now s at true 32 }
     ensures { IsAnswer set file.now result }
@@ -175,7 +175,7 @@ fn return_a(set: CharacterSet, file: &[u8], s: Standing, at: usize) -> Answer
 }
 
 // Return Addendum B (33), clause 16: behind it come C and D, views, or the next item.
-#[cycle(analysis_bundle_bundle_control_check_check_a_check_b_check_c_credit_letter_letter_control_own_analysis_own_credit_own_data_own_view_return_a_return_b_return_c_return_d_returned_view_view_data)]
+#[cycle(arranging)]
 fn return_b(set: CharacterSet, file: &[u8], s: Standing, at: usize) -> Answer
     requires { Called set file.now s at true 33 }
     ensures { IsAnswer set file.now result }
@@ -195,7 +195,7 @@ fn return_b(set: CharacterSet, file: &[u8], s: Standing, at: usize) -> Answer
 }
 
 // Return Addendum C (34), clause 17: there is one, and D may follow.
-#[cycle(analysis_bundle_bundle_control_check_check_a_check_b_check_c_credit_letter_letter_control_own_analysis_own_credit_own_data_own_view_return_a_return_b_return_c_return_d_returned_view_view_data)]
+#[cycle(arranging)]
 fn return_c(set: CharacterSet, file: &[u8], s: Standing, at: usize) -> Answer
     requires { Called set file.now s at true 34 }
     ensures { IsAnswer set file.now result }
@@ -214,7 +214,7 @@ fn return_c(set: CharacterSet, file: &[u8], s: Standing, at: usize) -> Answer
 }
 
 // Return Addendum D (35), clause 18: it calls for more of them, for views, or for the next item.
-#[cycle(analysis_bundle_bundle_control_check_check_a_check_b_check_c_credit_letter_letter_control_own_analysis_own_credit_own_data_own_view_return_a_return_b_return_c_return_d_returned_view_view_data)]
+#[cycle(arranging)]
 fn return_d(set: CharacterSet, file: &[u8], s: Standing, at: usize) -> Answer
     requires { Called set file.now s at true 35 }
     ensures { IsAnswer set file.now result }
@@ -233,7 +233,7 @@ fn return_d(set: CharacterSet, file: &[u8], s: Standing, at: usize) -> Answer
 }
 
 // Image View Detail (50), clause 21: a view calls for its data.
-#[cycle(analysis_bundle_bundle_control_check_check_a_check_b_check_c_credit_letter_letter_control_own_analysis_own_credit_own_data_own_view_return_a_return_b_return_c_return_d_returned_view_view_data)]
+#[cycle(arranging)]
 fn view(set: CharacterSet, file: &[u8], s: Standing, at: usize) -> Answer
     requires { Called set file.now s at true 50 }
     ensures { IsAnswer set file.now result }
@@ -248,7 +248,7 @@ fn view(set: CharacterSet, file: &[u8], s: Standing, at: usize) -> Answer
 }
 
 // Image View Data (52), clause 22: the data calls for its analysis, for the next view of the item, or for what follows an item.
-#[cycle(analysis_bundle_bundle_control_check_check_a_check_b_check_c_credit_letter_letter_control_own_analysis_own_credit_own_data_own_view_return_a_return_b_return_c_return_d_returned_view_view_data)]
+#[cycle(arranging)]
 fn view_data(set: CharacterSet, file: &[u8], s: Standing, at: usize) -> Answer
     requires { Called set file.now s at true 52 }
     ensures { IsAnswer set file.now result }
@@ -268,7 +268,7 @@ fn view_data(set: CharacterSet, file: &[u8], s: Standing, at: usize) -> Answer
 }
 
 // Image View Analysis (54), clause 23: it closes its view.
-#[cycle(analysis_bundle_bundle_control_check_check_a_check_b_check_c_credit_letter_letter_control_own_analysis_own_credit_own_data_own_view_return_a_return_b_return_c_return_d_returned_view_view_data)]
+#[cycle(arranging)]
 fn analysis(set: CharacterSet, file: &[u8], s: Standing, at: usize) -> Answer
     requires { Called set file.now s at true 54 }
     ensures { IsAnswer set file.now result }
@@ -287,7 +287,7 @@ fn analysis(set: CharacterSet, file: &[u8], s: Standing, at: usize) -> Answer
 }
 
 // Credit/Reconciliation (61), clause 26, Figure 1c: a credit in a bundle calls for its views, or for what follows an item.
-#[cycle(analysis_bundle_bundle_control_check_check_a_check_b_check_c_credit_letter_letter_control_own_analysis_own_credit_own_data_own_view_return_a_return_b_return_c_return_d_returned_view_view_data)]
+#[cycle(arranging)]
 fn credit(set: CharacterSet, file: &[u8], s: Standing, at: usize) -> Answer
     requires { Called set file.now s at true 61 }
     ensures { IsAnswer set file.now result }
@@ -306,7 +306,7 @@ fn credit(set: CharacterSet, file: &[u8], s: Standing, at: usize) -> Answer
 }
 
 // Bundle Control (70), clause 31: it closes its bundle and calls for the next one, for a credit of the cash letter's own, or for its control.
-#[cycle(analysis_bundle_bundle_control_check_check_a_check_b_check_c_credit_letter_letter_control_own_analysis_own_credit_own_data_own_view_return_a_return_b_return_c_return_d_returned_view_view_data)]
+#[cycle(arranging)]
 fn bundle_control(set: CharacterSet, file: &[u8], s: Standing, at: usize) -> Answer
     requires { Called set file.now s at true 70 }
     ensures { IsAnswer set file.now result }
@@ -323,7 +323,7 @@ fn bundle_control(set: CharacterSet, file: &[u8], s: Standing, at: usize) -> Ans
 }
 
 // Credit/Reconciliation (61), clause 26, Figure 1c: a credit directly in a cash letter calls for its views, the next credit, a bundle, or the cash letter control.
-#[cycle(analysis_bundle_bundle_control_check_check_a_check_b_check_c_credit_letter_letter_control_own_analysis_own_credit_own_data_own_view_return_a_return_b_return_c_return_d_returned_view_view_data)]
+#[cycle(arranging)]
 fn own_credit(set: CharacterSet, file: &[u8], s: Standing, at: usize) -> Answer
     requires { Called set file.now s at false 61 }
     ensures { IsAnswer set file.now result }
@@ -341,7 +341,7 @@ fn own_credit(set: CharacterSet, file: &[u8], s: Standing, at: usize) -> Answer
 }
 
 // Image View Detail (50), clause 21: a view of such a credit calls for its data.
-#[cycle(analysis_bundle_bundle_control_check_check_a_check_b_check_c_credit_letter_letter_control_own_analysis_own_credit_own_data_own_view_return_a_return_b_return_c_return_d_returned_view_view_data)]
+#[cycle(arranging)]
 fn own_view(set: CharacterSet, file: &[u8], s: Standing, at: usize) -> Answer
     requires { Called set file.now s at false 50 }
     ensures { IsAnswer set file.now result }
@@ -356,7 +356,7 @@ fn own_view(set: CharacterSet, file: &[u8], s: Standing, at: usize) -> Answer
 }
 
 // Image View Data (52), clause 22: behind it come its analysis, the next view, or what follows such a credit.
-#[cycle(analysis_bundle_bundle_control_check_check_a_check_b_check_c_credit_letter_letter_control_own_analysis_own_credit_own_data_own_view_return_a_return_b_return_c_return_d_returned_view_view_data)]
+#[cycle(arranging)]
 fn own_data(set: CharacterSet, file: &[u8], s: Standing, at: usize) -> Answer
     requires { Called set file.now s at false 52 }
     ensures { IsAnswer set file.now result }
@@ -375,7 +375,7 @@ fn own_data(set: CharacterSet, file: &[u8], s: Standing, at: usize) -> Answer
 }
 
 // Image View Analysis (54), clause 23: it closes the view of such a credit.
-#[cycle(analysis_bundle_bundle_control_check_check_a_check_b_check_c_credit_letter_letter_control_own_analysis_own_credit_own_data_own_view_return_a_return_b_return_c_return_d_returned_view_view_data)]
+#[cycle(arranging)]
 fn own_analysis(set: CharacterSet, file: &[u8], s: Standing, at: usize) -> Answer
     requires { Called set file.now s at false 54 }
     ensures { IsAnswer set file.now result }
@@ -393,7 +393,7 @@ fn own_analysis(set: CharacterSet, file: &[u8], s: Standing, at: usize) -> Answe
 }
 
 // Cash Letter Control (90), clause 34: it closes its cash letter and calls for the next one, or for the file control.
-#[cycle(analysis_bundle_bundle_control_check_check_a_check_b_check_c_credit_letter_letter_control_own_analysis_own_credit_own_data_own_view_return_a_return_b_return_c_return_d_returned_view_view_data)]
+#[cycle(arranging)]
 fn letter_control(set: CharacterSet, file: &[u8], s: Standing, at: usize) -> Answer
     requires { Called set file.now s at false 90 }
     ensures { IsAnswer set file.now result }

@@ -1,7 +1,7 @@
 -- The ways in which a slow reading ends, each with the answer, the table and what they say of the file's arrangement. Assumes nothing.
 use Prim.Native.Nat.{ℕ, ◌/◌, ◌≤◌, ◌<◌}
 use native.Mathlib.Omega.{arith}
-use mathlib.Core.Path.{◌≡◌, refl, sym, ◌∙◌}
+use mathlib.Core.Path.{◌≡◌, sym, ◌∙◌}
 use mathlib.Core.List.{List, ◌++◌}
 use lib.ListN.{length, drop}
 use borrow.Author.Tests.{le-leb, lt-leb}
@@ -20,51 +20,61 @@ use Rattle.arrangement.proofs.Theorem.{arranged}
 use Rattle.slow_step.specs.Places.{IsAnswer}
 use Rattle.slow_reader.specs.Slowly.{slow_answer, slow_table}
 
-abbrev pub Meets : List ℕ → List ℕ → Answer → List ℕ → Type 0
-Meets file table answer after =
-    (answer ≡ slow_answer file (length table)) × ((after ≡ slow_table file table) × (length file ≤ 65_536 → Arranged file table answer after))
-
--- the answer of the cycle is that of the first reader's first pass
-pub as-surveyed : (set : CharacterSet) (file : List ℕ) (answer : Answer) → set ≡ set_of file → (length file ≡ 0 → ⊥) → length file ≤ 65_536 → IsAnswer set file answer
-    → answer ≡ surveyed file
-unfolding surveyed
-as-surveyed set file answer q some h p =
-    p.answer ∙ sym (simp (le-leb 1 (length file) (omega arith), le-leb (length file) 268_435_456 (omega arith), sym q))
+-- what is promised of the answer and of the table afterwards
+pub record Meets (file table : List ℕ) (r : Answer) (after : List ℕ) : Type 0 where
+  pub answer : r ≡ slow_answer file (length table)
+  pub rows : after ≡ slow_table file table
+  pub arranged : length file ≤ 65_536 → Arranged file table r after
 
 module _ (file table : List ℕ) (bytes : Bytes file) where
   pub too_long : 65_536 < length file → Meets file table (Refused Size 0 0) table
   unfolding slow_answer slow_table
-  too_long h = (rw (lt-leb (length file) 65_536 h), (rw (lt-leb (length file) 65_536 h), λ l. absurd (omega arith)))
+  too_long h =
+      record {
+        answer = rw (lt-leb (length file) 65_536 h);
+        rows = rw (lt-leb (length file) 65_536 h);
+        arranged = λ l. absurd (omega arith);
+      }
 
   module _ (h : length file ≤ 65_536) where
-    meets : (answer : Answer) (after : List ℕ) → answer ≡ answer_of file (length table) → after ≡ table_of file table → Meets file table answer after
+    meets : (r : Answer) (after : List ℕ) → r ≡ answer_of file (length table) → after ≡ table_of file table → Meets file table r after
     unfolding slow_answer slow_table
-    meets answer after e t = (
-      rw (le-leb (length file) 65_536 h) e,
-      (rw (le-leb (length file) 65_536 h) t, λ l. arranged file table answer after bytes e t),
-    )
+    meets r after e t =
+        record {
+          answer = rw (le-leb (length file) 65_536 h) e;
+          rows = rw (le-leb (length file) 65_536 h) t;
+          arranged = λ l. arranged file table r after bytes e t;
+        }
 
     pub empty : length file ≡ 0 → Meets file table (Refused Size 0 0) table
     unfolding answer_of table_of surveyed
     empty e =
         meets (Refused Size 0 0) table (sym (simp (lt-leb 1 (length file) (omega arith)))) (sym (simp (lt-leb 1 (length file) (omega arith))))
 
-    pub no_room : (t : Totals) → surveyed file ≡ Accepted t → length table / 7 < t.records.0 → Meets file table (Refused Room t.records.0 0) table
-    unfolding answer_of table_of
-    no_room t e l =
-        meets (Refused Room t.records.0 0) table
-        (sym (simp (e, lt-leb t.records.0 (length table / 7) l)))
-        (sym (simp (e, lt-leb t.records.0 (length table / 7) l)))
+    module _ (some : length file ≡ 0 → ⊥) {set : CharacterSet} (q : set ≡ set_of file) {r : Answer} (p : IsAnswer set file r) where
+      -- the answer of the cycle is that of the first reader's first pass
+      as-surveyed : r ≡ surveyed file
+      unfolding surveyed
+      as-surveyed = p.answer ∙ sym (simp (le-leb 1 (length file) (omega arith), le-leb (length file) 268_435_456 (omega arith), sym q))
 
-    pub rows_written : (t : Totals) (after : List ℕ) → surveyed file ≡ Accepted t → t.records.0 ≤ length table / 7
-        → after ≡ rows_of file ++ drop (length (rows_of file)) table → Meets file table (Accepted t) after
-    unfolding answer_of table_of
-    rows_written t after e l f =
-        meets (Accepted t) after (sym (simp (e, le-leb t.records.0 (length table / 7) l)))
-        (f ∙ sym (simp (e, le-leb t.records.0 (length table / 7) l)))
+      pub no_room : (t : Totals) → r ≡ Accepted t → length table / 7 < t.records.0 → Meets file table (Refused Room t.records.0 0) table
+      unfolding answer_of table_of
+      no_room t e l =
+          let s = sym as-surveyed ∙ e in
+          meets (Refused Room t.records.0 0) table
+          (sym (simp (s, lt-leb t.records.0 (length table / 7) l)))
+          (sym (simp (s, lt-leb t.records.0 (length table / 7) l)))
 
-    pub refused : (answer : Answer) (fault : Fault) (n o : ℕ) → answer ≡ surveyed file → answer ≡ Refused fault n o → Meets file table answer table
-    unfolding answer_of table_of
-    refused answer fault n o s e =
-        let q = sym s ∙ e in
-        meets answer table (e ∙ sym (simp q)) (sym (simp q))
+      pub rows_written : (t : Totals) (after : List ℕ) → r ≡ Accepted t → t.records.0 ≤ length table / 7
+          → after ≡ rows_of file ++ drop (length (rows_of file)) table → Meets file table (Accepted t) after
+      unfolding answer_of table_of
+      rows_written t after e l f =
+          let s = sym as-surveyed ∙ e in
+          meets (Accepted t) after (sym (simp (s, le-leb t.records.0 (length table / 7) l)))
+          (f ∙ sym (simp (s, le-leb t.records.0 (length table / 7) l)))
+
+      pub refused : (fault : Fault) (n o : ℕ) → r ≡ Refused fault n o → Meets file table r table
+      unfolding answer_of table_of
+      refused fault n o e =
+          let s = sym as-surveyed ∙ e in
+          meets r table (e ∙ sym (simp s)) (sym (simp s))
