@@ -2,15 +2,15 @@
 use Prim.Native.Nat.{ℕ, zero, suc, ◌+◌, ◌-◌, ◌*◌, ◌≤◌, ◌<◌}
 use native.Mathlib.Nat.{add-zero}
 use native.Mathlib.Omega.{arith}
-use mathlib.Core.Bool.{Bool, true, false, cond}
+use mathlib.Core.Bool.{true, false, cond}
 use mathlib.Core.List.{List, [], ◌∷◌, ◌++◌, append_assoc}
 use mathlib.Core.Path.{◌≡◌, refl, sym, ap, ◌∙◌}
 use lib.ListN.{length, get_or, set, take, drop, length-append}
-use lib.Seq.{sets, set-get_or, sets-eq, length-sets, take_at, drop_at, drop-set-lt, drop-drop, get_or-drop, length-take-le, drop-append-le}
+use lib.Seq.{sets, set-get_or, sets-eq, length-sets, take_at, drop_at, drop-set-lt, drop-drop, get_or-drop, length-take-le}
 use Rattle.frame.specs.Frames.{part}
 use Rattle.copying.specs.Times.{times}
 use Rattle.copying.proofs.Laws.{length_part, length-times}
-use Rattle.book_model.specs.Table.{is_owner, rows_claimed, rows_there, entries_from, entries_of, rows_used, is_book, used_from, tidied}
+use Rattle.book_model.specs.Table.{is_owner, rows_claimed, rows_there, entries_of, rows_used, is_book, used_from, tidied}
 use Rattle.book_model.proofs.Laws.{Walk, row_within, sound}
 use Rattle.book_gaps.proofs.Laws.{used_in, used-none, closed_none, closed-here, closed-behind}
 

@@ -3,16 +3,15 @@ use Prim.Native.Nat.{ℕ, zero, suc, ◌+◌, ◌-◌, ◌*◌, ◌≤◌, ◌<�
 use native.Mathlib.Numerals.{sub-one}
 use native.Mathlib.Omega.{arith}
 use mathlib.Core.Bool.{Bool, true, false, ◌&&◌, ◌||◌, cond}
-use mathlib.Core.List.{List, [], ◌∷◌, ◌++◌}
-use mathlib.Core.Path.{◌≡◌, refl, sym, ap, ◌∙◌}
+use mathlib.Core.List.{List, [], ◌++◌}
+use mathlib.Core.Path.{◌≡◌, refl, ap, ◌∙◌}
 use lib.Dec.{eqb}
 use lib.ListN.{length, get_or, length-append}
-use borrow.Author.Tests.{eq-eqb, eqb-false}
+use borrow.Author.Tests.{eqb-false}
 use Rattle.frame.specs.Frames.{part}
 use Rattle.copying.proofs.Laws.{length_part}
 use Rattle.book_model.specs.Table.{is_owner, entries_from, cleared, used_from}
 use Rattle.book_model.proofs.Laws.{of_either, count_none, count-own, count-other}
-use Rattle.book_gaps.specs.declared.Spot.{Spot}
 use Rattle.book_gaps.specs.Spots.{spot_from}
 use Rattle.copying.specs.Times.{times}
 use lib.Seq.{sets}

@@ -1,7 +1,6 @@
 -- "One bureau's answers and entries depend on its own calls and on how many rows are free at each of them, and on nothing else the other did" (request 8,
 -- reading 57), and on how many places are free in the list of file numbers taken (request 10, reading 59); of books grown from an empty one.
 use Rattle.std.specs.Prelude.{ℕ, true, cond, List, [], ◌∷◌, ◌≡◌, eqb, length}
-use Rattle.book_model.specs.declared.Entry.{Entry}
 use Rattle.book_model.specs.PlainList.{Own, Free, finding}
 use Rattle.book_model.specs.Table.{is_owner, own_of, free_in}
 use Rattle.book_history.specs.Histories.{Call, Reply, by, tidy, History, Lent, reply, call_then, lent_then, lent_after, own_reply, own_then, nothing, zeros}

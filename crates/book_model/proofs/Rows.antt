@@ -105,8 +105,8 @@ entries-back p o [] t i h = none (eqb o p)
     none true = refl
     none false = refl
 entries-back p o (e ∷ es) t i h =
-    rw (stored-apart (row_of o e) (rows_of o es) t i)
-    (rw (owner, first, entries-back p o es (sets t i (row_of o e)) (i + 9) (omega (arith, length-sets t i (row_of o e)))) (joined (eqb o p)))
+    ap (λ (u : List ℕ). entries_from p u (suc (length es)) i) (stored-apart (row_of o e) (rows_of o es) t i)
+    ∙ rw (owner, first, entries-back p o es (sets t i (row_of o e)) (i + 9) (omega (arith, length-sets t i (row_of o e)))) (joined (eqb o p))
   where
     kept : Alike (sets (sets t i (row_of o e)) (i + 9) (rows_of o es)) (sets t i (row_of o e)) i (i + 9)
     kept k a b = stored-before (rows_of o es) (sets t i (row_of o e)) (i + 9) k b

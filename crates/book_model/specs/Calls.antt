@@ -1,5 +1,5 @@
 -- What each call on a lent table answers, and what it leaves: on any table, grown from an empty one or not.
-use Rattle.std.specs.Prelude.{ℕ, ◌&&◌, List, length}
+use Rattle.std.specs.Prelude.{ℕ, ◌&&◌, List}
 use Rattle.frame.specs.Unless.{unless}
 use Rattle.passes.specs.declared.Fault.TheVariants.{Book, NoEntry}
 use Rattle.passes.specs.Reading.{answer_of, table_of}

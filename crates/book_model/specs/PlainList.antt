@@ -1,5 +1,5 @@
 -- The day book as a plain list of entries for each owner (requests 6, 8, 9 and 10), and what each call answers on the owner's own list.
-use Rattle.std.specs.Prelude.{ℕ, ◌+◌, Bool, true, false, ◌&&◌, ◌||◌, not, cond, List, [], ◌∷◌, ◌++◌, leb, eqb, ℤ, length}
+use Rattle.std.specs.Prelude.{ℕ, ◌+◌, Bool, false, ◌&&◌, ◌||◌, not, cond, List, [], ◌∷◌, ◌++◌, leb, eqb, ℤ, length}
 use Rattle.frame.specs.Unless.{unless}
 use Rattle.figures.specs.declared.Figures.{Figures}
 use Rattle.figures.specs.Figures.{no_figures, plus, all_of, fits}
