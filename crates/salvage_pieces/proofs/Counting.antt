@@ -2,16 +2,15 @@
 use Prim.Native.Nat.{ℕ, ◌+◌, ◌≤◌, ◌<◌}
 use native.Mathlib.Omega.{arith}
 use mathlib.Core.Bool.{Bool, true, false, cond}
-use mathlib.Core.List.{List, [], ◌∷◌}
-use mathlib.Core.Path.{◌≡◌, refl, sym, ap, ◌∙◌, subst}
-use lib.ListN.{length}
+use mathlib.Core.List.{List, ◌∷◌}
+use mathlib.Core.Path.{◌≡◌, sym, ap, ◌∙◌, subst}
 use Rattle.text.specs.declared.character_set.CharacterSet.{CharacterSet}
 use Rattle.judge.specs.Alone.{type_of}
 use Rattle.file_as_records.specs.Framed.{Body}
 use Rattle.draft.specs.Completed.{is_own_addendum}
 use Rattle.salvage_walk.specs.declared.Seen.{Seen}
 use Rattle.salvage_walk.specs.Spans.{Stands, Spans, SeenAs}
-use Rattle.salvage_walk.proofs.Sorts.{First, first_of, none_left}
+use Rattle.salvage_walk.proofs.Sorts.{first_of, none_left}
 use Rattle.salvage_made.specs.ByMarks.{addenda_among}
 
 module _ (set : CharacterSet) (file : List ℕ) (from end item : ℕ) where

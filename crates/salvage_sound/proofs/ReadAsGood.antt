@@ -11,7 +11,7 @@ use borrow.Author.Tests.{eqb-true}
 use Rattle.text.specs.declared.character_set.CharacterSet.{CharacterSet}
 use Rattle.judge.specs.Alone.{type_of}
 use Rattle.measure.specs.Measures as measures
-use Rattle.order.specs.MayFollow.{inside, table, follows, may_follow}
+use Rattle.order.specs.MayFollow.{table, follows, may_follow}
 use Rattle.order.proofs.Pairs.{throughout, listed}
 use Rattle.standing.specs.History.{Entry, entry}
 use Rattle.standing.specs.Standing.{standing, onward}
