@@ -26,7 +26,7 @@ class Function:
         for (old, new), (place, _) in zip(names["needs"], names["asked_at"]):
             self.needs[plain(old)] = new
             self.place_of[plain(old)] = plain(place)
-        self.places, self.steps = {}, {}
+        self.places, self.steps, self.params = {}, {}, {}
         for n, place in enumerate(names["places"]):
             old, new = place[2]
             arm = names["arms"][n] if n < len(names["arms"]) else None
@@ -35,6 +35,8 @@ class Function:
             self.places[plain(place[0])] = (place[1] and plain(place[1]), plain(old), new, told, by_name)
             if old and new:
                 self.steps[plain(old)] = new
+                if place[3] in names["params"]:
+                    self.params[new] = names["params"][place[3]]
         self.at = {plain(a): b for a, b in names["asked_at"]}
         self.loops = {a[0][0]: (a[0][1], a[1]) for a in names["loops"]}
 
@@ -73,10 +75,14 @@ def renamed(f, text, place, problems):
         if step == "args" or plain(step) in f.loops:
             # names of the source keep their underscores
             rest = re.sub(r"^\.[\w-]+", lambda k: k.group(0).replace("-", "_") if k.group(0) != ".invariant" else k.group(0), rest)
+        if plain(step) == "well_formed":
+            return f"{head}.well_formed{rest}"
         if step in ("args", "requires", "ranges"):
             return f"{head}.{step}{rest}"
         words = [x for x in rest.split(".") if x]
         found = f.told(place, before.count(".before"), (plain(step),) + tuple(words))
+        if found and rest.startswith(".new.") and found[0] == f.steps.get(plain(step)):
+            found = None
         if found:
             new, tail = found
             return ".".join([head, new] + words[len(words) - len(tail):])
@@ -84,13 +90,17 @@ def renamed(f, text, place, problems):
         if new is None:
             problems.append(step)
             new = step
+        # what a lent argument holds afterwards was counted off, and has the argument's name now
+        k = re.match(r"^\.new((?:\.1)*)\.0(?=\.|$)", rest)
+        if k and new in f.params and len(k.group(1)) // 2 < len(f.params[new]):
+            rest = ".new." + f.params[new][len(k.group(1)) // 2] + rest[k.end():]
         return f"{head}.{new}{rest}"
 
     # a test of `!x` now says that `x` is false, where it said that `not x` is true
     return re.sub(r"not-(?:true|false) (?:_|[\w.-]+|\([^()]*\)) (c\.if-not-[\w-]+\.(?:true|false))", r"\1", PATH.sub(one, text))
 
 
-HELPER = re.compile(r"^(?:abbrev\s+)?([^\s:(){}]+) : \((\w+) : tie\.((?:After|Else|Start|Then|At|In)[\w-]*)\) → (.*)$")
+HELPER = re.compile(r"^(?:abbrev\s+)?([^\s:(){}]+) : \((\w+) : tie\.((?:After|Else|Start|Then|At|In)[\w-]*)(?: (?:invariant|decreases)-[\w-]+)*\) → (.*)$")
 
 
 def helpers(f, declared, problems):
@@ -186,9 +196,12 @@ def answer(f, d, problems, them, own):
     old = m.group(1)
     new = f.needs.get(f.need(old))
     if new is None:
-        # today's check has other goals for the two ends of a slice, and proves them by itself
+        # today's check has other goals for the two ends of a slice, and proves most of them by itself
         problems.append("goal " + old)
-        return old, None
+        ends = re.fullmatch(r"slice-bounds-(.*)-(start|end)", old)
+        if not ends:
+            return old, None
+        new = f"slice_bounds-{ends.group(1).replace('-', '_')}-{ends.group(2)}"
     signature = d["lines"][0][: m.start()]
     head = f"pub {new} : goal.{new}"
     if not re.fullmatch(re.escape(d["name"]) + r" : ", signature):
