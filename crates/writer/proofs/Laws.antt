@@ -10,8 +10,6 @@ use lib.Seq.{take_at}
 use borrow.Author.Tests.{leb-true, lt-leb, le-leb}
 use Rattle.text.specs.declared.character_set.CharacterSet.{CharacterSet}
 use Rattle.frame.specs.Unless.{unless}
-use Rattle.arrangement.specs.Tree.{File}
-use Rattle.arrangement.specs.Arranged.{Arranges}
 use Rattle.passes.specs.declared.Fault.{Fault}
 use Rattle.passes.specs.declared.Fault.TheVariants.{Size, Room}
 use Rattle.passes.specs.declared.Totals.{Totals}
@@ -19,7 +17,7 @@ use Rattle.draft.specs.declared.Outcome.{Outcome}
 use Rattle.draft.specs.declared.Outcome.TheVariants.{Written, Refused}
 use Rattle.draft.specs.Values.{Values, set_of_text, values_of_rows, values_of_draft}
 use Rattle.draft.specs.Drafted.{made, offset_of, answer_from, in_room, outcome_of, buffer_after, buffer_of}
-use Rattle.draft.specs.Promises.{ReadBack, MadeAgain, Promised}
+use Rattle.draft.specs.Promises.{ReadBack, Promised}
 use Rattle.draft_survey.specs.CappedOutcome.{capped_outcome}
 use Rattle.set_out.specs.SetOut.{values_in, Fits}
 use Rattle.draft.proofs.Shapes.{shaped-draft}
