@@ -1,5 +1,5 @@
 -- An entry that a look-up finds leaves the book: what that answers, and the book afterwards. Assumes nothing.
-use Prim.Native.Nat.{ℕ, zero, suc, ◌+◌, ◌≤◌, ◌<◌}
+use Prim.Native.Nat.{ℕ, zero, suc, ◌≤◌, ◌<◌}
 use native.Mathlib.Omega.{arith}
 use mathlib.Core.Bool.{true, false, ◌&&◌}
 use mathlib.Core.List.{List}
@@ -15,7 +15,7 @@ use Rattle.book_model.specs.declared.Entry.{Entry}
 use Rattle.book_model.specs.declared.Finding.TheVariants.{Found}
 use Rattle.book_model.specs.declared.Change.TheVariants.{Done, Refused}
 use Rattle.book_model.specs.PlainList.{totals_of, position_of, finding, without, withdrawing}
-use Rattle.book_model.specs.Table.{is_owner, block_of, rows_claimed, last_number, running_totals, entries_from, entries_of, is_book, is_list, block_with, cleared, without_entry}
+use Rattle.book_model.specs.Table.{is_owner, block_of, rows_claimed, last_number, running_totals, entries_of, is_book, is_list, block_with, cleared, without_entry}
 use Rattle.book_model.specs.Calls.{withdraw_answer, tidy_answer}
 use Rattle.book_model.proofs.Laws.{sound, found_none}
 use Rattle.book_model.proofs.Steps.{head-totals, head-last, found-covered, found-less, not_found}
