@@ -4,7 +4,7 @@ use native.Mathlib.Omega.{arith}
 use mathlib.Core.Bool.{Bool, true, false, ◌&&◌, ◌||◌, not, cond}
 use mathlib.Core.List.{List, [], ◌∷◌, ◌++◌, map, append_assoc}
 use mathlib.Core.Option.{Option, none, some}
-use mathlib.Core.Path.{◌≡◌, refl, sym, ap, ap₂, ◌∙◌, subst}
+use mathlib.Core.Path.{◌≡◌, refl, sym, ap, ◌∙◌, subst}
 use lib.Dec.{eqb}
 use lib.ListN.{length}
 use borrow.Author.Tests.{eqb-true}
@@ -16,10 +16,10 @@ use Rattle.file_as_records.specs.Framed.{Body}
 use Rattle.draft.specs.Values.{Values, values_at, values_of_body}
 use Rattle.draft.specs.Completed.{is_own_addendum, addenda_behind}
 use Rattle.salvage_model.specs.Runs.{leading, following, of, not_of, Group, run, loose, stretch_then, groups_from, groups_of, sound_alone, run_fault}
-use Rattle.salvage_model.specs.Kept.{Torn, Section, letter, ending, stray, letter_then, sections_from, sections_of, is_kept, Fate, kept, renewed, dropped, Marked, marked, out_of_place, run_fate, group_marks, groups_marks, control_marks, section_marks, sections_marks, kept_bodies}
+use Rattle.salvage_model.specs.Kept.{Torn, Section, letter, ending, stray, letter_then, sections_from, sections_of, is_kept, Fate, kept, renewed, Marked, marked, out_of_place, run_fate, groups_marks, control_marks, sections_marks, kept_bodies}
 use Rattle.salvage_made.specs.ByMarks.{by_marks, bodies_in, addenda_among, CountedAlike, OnlyLast}
-use Rattle.salvage_made.proofs.Sections.{Every, EveryGroup, under, WellLetter, Well, well}
-use Rattle.salvage_made.proofs.Theorem.{InRuns, in_map, past-runs}
+use Rattle.salvage_made.proofs.Sections.{Every, EveryGroup, under, Well, well}
+use Rattle.salvage_made.proofs.Theorem.{in_map, past-runs}
 
 -- only checks and returns have addenda
 no-addenda : (item t : ℕ) → is_check_or_return item ≡ false → is_own_addendum item t ≡ false

@@ -1,12 +1,12 @@
 -- The values of what is left go by the marks. Assumes nothing.
 use Prim.Native.Nat.{ℕ}
 use native.Mathlib.Omega.{arith}
-use mathlib.Core.Bool.{Bool, true, false, ◌&&◌, ◌||◌, not, cond, or-false}
-use mathlib.Core.List.{List, [], ◌∷◌, ◌++◌, map, append_assoc, append-nil}
+use mathlib.Core.Bool.{Bool, true, false, ◌||◌, not, cond}
+use mathlib.Core.List.{List, [], ◌∷◌, ◌++◌, map, append_assoc}
 use mathlib.Core.Option.{Option, none, some}
-use mathlib.Core.Path.{◌≡◌, refl, sym, ap, ap₂, ◌∙◌}
+use mathlib.Core.Path.{◌≡◌, refl, sym, ap, ◌∙◌}
 use lib.Dec.{eqb}
-use borrow.Author.Tests.{eqb-true, eq-eqb}
+use borrow.Author.Tests.{eq-eqb}
 use Rattle.text.specs.declared.character_set.CharacterSet.{CharacterSet}
 use Rattle.layout.specs.Layouts.{cash_letter_control, file_control}
 use Rattle.judge.specs.Alone.{type_of}
@@ -15,9 +15,9 @@ use Rattle.order.specs.MayFollow.{is_one_of}
 use Rattle.file_as_records.specs.Framed.{Body}
 use Rattle.draft.specs.Values.{Values, values_of_body}
 use Rattle.salvage_model.specs.Runs.{Group, run, loose, sound_alone, run_fault}
-use Rattle.salvage_model.specs.Kept.{Torn, Section, letter, ending, stray, sections_of, is_kept, Fate, kept, renewed, dropped, Marked, marked, out_of_place, run_fate, group_marks, groups_marks, control_marks, section_marks, sections_marks, kept_bodies, control_values, letter_values, sections_values, ending_of, any_kept}
-use Rattle.salvage_made.specs.ByMarks.{closing, by_fate, by_marks, is_kept_fate, any_marked, OnlyLast}
-use Rattle.salvage_made.proofs.Sections.{Every, EveryGroup, under, EndsWell, WellLetter, Well, well}
+use Rattle.salvage_model.specs.Kept.{Torn, Section, letter, ending, stray, is_kept, Fate, kept, renewed, dropped, Marked, marked, out_of_place, run_fate, group_marks, groups_marks, control_marks, section_marks, sections_marks, kept_bodies, control_values, letter_values, sections_values, ending_of, any_kept}
+use Rattle.salvage_made.specs.ByMarks.{by_fate, by_marks, is_kept_fate, any_marked}
+use Rattle.salvage_made.proofs.Sections.{Every, EveryGroup, under, EndsWell, Well}
 
 -- records that are dropped make nothing
 abbrev AllDropped : List Marked → Type 0

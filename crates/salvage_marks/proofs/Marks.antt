@@ -7,27 +7,25 @@ use mathlib.Core.Option.{Option, none, some}
 use mathlib.Core.Path.{◌≡◌, refl, sym, ap, ap₂, ◌∙◌, subst}
 use lib.Dec.{eqb}
 use lib.ListN.{length}
-use borrow.Author.Tests.{eqb-true, eq-eqb, ne_eqb}
+use borrow.Author.Tests.{eq-eqb, ne_eqb}
 use Rattle.text.specs.declared.character_set.CharacterSet.{CharacterSet}
 use Rattle.judge.specs.Alone.{type_of}
 use Rattle.frame.specs.Frames.{part}
 use Rattle.passes.specs.declared.Fault.{Fault}
-use Rattle.passes.specs.declared.Fault.TheVariants.{Place}
 use Rattle.passes.specs.Answers.{number_of}
 use Rattle.file_as_records.specs.Framed.{Body}
 use Rattle.arrangement.specs.Sound.{indicator, N}
 use Rattle.salvage_model.specs.Runs.{leading, following, Group, run, loose, groups_of, sound_alone, run_fault}
-use Rattle.salvage_model.specs.Kept.{any_bundle, is_through, sections_of, Fate, kept, renewed, dropped, Marked, marked, out_of_place, run_fate, sections_marks, marks_of}
+use Rattle.salvage_model.specs.Kept.{any_bundle, sections_of, Fate, kept, renewed, Marked, marked, out_of_place, run_fate, sections_marks, marks_of}
 use Rattle.salvage_model.specs.Salvaged.{status_of, fault_number}
 use Rattle.salvage_walk.specs.declared.Seen.{Seen}
 use Rattle.salvage_walk.specs.declared.Sort.TheVariants.{UnderHeader}
 use Rattle.salvage_walk.specs.Spans.{Stands, Spans, SeenAs, Parted}
-use Rattle.salvage_walk.proofs.Sorts.{First, first_of, none_left, spans-within}
+use Rattle.salvage_walk.proofs.Sorts.{first_of, none_left, spans-within}
 use Rattle.salvage_runs.specs.declared.Grouped.{Grouped}
 use Rattle.salvage_runs.specs.RunAt.{number_in, RunAt, GroupAt}
 use Rattle.salvage_runs.proofs.Groups.{through-none}
 use Rattle.salvage_marks.specs.declared.Plan.{Plan}
-use Rattle.salvage_marks.specs.declared.Marking.{Marking}
 use Rattle.salvage_marks.specs.Left.{group_fate, bodies_of, groups_marked, tail_marked, Left, NextMark, GroupNumber}
 use Rattle.salvage_marks.proofs.Sections.{under, kept_letter, groups_none, tail-10, tail-renewed, tail-dropped, tail_none}
 

@@ -7,13 +7,13 @@ use mathlib.Core.Option.{Option, none, some}
 use mathlib.Core.Path.{◌≡◌, refl, sym, ap, ap₂, ◌∙◌}
 use lib.Dec.{eqb}
 use lib.ListN.{length}
-use borrow.Author.Tests.{eqb-true, eq-eqb, ne_eqb}
+use borrow.Author.Tests.{eqb-true, ne_eqb}
 use Rattle.text.specs.declared.character_set.CharacterSet.{CharacterSet}
 use Rattle.judge.specs.Alone.{type_of}
 use Rattle.file_as_records.specs.Framed.{Body}
 use Rattle.arrangement.specs.Sound.{indicator, N}
 use Rattle.salvage_model.specs.Runs.{leading, following, not_of, Group, run, loose, groups_from, groups_of, sound_alone}
-use Rattle.salvage_model.specs.Kept.{Torn, Section, letter, ending, stray, letter_then, sections_from, sections_of, any_bundle, is_kept, Fate, kept, renewed, dropped, Marked, marked, out_of_place, group_marks, groups_marks, control_marks, section_marks, sections_marks}
+use Rattle.salvage_model.specs.Kept.{Torn, Section, letter, ending, stray, letter_then, sections_from, sections_of, any_bundle, is_kept, kept, renewed, Marked, marked, out_of_place, group_marks, groups_marks, control_marks, section_marks, sections_marks}
 use Rattle.salvage_runs.proofs.Groups.{following-short}
 use Rattle.salvage_marks.specs.Left.{group_fate, bodies_of, groups_marked, tail_marked}
 

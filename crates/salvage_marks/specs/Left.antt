@@ -4,7 +4,7 @@ use Rattle.text.specs.declared.character_set.CharacterSet.{CharacterSet}
 use Rattle.judge.specs.Alone.{type_of}
 use Rattle.file_as_records.specs.Framed.{Body}
 use Rattle.salvage_model.specs.Runs.{Group, run, loose, groups_of, sound_alone, run_fault}
-use Rattle.salvage_model.specs.Kept.{Fate, kept, renewed, dropped, Marked, marked, out_of_place, run_fate, sections_of, sections_marks}
+use Rattle.salvage_model.specs.Kept.{Fate, renewed, Marked, marked, out_of_place, run_fate, sections_of, sections_marks}
 use Rattle.salvage_model.specs.Salvaged.{status_of, fault_number}
 use Rattle.salvage_walk.specs.Spans.{Stands, Spans}
 use Rattle.salvage_runs.specs.declared.Grouped.{Grouped}

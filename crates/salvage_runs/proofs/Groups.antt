@@ -4,7 +4,7 @@ use native.Mathlib.Omega.{arith}
 use mathlib.Core.Bool.{Bool, true, false, ◌&&◌, ◌||◌, cond}
 use mathlib.Core.List.{List, [], ◌∷◌, ◌++◌}
 use mathlib.Core.Option.{Option, none, some}
-use mathlib.Core.Path.{◌≡◌, refl, sym, ap, ap₂, ◌∙◌}
+use mathlib.Core.Path.{◌≡◌, refl, sym, ap, ◌∙◌}
 use lib.Dec.{eqb}
 use lib.ListN.{length}
 use borrow.Author.Tests.{eq-eqb, ne_eqb}
@@ -16,7 +16,6 @@ use Rattle.file_as_records.specs.Framed.{Body}
 use Rattle.salvage_model.specs.Runs.{leading, following, of, not_of, Group, run, loose, stretch_then, groups_from, groups_of, run_fault}
 use Rattle.salvage_model.specs.Kept.{is_through, is_sound_bundle, any_bundle}
 use Rattle.salvage_walk.specs.declared.Seen.{Seen}
-use Rattle.salvage_walk.specs.declared.Sort.{Sort}
 use Rattle.salvage_walk.specs.declared.Sort.TheVariants.{InStretch, Views}
 use Rattle.salvage_walk.specs.Spans.{Stands, Spans, SeenAs, Parted}
 use Rattle.salvage_walk.proofs.Sorts.{First, first_of, none_left, spans-within}

@@ -7,9 +7,9 @@ use mathlib.Core.List.{List, [], ◌∷◌, ◌++◌}
 use mathlib.Core.Option.{Option, none, some}
 use mathlib.Core.Path.{◌≡◌, refl, sym, ap, ap₂, ◌∙◌, subst}
 use lib.Dec.{leb, eqb}
-use lib.ListN.{length, take, drop, length-append}
+use lib.ListN.{length, take, drop}
 use lib.Seq.{take-take, drop-drop, take-append-le, drop-append-add, drop-append_seam}
-use borrow.Author.Tests.{eqb-true, leb-true, le-leb, lt-leb, eq-eqb, ne_eqb}
+use borrow.Author.Tests.{eqb-true, le-leb, lt-leb, eq-eqb, ne_eqb}
 use Rattle.text.specs.declared.character_set.CharacterSet.{CharacterSet}
 use Rattle.frame.specs.Frames.{part}
 use Rattle.frame.specs.Unless.{unless}
@@ -37,7 +37,7 @@ use Rattle.own_fault.proofs.SameBefore.{Same, law}
 use Rattle.salvage_model.specs.Runs.{is_right, sound_alone, or_fault, read_on, run_fault}
 use Rattle.salvage_walk.specs.declared.Seen.{Seen}
 use Rattle.salvage_walk.specs.Spans.{Stands, Spans, SeenAs}
-use Rattle.salvage_walk.proofs.Sorts.{First, first_of, none_left, spans-within}
+use Rattle.salvage_walk.proofs.Sorts.{First, first_of, none_left}
 use Rattle.salvage_runs.specs.Places.{placed_at}
 use Rattle.salvage_runs.specs.RunAt.{number_in, RunAt}
 use Rattle.passes.specs.declared.Fault.TheVariants as faults

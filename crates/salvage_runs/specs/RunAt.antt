@@ -1,12 +1,12 @@
 -- A run where it stands in the file, and the groups under a header. Nothing of this has to be believed.
-use Rattle.std.specs.Prelude.{ℕ, ◌≤◌, Bool, true, cond, List, [], ◌∷◌, ◌≡◌}
+use Rattle.std.specs.Prelude.{ℕ, ◌≤◌, true, cond, List, ◌∷◌, ◌≡◌}
 use Rattle.std.proofs.Math.Option.{Option, none, some}
 use Rattle.text.specs.declared.character_set.CharacterSet.{CharacterSet}
 use Rattle.judge.specs.Alone.{type_of}
 use Rattle.passes.specs.declared.Fault.{Fault}
 use Rattle.passes.specs.Answers.{number_of}
 use Rattle.file_as_records.specs.Framed.{Body}
-use Rattle.salvage_model.specs.Runs.{Group, run, loose, groups_of, sound_alone}
+use Rattle.salvage_model.specs.Runs.{run, loose, groups_of, sound_alone}
 use Rattle.salvage_walk.specs.Spans.{Stands, Spans}
 use Rattle.salvage_runs.specs.declared.Grouped.{Grouped}
 
