@@ -15,10 +15,10 @@
 
 /* The version of these calls, which the wrapper, the tool and pkg-config share (rust/Cargo.toml decides it). A number of an answer keeps its meaning and
  * its place: answers grow at their end, and then the minor number does. */
-#define X9180_VERSION_MAJOR 1
-#define X9180_VERSION_MINOR 0
+#define X9180_VERSION_MAJOR 0
+#define X9180_VERSION_MINOR 1
 #define X9180_VERSION_PATCH 0
-#define X9180_VERSION "1.0.0"
+#define X9180_VERSION "0.1.0"
 
 #ifdef __cplusplus
 extern "C" {

@@ -16,17 +16,41 @@ PATH = re.compile(r"(?<![\w.'′-])([\w₀-₉]+)((?:\.before)*)\.([A-Za-z_][\w'
 
 def plain(name):
     """A name of either form: scripts before this one turned dashes, capitals and endings of the names of steps."""
+    if name == "type_size":
+        # port.py took the name of a step for one of the library's
+        name = "size_of"
     return re.sub(r"_lem$", "", re.sub(r"^Is(?=[A-Z])", "", name).replace("-", "_").lower())
 
 
+def clauses(root):
+    """The names of the `ensures` of each function that has several: {"crate::function": [..]}."""
+    out = {}
+    for folder, dirs, files in os.walk(os.path.join(root, "crates")):
+        dirs[:] = [d for d in dirs if d not in ("out", "proofs", "specs")]
+        for name in files:
+            if not name.endswith(".rt"):
+                continue
+            crate = os.path.relpath(folder, os.path.join(root, "crates")).split(os.sep)[0]
+            text = open(os.path.join(folder, name), encoding="utf-8").read()
+            for m in re.finditer(r"\bfn (\w+)", text):
+                head = text[m.end():]
+                body = re.search(r"\n\s*\{\n|\{\n", head)
+                labels = re.findall(r"\bensures (\w+) \{", head[: body.start()] if body else "")
+                if len(labels) > 1:
+                    out[f"{crate}::{m.group(1)}"] = labels
+    return out
+
+
 class Function:
+    ensures = {}
+
     def __init__(self, names):
         self.needs, self.place_of = {}, {}
         self.order = [plain(a) for a, _ in names["needs"]]
         for (old, new), (place, _) in zip(names["needs"], names["asked_at"]):
             self.needs[plain(old)] = new
             self.place_of[plain(old)] = plain(place)
-        self.places, self.steps, self.params = {}, {}, {}
+        self.places, self.steps, self.params, self.labels = {}, {}, {}, {}
         for n, place in enumerate(names["places"]):
             old, new = place[2]
             arm = names["arms"][n] if n < len(names["arms"]) else None
@@ -35,6 +59,8 @@ class Function:
             self.places[plain(place[0])] = (place[1] and plain(place[1]), plain(old), new, told, by_name)
             if old and new:
                 self.steps[plain(old)] = new
+                if place[3] in Function.ensures:
+                    self.labels[new] = Function.ensures[place[3]]
                 if place[3] in names["params"]:
                     self.params[new] = names["params"][place[3]]
         self.at = {plain(a): b for a, b in names["asked_at"]}
@@ -68,6 +94,7 @@ def renamed(f, text, place, problems):
 
     def one(m):
         head, before, step, rest = m.groups()
+        rest = rest.replace(".type-inv", ".type_inv")
         if head != "c" and not (before and re.fullmatch(r"[cdw]", head)):
             return m.group(0)
         if step == "before":
@@ -81,7 +108,7 @@ def renamed(f, text, place, problems):
             return f"{head}.{step}{rest}"
         words = [x for x in rest.split(".") if x]
         found = f.told(place, before.count(".before"), (plain(step),) + tuple(words))
-        if found and rest.startswith(".new.") and found[0] == f.steps.get(plain(step)):
+        if found and rest.startswith((".new.", ".ensures.")) and found[0] == f.steps.get(plain(step)):
             found = None
         if found:
             new, tail = found
@@ -94,6 +121,15 @@ def renamed(f, text, place, problems):
         k = re.match(r"^\.new((?:\.1)*)\.0(?=\.|$)", rest)
         if k and new in f.params and len(k.group(1)) // 2 < len(f.params[new]):
             rest = ".new." + f.params[new][len(k.group(1)) // 2] + rest[k.end():]
+        # what a function with several clauses ensures was counted off as well
+        if new in f.labels and rest.startswith(".ensures."):
+            labels = f.labels[new]
+            k = re.match(r"^\.ensures((?:\.1)*)(\.0)?(?=\.|$)", rest)
+            n = len(k.group(1)) // 2
+            if k.group(2) and n < len(labels) or not k.group(2) and n == len(labels) - 1:
+                rest = ".ensures." + labels[n] + rest[k.end():]
+            elif not k.group(2) and n > len(labels) - 1:
+                rest = ".ensures." + labels[-1] + ".1" * (n - len(labels) + 1) + rest[k.end():]
         return f"{head}.{new}{rest}"
 
     # a test of `!x` now says that `x` is false, where it said that `not x` is true
@@ -330,6 +366,7 @@ def turn(path, f, crate, function):
 
 def main(argv):
     names = json.load(open(argv[0]))
+    Function.ensures = clauses(os.path.join(os.path.abspath(argv[1]), "..", ".."))
     crate = os.path.basename(os.path.abspath(argv[1]))
     wanted = argv[2:]
     for folder, dirs, files in sorted(os.walk(os.path.join(argv[1], "proofs"))):

@@ -102,7 +102,7 @@ pub fn samples() -> Vec<Sample> {
             "accepted records 14 letters 1 bundles 1 items 3 views 0 debit 72",
         ),
         // [ ] ^ ` | by code page 037, not by Table 1's column (reading 35).
-        sample("sound-4-reading-35.x9", &no_detail_but(3, contact(&[0xBA, 0xBB, 0xB0, 0x79, 0x4F])), four),
+        sample("sound-4-point-17.x9", &no_detail_but(3, contact(&[0xBA, 0xBB, 0xB0, 0x79, 0x4F])), four),
         sample("sound-5-records-in-an-image.x9", &one_view('f', &records_in_an_image(), "            "), nine),
         // ASCII at signs are EBCDIC blanks.
         sample("sound-6-at-signs.x9", &no_detail_but(3, contact(b"@@@@@@@@@@@@@@")), four),

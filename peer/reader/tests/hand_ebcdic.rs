@@ -231,7 +231,7 @@ fn fields_of_the_other_set() {
 
 /// Reading 35: the code page's bytes of [ ] ^ ` | are special characters; those that Table 1 prints are none, but 4F, which is the |.
 #[test]
-fn the_five_characters_of_reading_35() {
+fn the_five_characters_of_point_17() {
     let name = |bytes: &[u8]| {
         let mut records = no_detail();
         records[3] = with(records[3].clone(), 41, bytes);

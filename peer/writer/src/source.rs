@@ -73,7 +73,7 @@ mod tests {
 
     /// Reading 42, line by line.
     #[test]
-    fn the_worked_out_fields_are_those_of_reading_42() {
+    fn the_worked_out_fields_are_those_of_point_24() {
         let listed = |code: u8| -> Vec<u8> {
             let fields = layout(code).fields.iter().map(|field| field.number);
             fields.filter(|number| *number > 1 && source(layout(code), *number) != Source::Given).collect()

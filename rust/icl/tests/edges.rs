@@ -1,4 +1,4 @@
-//! What is told of slips at the keyboard and of files of another make; the shell completion and the manual page; the exit statuses of `--help` and docs/ICL.md.
+//! What is told of slips at the keyboard and of files of another make; the shell completion and the manual page; the exit statuses of `--help` and README.
 
 mod common;
 
@@ -103,8 +103,9 @@ fn completion_in_bash() {
 fn the_manual_page() {
     let (status, page, complaint) = run("manual");
     assert_eq!((status, complaint.as_str()), (0, ""));
-    let title = format!(".TH ICL 1 \"\" \"icl {}\" \"User Commands\"\n", env!("CARGO_PKG_VERSION"));
-    assert!(page.starts_with(&format!("{title}.SH NAME\nicl \\- checks X9.100\\-180 image cash letters, ")));
+    assert!(page.starts_with(
+        ".TH ICL 1 \"\" \"icl 0.1.0\" \"User Commands\"\n.SH NAME\nicl \\- checks X9.100\\-180 image cash letters, "
+    ));
     let known = [".TH ", ".SH ", ".SS ", ".PP", ".TP", ".B ", ".nf", ".fi"];
     for line in page.lines().filter(|line| line.starts_with('.')) {
         assert!(known.iter().any(|start| line.starts_with(start)), "{line}");
@@ -131,7 +132,7 @@ fn the_manual_page() {
     }
 }
 
-/// The general help and docs/ICL.md tell the same exit statuses, word for word.
+/// The general help and the README tell the same exit statuses, word for word.
 #[test]
 fn exit_statuses_are_told_alike() {
     let told = |text: &str| {
@@ -141,7 +142,7 @@ fn exit_statuses_are_told_alike() {
         text[start..start + end].to_string()
     };
     let (_, help, _) = run("--help");
-    assert_eq!(told(&help), told(&String::from_utf8(read("docs/ICL.md")).unwrap()));
+    assert_eq!(told(&help), told(&String::from_utf8(read("README.md")).unwrap()));
 }
 
 /// A command that is not known, and none: what is there is told by --help.

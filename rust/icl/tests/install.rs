@@ -40,10 +40,9 @@ fn put_in_place_and_taken_away() {
     let text = |name: &str| fs::read_to_string(folder.0.join("prefix").join(name)).unwrap();
     assert_eq!(text("share/man/man1/icl.1"), run("manual").1);
     assert_eq!(text("share/bash-completion/completions/icl"), run("completion bash").1);
-    let version = env!("CARGO_PKG_VERSION");
     let package = format!(
         "prefix={prefix}\nlibdir=${{prefix}}/lib\nincludedir=${{prefix}}/include\n\nName: x9180\nDescription: The proved reader and writer of \
-         X9.100-180 image cash letters\nVersion: {version}\nLibs: -L${{libdir}} -lx9180\nCflags: -I${{includedir}}\n"
+         X9.100-180 image cash letters\nVersion: 0.1.0\nLibs: -L${{libdir}} -lx9180\nCflags: -I${{includedir}}\n"
     );
     assert_eq!(text("lib/pkgconfig/x9180.pc"), package);
     // A program that goes by the flags of the package.
@@ -58,7 +57,7 @@ fn put_in_place_and_taken_away() {
         (0, Some("accepted records 12 letters 1 bundles 1 items 2 views 0 debit 350"))
     );
     let tool = folder.path("prefix/bin/icl");
-    assert_eq!(outcome(Command::new(tool).arg("--version")), (0, format!("icl {version}\n"), String::new()));
+    assert_eq!(outcome(Command::new(tool).arg("--version")), (0, "icl 0.1.0\n".to_string(), String::new()));
     // Once more over it, and away: nothing is left.
     assert_eq!(install(&[&prefix]), (0, said, String::new()));
     assert_eq!(install(&["--remove", &prefix]), (0, format!("removed from {prefix}\n"), String::new()));

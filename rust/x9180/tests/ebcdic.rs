@@ -47,7 +47,7 @@ fn the_set_of_an_accepted_file() {
 /// By the description of the sample: in 99.6 the characters of reading 35 and blanks; 01.6 the date.
 #[test]
 fn fields_as_text() {
-    let file = sample("sound-4-reading-35.x9");
+    let file = sample("sound-4-point-17.x9");
     let reading = read(&file).unwrap();
     let (header, control) = (reading.header().unwrap(), reading.control().unwrap());
     assert_eq!(control.text(&file, 6).as_deref(), Some("[]^`|         "));
