@@ -20,7 +20,7 @@ use Rattle.ascii_copy.proofs.Fields.{get_d-alike}
 use Rattle.ascii_copy.proofs.Records.{field-copied}
 use Rattle.passes.specs.declared.Fault.{Fault}
 use Rattle.file_as_records.specs.Framed.{Body, field_of}
-use Rattle.file_as_records.proofs.Figures.{is, indicator_of, last_in, opened_in}
+use Rattle.file_as_records.proofs.Figures.{indicator_of, last_in, opened_in}
 use Rattle.file_as_records.proofs.Good.{Good, onto}
 use Rattle.file_as_records.proofs.Tests.{untrue, not-both}
 use Rattle.arrangement.specs.Sound.{All, indicator}

@@ -1,0 +1,9 @@
+use Prim.Native.Nat.{◌-◌}
+use Rattle.salvage_next.proofs.Skipping.{Skips}
+use Rattle.salvage_next.proofs.next_left.Given as goal
+
+abbrev pub invariant-loop-plan : goal.invariant-loop-plan
+invariant-loop-plan l = Skips l.set l.file l.end l.initial.plan l.plan
+
+abbrev pub decreases-loop-plan : goal.decreases-loop-plan
+decreases-loop-plan l = l.end - l.plan.at
