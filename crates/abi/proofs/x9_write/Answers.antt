@@ -1,0 +1,13 @@
+use Rattle.abi.proofs.Laws.{of-outcome}
+use mathlib.Core.Path.{sym, ◌∙◌}
+use Rattle.abi.proofs.x9_write.Goals as goal
+
+pub returns-in-Written : goal.returns-in-Written
+returns-in-Written c =
+    let told = sym c.write.ensures.answer ∙ c.in-Written.is in
+    record { number = rw told; buffer = c.write.ensures.buffer; answer = rw (told, c.fill_accepted.ensures); promised = of-outcome c.write.ensures.answer c.write.ensures.promised }
+
+pub returns-in-Refused : goal.returns-in-Refused
+returns-in-Refused c =
+    let told = sym c.write.ensures.answer ∙ c.in-Refused.is in
+    record { number = rw (told, c.fill_refused.ensures.0); buffer = c.write.ensures.buffer; answer = rw told (c.fill_refused.ensures.1 0); promised = of-outcome c.write.ensures.answer c.write.ensures.promised }
