@@ -34,6 +34,10 @@ def words(text):
 
 
 def main():
+    # a second run would respell what the first has made
+    if len(sys.argv) > 1 or "lineHolds" not in read("crates/judge/specs/Alone.antt"):
+        print(__doc__)
+        raise SystemExit("respell: nothing to do: it runs once, behind port.py")
     ours = glob.glob("crates/**/*.antt", recursive=True)
     names = set()
     for path in ours:

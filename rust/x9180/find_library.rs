@@ -7,6 +7,9 @@ use std::path::{Path, PathBuf};
 /// The file that callers link.
 pub const LIBRARY: &str = "libx9180.a";
 
+/// The name that the file had before, and has in target/staticlib.
+const OLDER: &str = "libabi.a";
+
 /// The folder of the library: the one that X9180_LIB_DIR names, otherwise target/library at the root of the repository. Where the library is missing or
 /// is for another processor, cargo is told so, with the line to type, before anything is compiled.
 pub fn folder(root: &str) -> PathBuf {
@@ -14,6 +17,7 @@ pub fn folder(root: &str) -> PathBuf {
     let manifest = PathBuf::from(env::var_os("CARGO_MANIFEST_DIR").expect("cargo sets the manifest's folder"));
     let folder = env::var_os("X9180_LIB_DIR")
         .map_or_else(|| manifest.join(root).join("target/library"), |given| manifest.join(given));
+    let folder = if folder.join(LIBRARY).exists() { folder } else { renamed(&folder).unwrap_or(folder) };
     let library = folder.join(LIBRARY);
     println!("cargo::rerun-if-changed={}", library.display());
     let wanted = env::var("CARGO_CFG_TARGET_ARCH").expect("cargo sets the processor");
@@ -21,6 +25,14 @@ pub fn folder(root: &str) -> PathBuf {
         println!("cargo::error={} {fault}: type .ci/library at the root of the repository, which proves and builds it for this machine", library.display());
     }
     folder
+}
+
+/// A folder of cargo's own with the library under today's name, where this one has it under the older.
+fn renamed(folder: &Path) -> Option<PathBuf> {
+    let older = folder.join(OLDER);
+    println!("cargo::rerun-if-changed={}", older.display());
+    let own = PathBuf::from(env::var_os("OUT_DIR").expect("cargo sets the build's folder"));
+    fs::copy(older, own.join(LIBRARY)).ok().map(|_| own)
 }
 
 /// Whether the first object of an archive is for this processor.

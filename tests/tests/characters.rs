@@ -6,6 +6,7 @@ use record_tests::ebcdic::Set;
 use std::fs;
 use std::path::Path;
 use std::path::PathBuf;
+use std::process::Command;
 
 fn root() -> PathBuf {
     Path::new(env!("CARGO_MANIFEST_DIR")).parent().expect("tests/ stands in the repository").to_path_buf()
@@ -15,18 +16,21 @@ fn text(path: &str) -> String {
     fs::read_to_string(root().join(path)).unwrap_or_else(|error| panic!("{path}: {error}"))
 }
 
-/// What the proved code answers: `rt` runs the program and holds what it prints to this file, on every run of the gate.
+/// What the proved code answers, from the program that the gate has built.
 fn answers() -> String {
-    text("crates/characters/stdout")
+    let program = root().join("target/bin/characters");
+    let output = Command::new(&program).output().unwrap_or_else(|error| panic!("{}: {error}", program.display()));
+    String::from_utf8(output.stdout).expect("lines of text")
 }
 
-/// That file comes from Tables 1 and 2 and code page 037 and not from the program.
+/// The program's expected output, which the gate holds against it, comes from Tables 1 and 2 and code page 037 and not from the program.
 #[test]
 fn the_lines_expected_of_the_program_are_those_of_tables_1_and_2() {
     assert!(
-        answers() == expected_lines(),
+        text("crates/characters/stdout") == expected_lines(),
         "crates/characters/stdout is not Tables 1 and 2: the program characters_expected of this package makes it"
     );
+    assert!(answers() == expected_lines(), "the proved code does not answer as Tables 1 and 2");
 }
 
 /// Code page 037 was typed twice, here and for the independent reader.

@@ -70,13 +70,18 @@ fn sources_of(name: &str) -> String {
     text
 }
 
-/// The crates of `crates.txt`, each with those that it names.
+/// The crates of `crates.txt`, each with those that it names. A static library says so behind its name.
 fn crates() -> BTreeMap<String, Vec<String>> {
     let list = fs::read_to_string(root().join("crates.txt")).expect("crates.txt");
     list.lines()
         .filter(|line| !line.starts_with('#'))
         .filter_map(|line| line.split_once(':'))
-        .map(|(name, named)| (name.to_string(), named.split_whitespace().map(str::to_string).collect()))
+        .map(|(name, named)| {
+            (
+                name.split_whitespace().next().expect("a name").to_string(),
+                named.split_whitespace().map(str::to_string).collect(),
+            )
+        })
         .collect()
 }
 

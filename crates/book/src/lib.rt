@@ -6,7 +6,7 @@ ghost use Rattle.letters.specs.Letters.{letters_of};
 ghost use Rattle.letters.specs.OfArrangement.{LettersOwn};
 ghost use Rattle.passes.specs.declared.Answer.TheVariants.{Accepted};
 ghost use Rattle.passes.specs.Reading.{surveyed};
-ghost use Rattle.passes.specs.Rows.{rows_of as rowsOfFile};
+ghost use Rattle.passes.specs.Rows.{rows_of as rows_of_file};
 ghost use Rattle.book_model.specs.PlainList.{entries_on, finding, withdrawing};
 ghost use Rattle.book_model.specs.Table.{is_owner, entries_from, entries_of, is_book, is_list, placed};
 ghost use Rattle.book_model.specs.declared.Finding.TheVariants.{Found};
@@ -81,7 +81,7 @@ fn enter_accepted(
     book: &mut [u64],
     list: &mut [u64],
 ) -> Entering
-    requires { (is_book book.old ≡ true) × (is_list list.old ≡ true) × (is_owner owner ≡ true) × (surveyed file.now ≡ Accepted totals) × (length (rowsOfFile file.now) ≡ 7 * totals.records.0) }
+    requires { (is_book book.old ≡ true) × (is_list list.old ≡ true) × (is_owner owner ≡ true) × (surveyed file.now ≡ Accepted totals) × (length (rows_of_file file.now) ≡ 7 * totals.records.0) }
     ensures answer { result ≡ enter_answer file.now number owner (length table.old) book.old list.old }
     ensures rows { table.new ≡ rows_after file.now table.old result }
     ensures book { book.new ≡ book_after file.now number owner book.old result }

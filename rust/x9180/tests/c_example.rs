@@ -13,11 +13,11 @@ fn root() -> PathBuf {
 
 /// Compiles an example against the library that this package is linked with.
 fn compiled(folder: &Path, name: &str) -> PathBuf {
-    let library = std::env::var_os("X9180_LIB_DIR").map_or_else(|| root().join("target/library"), PathBuf::from);
+    let library = std::env::var_os("X9180_LIB_DIR").map_or_else(|| root().join("target/staticlib"), PathBuf::from);
     let program = folder.join(name);
     let status = Command::new(std::env::var("CC").unwrap_or("cc".to_string()))
         .args(["-std=c99", "-Wall", "-Wextra", "-Werror", "-pedantic", "-I"])
-        .args([root().join("include"), root().join(format!("examples/{name}.c")), library.join("libx9180.a")])
+        .args([root().join("include"), root().join(format!("examples/{name}.c")), library.join("libabi.a")])
         .arg("-o")
         .arg(&program)
         .status();

@@ -1,5 +1,5 @@
 //! One version. `rust/Cargo.toml` decides it; the header's macros and the newest entry of CHANGELOG.md are held to it here. The tool prints its package's
-//! own (`env!("CARGO_PKG_VERSION")`), `./install` and `./package` ask the tool, and `rust/icl/tests/install.rs` looks at what they put in place.
+//! own (`env!("CARGO_PKG_VERSION")`), `./install` asks the tool, and `rust/icl/tests/install.rs` looks at what they put in place.
 use crate::repository::*;
 
 /// What stands between quotes behind the first of these words in a file.
