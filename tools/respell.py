@@ -6,10 +6,12 @@ Names that are Rattle's own keep their spelling. A lemma whose name would fall t
 """
 
 import glob
+import os
 import re
+import shutil
 import sys
 
-LIBRARY = "/opt/rattle/rattle"
+LIBRARY = os.path.join(os.path.dirname(os.path.dirname(os.path.realpath(shutil.which("rt") or "rt"))), "rattle")
 TOKEN = re.compile(r"(?<![\w'′])[a-z][\w'′]*[A-Z][\w'′]*(?![\w'′])")
 FACTS = {"noneDropped": "NoneDropped"}
 # Names with the forms of routing numbers in them, which are spelled as the standard prints them.

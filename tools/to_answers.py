@@ -185,7 +185,7 @@ def parts(text):
             comment.append(line)
             here = None
         elif not line.strip():
-            here = None if here is None else here
+            continue
         elif not line[0].isspace() and DECLARED.match(line):
             here = {"name": DECLARED.match(line).group(1), "lines": [line], "comment": comment}
             comment = []
@@ -197,11 +197,6 @@ def parts(text):
             here = declared[-1]
             comment = []
     return uses, declared
-
-
-def body_of(lines, name):
-    """The lines behind the signature, as one text."""
-    return "\n".join(lines)
 
 
 def invariant(f, d, problems):
@@ -266,7 +261,6 @@ def answer(f, d, problems, them, own):
 def used(body, uses):
     """The lines of use, with only the names that the body has."""
     words = set(re.findall(r"[^\s(){},;.]+", body))
-    marks = body
     kept = []
     for line in uses:
         m = re.match(r"use ([^{]*)\.\{(.*)\}\s*$", line)
@@ -280,7 +274,7 @@ def used(body, uses):
             sign = n.split(" as ")[-1]
             if "◌" in sign:
                 bits = [b for b in sign.split("◌") if b]
-                if all(b in marks for b in bits):
+                if all(b in body for b in bits):
                     names.append(n)
             elif sign in words or any(sign in w for w in words):
                 names.append(n)
@@ -322,7 +316,7 @@ def written_in(f, d):
     return made
 
 
-def turn(path, f, crate, function):
+def turn(path, f):
     text = open(path, encoding="utf-8").read()
     if "tie.spec" not in text:
         return "another form"
@@ -379,7 +373,7 @@ def main(argv):
         if key not in names:
             print(f"{at}: no names")
             continue
-        print(f"{at}: {turn(os.path.join(folder, 'Proof.antt'), Function(names[key]), crate, at)}")
+        print(f"{at}: {turn(os.path.join(folder, 'Proof.antt'), Function(names[key]))}")
     return 0
 
 
