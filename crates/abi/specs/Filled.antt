@@ -2,21 +2,21 @@
 use Rattle.std.specs.Prelude.{ℕ, cond, eqb, List, [], ◌∷◌, ◌++◌}
 use Rattle.text.specs.declared.character_set.CharacterSet.{CharacterSet}
 use Rattle.text.specs.declared.character_set.CharacterSet.TheVariants.{Ascii, Ebcdic}
-use Rattle.judge.specs.declared.Judged.{Judged}
+use Rattle.judge.specs.Alone.{Judged}
 use Rattle.picture.specs.declared.Found.{Found}
 use Rattle.tiff.specs.declared.Tags.{Tags}
 use Rattle.passes.specs.Answers.{number_of, numbers_of}
-use Rattle.draft.specs.declared.Outcome.{Outcome}
-use Rattle.draft.specs.declared.Outcome.TheVariants.{Written, Refused}
+use Rattle.draft.specs.Outcomes.{Outcome}
+use Rattle.draft.specs.Outcomes.{Written, Refused}
 use Rattle.net.specs.Net.{bits_of}
-use Rattle.book_model.specs.declared.Entering.{Entering}
+use Rattle.book_model.specs.Entering.{Entering}
 use Rattle.book_model.specs.declared.Finding.{Finding}
 use Rattle.book_model.specs.declared.Tally.{Tally}
 use Rattle.book_model.specs.declared.Change.{Change}
 use Rattle.judge.specs.Alone as alone
-use Rattle.passes.specs.declared.Answer.TheVariants as answers
+use Rattle.passes.specs.Answers as answers
 use Rattle.picture.specs.Picture as picture
-use Rattle.book_model.specs.declared.Entering.TheVariants as entering
+use Rattle.book_model.specs.Entering as entering
 use Rattle.book_model.specs.declared.Finding.TheVariants as finding
 use Rattle.book_model.specs.declared.Tally.TheVariants as tally
 use Rattle.book_model.specs.declared.Change.TheVariants as change

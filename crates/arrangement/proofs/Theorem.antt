@@ -13,8 +13,8 @@ use Rattle.judge.specs.Alone.{type_of}
 use Rattle.passes.specs.declared.Fault.{Fault}
 use Rattle.passes.specs.declared.Fault.TheVariants.{Room}
 use Rattle.passes.specs.declared.Totals.{Totals}
-use Rattle.passes.specs.declared.Answer.{Answer}
-use Rattle.passes.specs.declared.Answer.TheVariants.{Accepted, Refused}
+use Rattle.passes.specs.Answers.{Answer}
+use Rattle.passes.specs.Answers.{Accepted, Refused}
 use Rattle.passes.specs.Rows.{rows_of}
 use Rattle.passes.specs.Reading.{surveyed, in_room, answer_of, table_after, table_of}
 use Rattle.passes.proofs.Passes.{accepted-small}

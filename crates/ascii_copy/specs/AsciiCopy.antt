@@ -5,8 +5,8 @@ use Rattle.text.specs.declared.character_set.CharacterSet.TheVariants.{Ascii, Eb
 use Rattle.text.specs.declared.data_types.DataType.{DataType}
 use Rattle.text.specs.declared.data_types.DataType.TheVariants.{AB, A, AN, ANS, Binary, N, NB, NBD, NBQ, NBMc, NBMcd, NBMcdo, NBMU}
 use Rattle.text.specs.CharacterSet.{set_of}
-use Rattle.frame.specs.declared.Frame.{Frame}
-use Rattle.frame.specs.declared.Frame.TheVariants.{Cut, Whole}
+use Rattle.frame.specs.Frames.{Frame}
+use Rattle.frame.specs.Frames.{Cut, Whole}
 use Rattle.frame.specs.Frames.{part, frame_at}
 use Rattle.layout.specs.Layout.{Sized, sized_parts}
 use Rattle.layout.specs.Layouts.{image_view_data}

@@ -9,17 +9,17 @@ use lib.ListN.{length, length-append}
 use borrow.Author.Tests.{leb-true, eq-eqb}
 use Rattle.frame.specs.Unless.{unless}
 use Rattle.passes.specs.declared.Fault.TheVariants.{Duplicate, Full, Range}
-use Rattle.passes.specs.declared.Answer.{Answer}
+use Rattle.passes.specs.Answers.{Answer}
 use Rattle.passes.specs.declared.Totals.{Totals}
-use Rattle.passes.specs.declared.Answer.TheVariants as answers
+use Rattle.passes.specs.Answers as answers
 use Rattle.figures.specs.declared.Figures.{Figures}
 use Rattle.figures.specs.Figures.{plus, all_of, fits}
 use Rattle.figures.proofs.Laws.{both}
 use Rattle.letters.specs.Letters.{letters_of}
 use Rattle.net.specs.Net.{within}
 use Rattle.book_model.specs.declared.Entry.{Entry}
-use Rattle.book_model.specs.declared.Entering.{Entering}
-use Rattle.book_model.specs.declared.Entering.TheVariants.{Entered, Refused}
+use Rattle.book_model.specs.Entering.{Entering}
+use Rattle.book_model.specs.Entering.{Entered, Refused}
 use Rattle.book_model.specs.PlainList.{Own, Free, totals_of, position_of, is_taken, entries_on, keeps_range, has_room, entering, after_entering}
 use Rattle.book_model.specs.Table.{is_owner, last_number, running_totals, entries_of, free_rows, free_places, taken_by, free_in, with_entries, with_taken}
 use Rattle.book_model.specs.Calls.{book_after, list_after}

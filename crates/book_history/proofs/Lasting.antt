@@ -9,8 +9,8 @@ use borrow.Author.Tests.{eqb-true}
 use Rattle.figures.proofs.Laws.{both}
 use Rattle.letters.specs.Letters.{letters_of}
 use Rattle.book_model.specs.declared.Entry.{Entry}
-use Rattle.book_model.specs.declared.Entering.{Entering}
-use Rattle.book_model.specs.declared.Entering.TheVariants.{Entered, Refused}
+use Rattle.book_model.specs.Entering.{Entering}
+use Rattle.book_model.specs.Entering.{Entered, Refused}
 use Rattle.book_model.specs.declared.Finding.TheVariants.{Found}
 use Rattle.book_model.specs.declared.Change.{Change}
 use Rattle.book_model.specs.declared.Change.TheVariants as changes

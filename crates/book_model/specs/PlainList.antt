@@ -5,15 +5,15 @@ use Rattle.figures.specs.declared.Figures.{Figures}
 use Rattle.figures.specs.Figures.{no_figures, plus, all_of, fits}
 use Rattle.net.specs.Net.{net_of, within}
 use Rattle.passes.specs.declared.Fault.TheVariants.{Duplicate, Full, NoEntry, Range}
-use Rattle.passes.specs.declared.Answer.{Answer}
+use Rattle.passes.specs.Answers.{Answer}
 use Rattle.book_model.specs.declared.Entry.{Entry}
-use Rattle.book_model.specs.declared.Entering.{Entering}
-use Rattle.book_model.specs.declared.Entering.TheVariants.{Entered, Refused}
+use Rattle.book_model.specs.Entering.{Entering}
+use Rattle.book_model.specs.Entering.{Entered, Refused}
 use Rattle.book_model.specs.declared.Finding.{Finding}
 use Rattle.book_model.specs.declared.Tally.{Tally}
 use Rattle.book_model.specs.declared.Change.{Change}
 use Rattle.book_model.specs.declared.Change.TheVariants.{Done}
-use Rattle.passes.specs.declared.Answer.TheVariants as answers
+use Rattle.passes.specs.Answers as answers
 use Rattle.book_model.specs.declared.Finding.TheVariants as findings
 use Rattle.book_model.specs.declared.Tally.TheVariants as tallies
 use Rattle.book_model.specs.declared.Change.TheVariants as changes

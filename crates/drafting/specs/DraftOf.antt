@@ -4,16 +4,16 @@ use Rattle.text.specs.CharacterSet.{set_of}
 use Rattle.text.specs.declared.character_set.CharacterSet.{CharacterSet}
 use Rattle.text.specs.Characters.{is_blank}
 use Rattle.text.specs.DataTypes.{every}
-use Rattle.frame.specs.declared.Frame.{Frame}
-use Rattle.frame.specs.declared.Frame.TheVariants.{Cut, Whole}
+use Rattle.frame.specs.Frames.{Frame}
+use Rattle.frame.specs.Frames.{Cut, Whole}
 use Rattle.frame.specs.Frames.{part, frame_at}
 use Rattle.layout.specs.Layout.{Sized, sized_parts}
 use Rattle.layout.specs.Layouts.{bundle_control}
 use Rattle.judge.specs.Alone.{type_of, stated_size}
 use Rattle.standing.specs.History.{one}
 use Rattle.passes.specs.declared.Totals.{Totals}
-use Rattle.passes.specs.declared.Answer.{Answer}
-use Rattle.passes.specs.declared.Answer.TheVariants.{Accepted}
+use Rattle.passes.specs.Answers.{Answer}
+use Rattle.passes.specs.Answers.{Accepted}
 use Rattle.passes.specs.Reading.{surveyed, in_room, table_after}
 use Rattle.file_as_records.specs.Framed.{field_of}
 use Rattle.arrangement.specs.Tree.{File}

@@ -1,5 +1,6 @@
 -- One record alone (document 01, "Order"): what is judged of a record's body without looking at any other record.
-use Rattle.std.specs.Prelude.{ℕ, ◌+◌, ◌-◌, Bool, true, false, cond, ◌&&◌, ◌||◌, List, [], ◌∷◌, leb, eqb, length, take, drop}
+use Rattle.std.specs.Prelude.{ℕ, ◌+◌, ◌-◌, Bool, true, false, cond, ◌&&◌, ◌||◌, List, [], ◌∷◌, leb, eqb, length, take, drop, ⊤, Ok, Err}
+use Rattle.std.specs.declared.result.Result.{Result}
 use Rattle.text.specs.declared.character_set.CharacterSet.{CharacterSet}
 use Rattle.text.specs.declared.data_types.DataType.{DataType}
 use Rattle.text.specs.Characters.{is_numeric}
@@ -9,22 +10,38 @@ use Rattle.field.specs.Rules.{holds}
 use Rattle.frame.specs.Frames.{part}
 use Rattle.layout.specs.Layout.{Line, Layout, Sized, sized_parts}
 use Rattle.layout.specs.Layouts.{layouts}
-use Rattle.judge.specs.declared.Judged.{Judged}
-use Rattle.judge.specs.declared.Judged.TheVariants.{Sound, WrongLength, UnknownType, WrongField}
+use Rattle.judge.specs.declared.Flaw.{Flaw}
+use Rattle.judge.specs.declared.Flaw.TheVariants as flaws
 use Rattle.frame.specs.Unless.{unless}
+
+-- what is found of a record alone: nothing wrong, or a flaw
+abbrev pub Judged : Type 0
+Judged = Result ⊤ Flaw
+
+abbrev pub Sound : Judged
+Sound = Ok tt
+
+abbrev pub WrongLength : Judged
+WrongLength = Err flaws.Length
+
+abbrev pub UnknownType : Judged
+UnknownType = Err flaws.UnknownType
+
+abbrev pub WrongField : ℕ → Judged
+WrongField n = Err (flaws.Field n)
 
 -- document 01's number of each answer, and its field
 abbrev pub number_of : Judged → ℕ
-number_of Sound = 0
-number_of WrongLength = 4
-number_of UnknownType = 5
-number_of (WrongField n) = 7
+number_of (Ok u) = 0
+number_of (Err flaws.Length) = 4
+number_of (Err flaws.UnknownType) = 5
+number_of (Err (flaws.Field n)) = 7
 
 abbrev pub field_of : Judged → ℕ
-field_of Sound = 0
-field_of WrongLength = 0
-field_of UnknownType = 0
-field_of (WrongField n) = n
+field_of (Ok u) = 0
+field_of (Err flaws.Length) = 0
+field_of (Err flaws.UnknownType) = 0
+field_of (Err (flaws.Field n)) = n
 
 -- the characters at the positions of a field, counted from 1
 abbrev pub characters_of : Line → List ℕ → List ℕ

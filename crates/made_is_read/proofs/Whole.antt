@@ -20,14 +20,14 @@ use Rattle.standing.proofs.Laws.{standing-records}
 use Rattle.passes.specs.declared.Fault.{Fault}
 use Rattle.passes.specs.declared.Fault.TheVariants.{Place, Field, Open}
 use Rattle.passes.specs.declared.Totals.{Totals}
-use Rattle.passes.specs.declared.Turn.{Turn}
-use Rattle.passes.specs.declared.Step.{Step}
-use Rattle.passes.specs.declared.Answer.{Answer}
+use Rattle.passes.specs.Answers.{Turn}
+use Rattle.passes.specs.Answers.{Step}
+use Rattle.passes.specs.Answers.{Answer}
 use Rattle.passes.specs.Reading.{totals_of, step_of, ended_with, ended, run, surveyed, answer_of}
 use Rattle.passes.proofs.Laws.{run_end, run-stop, run_on}
 use Rattle.file_as_records.specs.Framed.{framed}
 use Rattle.own_fault.proofs.SameReading.{ReadTo, start, on}
-use Rattle.draft.specs.declared.Outcome.TheVariants.{Written, Refused}
+use Rattle.draft.specs.Outcomes.{Written, Refused}
 use Rattle.draft.specs.Values.{Values, layout_of}
 use Rattle.draft.specs.Completed.{addenda_behind, first_unfit, first_unfit_part}
 use Rattle.draft.specs.Drafted.{body_of, file_with, past_with, completed_from, made, field_fault, turn_of_row, offset_of, after_turn, rows_ended, answer_from}
@@ -35,8 +35,8 @@ use Rattle.draft.specs.Promises.{every_here, all_fit, as_drafted}
 use Rattle.made_is_read.proofs.Record.{Likewise, stops, goes, step-likewise}
 use Rattle.draft.proofs.Shapes.{Shaped, AllShaped}
 use Rattle.draft.proofs.Judged.{completed-front, fit-lines, fit_parts}
-use Rattle.passes.specs.declared.Answer.TheVariants as answers
-use Rattle.passes.specs.declared.Turn.TheVariants as turns
+use Rattle.passes.specs.Answers as answers
+use Rattle.passes.specs.Answers as turns
 
 -- records more stand behind those of the file
 pub record Appended (vs : List Values) (file : List ℕ) (past : List Entry) : Type 0 where

@@ -10,7 +10,7 @@ use lib.Seq.{take-append-le}
 use borrow.Author.Tests.{le-leb, lt-leb, leb-true, leb-false}
 use Rattle.text.specs.declared.character_set.CharacterSet.{CharacterSet}
 use Rattle.text.specs.CharacterSet.{set_of}
-use Rattle.frame.specs.declared.Frame.TheVariants.{Whole}
+use Rattle.frame.specs.Frames.{Whole}
 use Rattle.frame.specs.Frames.{part, frame_at}
 use Rattle.frame.proofs.Laws.{whole-start, whole-within, whole-size}
 use Rattle.standing.specs.History.{Entry}
@@ -19,9 +19,9 @@ use Rattle.standing.proofs.Laws.{standing-records}
 use Rattle.passes.specs.declared.Fault.{Fault}
 use Rattle.passes.specs.declared.Fault.TheVariants.{Room, Length, After}
 use Rattle.passes.specs.declared.Totals.{Totals}
-use Rattle.passes.specs.declared.Step.TheVariants.{Stop}
-use Rattle.passes.specs.declared.Answer.{Answer}
-use Rattle.passes.specs.declared.Answer.TheVariants.{Accepted, Refused}
+use Rattle.passes.specs.Answers.{Stop}
+use Rattle.passes.specs.Answers.{Answer}
+use Rattle.passes.specs.Answers.{Accepted, Refused}
 use Rattle.passes.specs.CheckOrder.{turn_of}
 use Rattle.passes.specs.Reading.{totals_of, step_of, surveyed, in_room, answer_of}
 use Rattle.own_fault.specs.OwnFault.{is_own, wants_bytes, end_of, NotBefore, OwnFault}

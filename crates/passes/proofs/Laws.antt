@@ -12,18 +12,18 @@ use lib.Seq.{sets, sets-eq, take_at, drop-append-add, length-take-le, drop-drop}
 use borrow.Author.Tests.{le-leb, lt-leb}
 use Rattle.text.specs.declared.character_set.CharacterSet.{CharacterSet}
 use Rattle.frame.specs.Frames.{part, frame_at}
-use Rattle.frame.specs.declared.Frame.{Frame}
-use Rattle.frame.specs.declared.Frame.TheVariants.{Cut, Whole}
+use Rattle.frame.specs.Frames.{Frame}
+use Rattle.frame.specs.Frames.{Cut, Whole}
 use Rattle.judge.specs.Alone.{type_of}
 use Rattle.standing.specs.History.{Entry, entry}
 use Rattle.standing.specs.Standing.{standing}
 use Rattle.standing.specs.declared.Standing.{Standing}
 use Rattle.passes.specs.declared.Fault.{Fault}
 use Rattle.passes.specs.declared.Fault.TheVariants.{After}
-use Rattle.passes.specs.declared.Turn.{Turn}
-use Rattle.passes.specs.declared.Turn.TheVariants.{Faulty, Good}
-use Rattle.passes.specs.declared.Step.TheVariants.{Stop, On}
-use Rattle.passes.specs.declared.Answer.TheVariants.{Refused}
+use Rattle.passes.specs.Answers.{Turn}
+use Rattle.passes.specs.Answers.{Faulty, Good}
+use Rattle.passes.specs.Answers.{Stop, On}
+use Rattle.passes.specs.Answers.{Refused}
 use Rattle.passes.specs.CheckOrder.{turn_of}
 use Rattle.passes.specs.Rows.{row_of, rows_from}
 use Rattle.passes.specs.Reading.{of_turn, of_frame, step_of, ended, run}

@@ -2,8 +2,8 @@
 -- next. `s` is what stands before the record, `at` the offset of its length field, `body` the bytes after it.
 use Rattle.std.specs.Prelude.{ℕ, Bool, true, false, List, leb, eqb, length}
 use Rattle.text.specs.declared.character_set.CharacterSet.{CharacterSet}
-use Rattle.judge.specs.declared.Judged.{Judged}
-use Rattle.judge.specs.declared.Judged.TheVariants.{Sound, WrongLength, WrongField}
+use Rattle.judge.specs.Alone.{Judged}
+use Rattle.judge.specs.Alone.{Sound, WrongLength, WrongField}
 use Rattle.judge.specs.Alone.{type_of, judged_as}
 use Rattle.order.specs.MayFollow.{is_carried, may_follow}
 use Rattle.standing.specs.declared.Standing.{Standing}
@@ -11,10 +11,10 @@ use Rattle.agree.specs.Links.{link_fault}
 use Rattle.agree.specs.Totals.{total_fault}
 use Rattle.passes.specs.declared.Fault.{Fault}
 use Rattle.passes.specs.declared.Fault.TheVariants.{Length, UnknownType, Place, Field, Link, Total}
-use Rattle.passes.specs.declared.Turn.{Turn}
-use Rattle.passes.specs.declared.Turn.TheVariants.{Faulty, Good}
+use Rattle.passes.specs.Answers.{Turn}
+use Rattle.passes.specs.Answers.{Faulty, Good}
 use Rattle.frame.specs.Unless.{unless}
-use Rattle.judge.specs.declared.Judged.TheVariants as judgements
+use Rattle.judge.specs.Alone as judgements
 
 -- a record alone: LENGTH, FIELD over the fixed fields, LENGTH, FIELD over the variable fields
 abbrev pub unless_alone : Judged → Turn → Turn

@@ -8,13 +8,13 @@ use lib.ListN.{length}
 use borrow.Author.Tests.{eqb-true}
 use Rattle.text.specs.declared.character_set.CharacterSet.TheVariants.{Ebcdic}
 use Rattle.text.specs.CharacterSet.{set_of}
-use Rattle.frame.specs.declared.Frame.{Frame}
-use Rattle.frame.specs.declared.Frame.TheVariants.{Cut, Whole}
+use Rattle.frame.specs.Frames.{Frame}
+use Rattle.frame.specs.Frames.{Cut, Whole}
 use Rattle.frame.specs.Frames.{part, frame_at}
 use Rattle.frame.specs.Unless.{unless}
 use Rattle.layout.specs.Layouts.{image_view_data}
-use Rattle.judge.specs.declared.Judged.{Judged}
-use Rattle.judge.specs.declared.Judged.TheVariants.{Sound, WrongLength, UnknownType, WrongField}
+use Rattle.judge.specs.Alone.{Judged}
+use Rattle.judge.specs.Alone.{Sound, WrongLength, UnknownType, WrongField}
 use Rattle.judge.specs.Alone.{type_of, alone}
 use Rattle.judge.specs.Image.{image_start, image_size}
 use Rattle.ascii_copy.specs.AsciiCopy.{ascii_copy, Begins}

@@ -8,8 +8,8 @@ use lib.ListN.{length}
 use borrow.Author.Tests.{eqb-true}
 use Rattle.text.specs.declared.character_set.CharacterSet.TheVariants.{Ascii, Ebcdic}
 use Rattle.text.specs.CharacterSet.{set_of}
-use Rattle.frame.specs.declared.Frame.{Frame}
-use Rattle.frame.specs.declared.Frame.TheVariants.{Cut, Whole}
+use Rattle.frame.specs.Frames.{Frame}
+use Rattle.frame.specs.Frames.{Cut, Whole}
 use Rattle.frame.specs.Frames.{part, frame_at}
 use Rattle.frame.specs.Unless.{unless}
 use Rattle.layout.specs.Layouts.{image_view_data}

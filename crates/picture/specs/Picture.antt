@@ -2,11 +2,11 @@
 use Rattle.std.specs.Prelude.{ℕ, ◌+◌, Bool, true, false, ◌&&◌, List, [], leb, eqb, length}
 use Rattle.text.specs.CharacterSet.{set_of}
 use Rattle.text.specs.declared.character_set.CharacterSet.{CharacterSet}
-use Rattle.frame.specs.declared.Frame.{Frame}
-use Rattle.frame.specs.declared.Frame.TheVariants.{Cut, Whole}
+use Rattle.frame.specs.Frames.{Frame}
+use Rattle.frame.specs.Frames.{Cut, Whole}
 use Rattle.frame.specs.Frames.{part, frame_at}
-use Rattle.judge.specs.declared.Judged.{Judged}
-use Rattle.judge.specs.declared.Judged.TheVariants.{Sound, WrongLength, UnknownType, WrongField}
+use Rattle.judge.specs.Alone.{Judged}
+use Rattle.judge.specs.Alone.{Sound, WrongLength, UnknownType, WrongField}
 use Rattle.layout.specs.Layouts.{image_view_data}
 use Rattle.judge.specs.Alone.{type_of, alone}
 use Rattle.judge.specs.Image.{image_start, image_size}

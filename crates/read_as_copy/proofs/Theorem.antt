@@ -9,8 +9,8 @@ use Rattle.text.specs.CharacterSet.{set_of}
 use Rattle.ascii_copy.specs.AsciiCopy.{ascii_copy, first}
 use Rattle.passes.specs.declared.Fault.TheVariants.{Size}
 use Rattle.passes.specs.declared.Totals.{Totals}
-use Rattle.passes.specs.declared.Answer.{Answer}
-use Rattle.passes.specs.declared.Answer.TheVariants.{Accepted, Refused}
+use Rattle.passes.specs.Answers.{Answer}
+use Rattle.passes.specs.Answers.{Accepted, Refused}
 use Rattle.passes.specs.Rows.{rows_of}
 use Rattle.passes.specs.Reading.{surveyed, in_room, answer_of, table_after, table_of}
 use Rattle.ascii_copy.proofs.Copies.{allowed, CopyOf, itself, unread, translates, copy_of}

@@ -1,14 +1,14 @@
 -- One record more of a file that is made out record by record, without a draft. Nothing of this has to be believed.
 use Rattle.std.specs.Prelude.{ℕ, ◌≤◌, List, ◌∷◌, ◌≡◌, length}
 use Rattle.standing.specs.History.{Entry}
-use Rattle.draft.specs.declared.Outcome.TheVariants as outcomes
+use Rattle.draft.specs.Outcomes as outcomes
 use Rattle.draft.specs.Values.{Values}
 use Rattle.draft.specs.Completed.{addenda_behind}
 use Rattle.draft.specs.Drafted.{file_with, past_with, offset_of, answer_from}
 use Rattle.sheet.specs.Sheet.{OnSheet}
 use Rattle.salvage_entry.specs.declared.Pen.{Pen}
-use Rattle.salvage_entry.specs.declared.Entered.{Entered}
-use Rattle.salvage_entry.specs.declared.Entered.TheVariants.{Refused, On}
+use Rattle.salvage_entry.specs.EnteredOn.{Entered}
+use Rattle.salvage_entry.specs.EnteredOn.{Refused, On}
 
 -- a file for which a sheet, figures and a number of bytes stand
 pub record Begun (sheet : List ℕ) (pen : Pen) : Type 0 where

@@ -5,8 +5,8 @@ use Rattle.text.specs.declared.character_set.CharacterSet.{CharacterSet}
 use Rattle.frame.specs.Unless.{unless}
 use Rattle.judge.specs.Alone.{type_of}
 use Rattle.passes.specs.declared.Fault.TheVariants.{Size, Room, Nothing}
-use Rattle.draft.specs.declared.Outcome.{Outcome}
-use Rattle.draft.specs.declared.Outcome.TheVariants.{Written, Refused}
+use Rattle.draft.specs.Outcomes.{Outcome}
+use Rattle.draft.specs.Outcomes.{Written, Refused}
 use Rattle.draft.specs.Values.{Values}
 use Rattle.draft.specs.Drafted.{made, outcome_of, buffer_after}
 use Rattle.salvage_model.specs.Walked.{walked}

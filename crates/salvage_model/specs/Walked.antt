@@ -2,8 +2,8 @@
 use Rattle.std.specs.Prelude.{ℕ, zero, suc, ◌+◌, cond, List, [], ◌∷◌, leb, eqb, length}
 use Rattle.text.specs.CharacterSet.{set_of}
 use Rattle.text.specs.declared.character_set.CharacterSet.{CharacterSet}
-use Rattle.frame.specs.declared.Frame.{Frame}
-use Rattle.frame.specs.declared.Frame.TheVariants.{Cut, Whole}
+use Rattle.frame.specs.Frames.{Frame}
+use Rattle.frame.specs.Frames.{Cut, Whole}
 use Rattle.frame.specs.Frames.{part, frame_at}
 use Rattle.judge.specs.Alone.{type_of}
 use Rattle.file_as_records.specs.Framed.{Body}

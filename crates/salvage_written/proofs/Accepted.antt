@@ -13,8 +13,8 @@ use Rattle.frame.specs.Unless.{unless}
 use Rattle.passes.specs.declared.Fault.{Fault}
 use Rattle.passes.specs.declared.Fault.TheVariants.{Size, Room, Nothing}
 use Rattle.passes.specs.declared.Totals.{Totals}
-use Rattle.draft.specs.declared.Outcome.{Outcome}
-use Rattle.draft.specs.declared.Outcome.TheVariants.{Written, Refused}
+use Rattle.draft.specs.Outcomes.{Outcome}
+use Rattle.draft.specs.Outcomes.{Written, Refused}
 use Rattle.draft.specs.Values.{Values}
 use Rattle.draft.specs.Drafted.{made, answer_from, in_room, outcome_of, buffer_after}
 use Rattle.draft.specs.Promises.{ReadBack}

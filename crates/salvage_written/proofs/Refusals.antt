@@ -13,8 +13,8 @@ use Rattle.passes.specs.declared.Fault.TheVariants.{Size, Room, Nothing}
 use Rattle.passes.specs.declared.Totals.{Totals}
 use Rattle.file_as_records.specs.Framed.{Body, framed}
 use Rattle.file_as_records.proofs.LengthFields.{one-framing}
-use Rattle.draft.specs.declared.Outcome.{Outcome}
-use Rattle.draft.specs.declared.Outcome.TheVariants.{Written, Refused}
+use Rattle.draft.specs.Outcomes.{Outcome}
+use Rattle.draft.specs.Outcomes.{Written, Refused}
 use Rattle.draft.specs.Drafted.{made, answer_from, in_room, outcome_of}
 use Rattle.made_is_read.proofs.Whole.{accepted}
 use Rattle.values_back.proofs.Whole.{bodies_from, framed-from}
