@@ -1,5 +1,5 @@
 -- The ASCII copy of a file (request 5): "the copy changes character fields only". Lengths stay as they are.
-use Rattle.std.specs.Prelude.{ℕ, zero, suc, ◌+◌, Bool, true, false, cond, List, [], ◌∷◌, ◌++◌, map, ◌≡◌, eqb, length, take, drop}
+use Rattle.std.specs.Prelude.{ℕ, zero, suc, ◌+◌, Bool, true, false, cond, List, [], ◌∷◌, ◌++◌, map, ◌≡◌, eqb, length, take, drop, Some}
 use Rattle.text.specs.declared.character_set.CharacterSet.{CharacterSet}
 use Rattle.text.specs.declared.character_set.CharacterSet.TheVariants.{Ascii, Ebcdic}
 use Rattle.text.specs.declared.data_types.DataType.{DataType}
@@ -47,7 +47,7 @@ copied_body body =
 -- record by record as the lengths frame them, n at most; bytes that no length frames are kept
 abbrev pub copied_frame : List ℕ → Frame → (List ℕ → List ℕ) → List ℕ
 copied_frame bytes Cut others = bytes
-copied_frame bytes (Whole start size) others = take start bytes ++ (copied_body (part start size bytes) ++ others (drop (start + size) bytes))
+copied_frame bytes (Some x) others = take x.start bytes ++ (copied_body (part x.start x.size bytes) ++ others (drop (x.start + x.size) bytes))
 
 unfoldable pub copied_frames : ℕ → List ℕ → List ℕ
 copied_frames zero bytes = bytes

@@ -1,5 +1,5 @@
 -- What is promised of a draft that is made out (request 4, readings 43 and 44).
-use Rattle.std.specs.Prelude.{ℕ, ◌*◌, ◌≤◌, ◌<◌, Bool, true, ◌&&◌, List, [], ◌∷◌, ◌≡◌, eqb, length, take}
+use Rattle.std.specs.Prelude.{ℕ, ◌*◌, ◌≤◌, ◌<◌, Bool, true, ◌&&◌, List, [], ◌∷◌, ◌≡◌, eqb, length, take, Err}
 use Rattle.text.specs.CharacterSet.{set_of}
 use Rattle.text.specs.declared.character_set.CharacterSet.TheVariants.{Ascii}
 use Rattle.passes.specs.declared.Fault.{Fault}
@@ -60,7 +60,7 @@ as_place Book = Book
 
 abbrev pub as_drafted : ℕ → Answer → Outcome
 as_drafted n (answers.Accepted t) = Written n t
-as_drafted n (answers.Refused fault place offset) = Refused (as_place fault) place offset
+as_drafted n (Err r) = Refused (as_place r.fault) r.place r.offset
 
 pub record Promised (text draft out : List ℕ) (outcome : Outcome) (after : List ℕ) : Type 0 where
   -- "What it writes is accepted, and reading it gives back exactly the values it was given."

@@ -1,5 +1,5 @@
 -- The draft of an accepted file, the file itself being the text (request 4, readings 41 and 45).
-use Rattle.std.specs.Prelude.{ℕ, zero, suc, ◌+◌, ◌*◌, ◌/◌, ◌&&◌, cond, List, [], ◌∷◌, ◌++◌, map, ◌≡◌, leb, eqb, length, take}
+use Rattle.std.specs.Prelude.{ℕ, zero, suc, ◌+◌, ◌*◌, ◌/◌, ◌&&◌, cond, List, [], ◌∷◌, ◌++◌, map, ◌≡◌, leb, eqb, length, take, Some}
 use Rattle.text.specs.CharacterSet.{set_of}
 use Rattle.text.specs.declared.character_set.CharacterSet.{CharacterSet}
 use Rattle.text.specs.Characters.{is_blank}
@@ -32,7 +32,7 @@ row_of set body start =
 
 abbrev pub row_and : CharacterSet → List ℕ → Frame → (ℕ → List ℕ) → List ℕ
 row_and set file Cut others = []
-row_and set file (Whole start size) others = row_of set (part start size file) start ++ others (start + size)
+row_and set file (Some x) others = row_of set (part x.start x.size file) x.start ++ others (x.start + x.size)
 
 -- the rows of the records that the lengths frame from an offset on, n at most
 unfoldable pub rows_from : CharacterSet → ℕ → List ℕ → ℕ → List ℕ

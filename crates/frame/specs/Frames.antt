@@ -8,7 +8,7 @@ use Rattle.frame.specs.Unless.{unless}
 abbrev pub Frame : Type 0
 Frame = Option Extent
 
-abbrev pub Cut : Frame
+pattern abbrev pub Cut : Frame
 Cut = None
 
 abbrev pub Whole : ℕ → ℕ → Frame

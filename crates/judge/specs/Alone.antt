@@ -18,30 +18,30 @@ use Rattle.frame.specs.Unless.{unless}
 abbrev pub Judged : Type 0
 Judged = Result ⊤ Flaw
 
-abbrev pub Sound : Judged
+pattern abbrev pub Sound : Judged
 Sound = Ok tt
 
-abbrev pub WrongLength : Judged
+pattern abbrev pub WrongLength : Judged
 WrongLength = Err flaws.Length
 
-abbrev pub UnknownType : Judged
+pattern abbrev pub UnknownType : Judged
 UnknownType = Err flaws.UnknownType
 
-abbrev pub WrongField : ℕ → Judged
+pattern abbrev pub WrongField : ℕ → Judged
 WrongField n = Err (flaws.Field n)
 
 -- document 01's number of each answer, and its field
 abbrev pub number_of : Judged → ℕ
-number_of (Ok u) = 0
-number_of (Err flaws.Length) = 4
-number_of (Err flaws.UnknownType) = 5
-number_of (Err (flaws.Field n)) = 7
+number_of Sound = 0
+number_of WrongLength = 4
+number_of UnknownType = 5
+number_of (WrongField n) = 7
 
 abbrev pub field_of : Judged → ℕ
-field_of (Ok u) = 0
-field_of (Err flaws.Length) = 0
-field_of (Err flaws.UnknownType) = 0
-field_of (Err (flaws.Field n)) = n
+field_of Sound = 0
+field_of WrongLength = 0
+field_of UnknownType = 0
+field_of (WrongField n) = n
 
 -- the characters at the positions of a field, counted from 1
 abbrev pub characters_of : Line → List ℕ → List ℕ

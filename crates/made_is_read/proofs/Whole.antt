@@ -7,6 +7,7 @@ use mathlib.Core.Path.{◌≡◌, refl, sym, ap, ◌∙◌, subst}
 use lib.Dec.{eqb}
 use lib.ListN.{length, get_or, take, length-append}
 use borrow.Author.Tests.{le-leb, ne_eqb, eqb-true, eq-eqb}
+use Rattle.std.specs.Prelude.{Err}
 use Rattle.text.specs.CharacterSet.{set_of}
 use Rattle.text.specs.declared.character_set.CharacterSet.TheVariants.{Ascii}
 use Rattle.decimal.specs.Digits.{digits}
@@ -90,7 +91,7 @@ through false fault next e = (cc, cc)
 
 written_as : (a : Answer) (m : ℕ) {n : ℕ} {t : Totals} → as_drafted m a ≡ Written n t → a ≡ answers.Accepted t
 written_as (answers.Accepted t) m e = cc
-written_as (answers.Refused fault place offset) m e = cc
+written_as (Err r) m e = cc
 
 written-some : (vs : List Values) {n : ℕ} {t : Totals} → answer_from vs [] [] ≡ Written n t → 1 ≤ length (made vs)
 unfolding made completed_from answer_from rows_ended standing

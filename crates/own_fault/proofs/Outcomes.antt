@@ -7,6 +7,7 @@ use mathlib.Core.Path.{◌≡◌, refl, ◌∙◌}
 use lib.Dec.{leb, eqb}
 use lib.ListN.{length}
 use borrow.Author.Tests.{le-leb, leb-true, leb-false}
+use Rattle.std.specs.Prelude.{Some}
 use Rattle.text.specs.declared.character_set.CharacterSet.{CharacterSet}
 use Rattle.text.specs.CharacterSet.{set_of}
 use Rattle.frame.specs.Frames.{Frame}
@@ -117,8 +118,8 @@ module _ (set : CharacterSet) (file : List ℕ) where
           → Outcome set file (Refused fault (length past + 1) at)
       cases true l f w q = let is : fault ≡ After = cc in rw is (behind r h l)
       cases false l frames.Cut w q = let is : fault ≡ Cut = cc in rw is (cut r h)
-      cases false l (Whole from size) w q =
-          faulty r h l from size w step (turn-own set file s at (part from size file) (of-turn (turn_of set file s at (part from size file)) size q))
+      cases false l (Some x) w q =
+          faulty r h l x.start x.size w step (turn-own set file s at (part x.start x.size file) (of-turn (turn_of set file s at (part x.start x.size file)) x.size q))
 
   run-outcome : (n at : ℕ) (past : List Entry) → ReadTo set file past at → 1 ≤ length file → length file ≤ at + n → Outcome set file (run set n file at past)
   unfolding run

@@ -6,6 +6,7 @@ use mathlib.Core.List.{List}
 use lib.Dec.{leb, eqb}
 use lib.ListN.{length}
 use borrow.Author.Tests.{eqb-true}
+use Rattle.std.specs.Prelude.{Some}
 use Rattle.text.specs.declared.character_set.CharacterSet.TheVariants.{Ebcdic}
 use Rattle.text.specs.CharacterSet.{set_of}
 use Rattle.frame.specs.Frames.{Frame}
@@ -60,7 +61,7 @@ module _ (file copy : List ℕ) where
       where
         cases : (f : Frame) → frame_at file at ≡ f → Kept (in_frame Ebcdic file f)
         cases Cut e = refl
-        cases (Whole start size) e = body_kept start size e
+        cases (Some x) e = body_kept x.start x.size e
 
 pub bytes-of-copy : (file : List ℕ) (offset : ℕ) → Begins file offset
     → bytes_of (ascii_copy file) (picture_at (ascii_copy file) offset) ≡ bytes_of file (picture_at file offset)

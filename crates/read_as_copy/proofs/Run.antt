@@ -9,6 +9,7 @@ use lib.Dec.{leb, eqb}
 use lib.ListN.{length, take, drop, length-take}
 use lib.Seq.{take-take}
 use borrow.Author.Tests.{leb-true, leb-false}
+use Rattle.std.specs.Prelude.{Some}
 use Rattle.text.specs.declared.character_set.CharacterSet.TheVariants.{Ascii, Ebcdic}
 use Rattle.frame.specs.Frames.{Frame}
 use Rattle.frame.specs.Frames.{Cut, Whole}
@@ -117,7 +118,7 @@ module _ (file copy : List ℕ) (at : ℕ) (past : List Entry) (r : Reached file
     where
       cases : (f : Frame) → frame_at file at ≡ f → of_frame Ascii copy (standing Ebcdic file past) at f ≡ of_frame Ebcdic file (standing Ebcdic file past) at f
       cases Cut e = refl
-      cases (Whole start size) e = ap (of_turn size) (turn-alike start size e)
+      cases (Some x) e = ap (of_turn x.size) (turn-alike x.start x.size e)
 
   module _ (t size : ℕ) (step : step_of Ebcdic file (standing Ebcdic file past) at ≡ On t size) where
     -- behind a good record both readings are in step again

@@ -1,5 +1,5 @@
 -- One record more of a file that is made out record by record, without a draft. Nothing of this has to be believed.
-use Rattle.std.specs.Prelude.{ℕ, ◌≤◌, List, ◌∷◌, ◌≡◌, length}
+use Rattle.std.specs.Prelude.{ℕ, ◌≤◌, List, ◌∷◌, ◌≡◌, length, Err}
 use Rattle.standing.specs.History.{Entry}
 use Rattle.draft.specs.Outcomes as outcomes
 use Rattle.draft.specs.Values.{Values}
@@ -31,5 +31,5 @@ pub record OneMore (v : Values) (vs : List Values) (file : List ℕ) (past : Lis
   pub answer : answer_from (v ∷ vs) file past ≡ answer_from vs (file_with v vs file past) (past_with v vs file past)
 
 abbrev pub EnteredAs : Values → List Values → List ℕ → List Entry → Entered → List ℕ → Type 0
-EnteredAs v vs file past (Refused fault place offset) sheet = answer_from (v ∷ vs) file past ≡ outcomes.Refused fault place offset
+EnteredAs v vs file past (Err r) sheet = answer_from (v ∷ vs) file past ≡ Err r
 EnteredAs v vs file past (On pen) sheet = OneMore v vs file past pen sheet

@@ -8,6 +8,7 @@ use lib.Dec.{eqb}
 use lib.ListN.{length}
 use lib.Seq.{drop_at}
 use borrow.Author.Tests.{eq-eqb}
+use Rattle.std.specs.Prelude.{Err}
 use Rattle.text.specs.declared.character_set.CharacterSet.TheVariants.{Ascii}
 use Rattle.frame.specs.Unless.{unless}
 use Rattle.judge.specs.Alone.{Sound}
@@ -47,7 +48,7 @@ use Rattle.passes.specs.Answers as turns
 
 abbrev pub CanCome : Outcome → Type 0
 CanCome (Written n t) = Unit {0}
-CanCome (Refused fault place offset) = can_come fault ≡ true
+CanCome (Err r) = can_come r.fault ≡ true
 
 -- records that stand in the file that is being made
 pub record State (past : List Body) : Type 0 where

@@ -8,6 +8,7 @@ use lib.Dec.{leb}
 use lib.ListN.{length, take, drop, length-append}
 use lib.Seq.{take_at}
 use borrow.Author.Tests.{leb-true, le-leb, lt-leb, ne_eqb}
+use Rattle.std.specs.Prelude.{Err}
 use Rattle.text.specs.CharacterSet.{set_of}
 use Rattle.text.specs.declared.character_set.CharacterSet.{CharacterSet}
 use Rattle.text.specs.declared.character_set.CharacterSet.TheVariants.{Ascii, Ebcdic}
@@ -90,7 +91,7 @@ in-room rows (answers.Accepted u) t e = by (leb u.records.0 rows) e
     by : (c : Bool) → cond c (answers.Accepted u) (answers.Refused Room u.records.0 0) ≡ answers.Accepted t → answers.Accepted u ≡ answers.Accepted t
     by true e = e
     by false e = cc
-in-room rows (answers.Refused fault place offset) t e = cc
+in-room rows (Err r) t e = cc
 
 copy-accepted : (file : List ℕ) (t : Totals) → surveyed file ≡ answers.Accepted t → surveyed (ascii_copy file) ≡ answers.Accepted t
 unfolding answer_of

@@ -1,5 +1,5 @@
 -- What the slow reader's functions promise each other. Each stands at an offset of the file and gives the answer to the whole file.
-use Rattle.std.specs.Prelude.{ℕ, ◌+◌, ◌*◌, ◌≤◌, ◌<◌, Bool, true, false, ◌&&◌, cond, ◌≡◌, List, [], leb, eqb, length}
+use Rattle.std.specs.Prelude.{ℕ, ◌+◌, ◌*◌, ◌≤◌, ◌<◌, Bool, true, false, ◌&&◌, cond, ◌≡◌, List, [], leb, eqb, length, Some}
 use Rattle.text.specs.declared.character_set.CharacterSet.{CharacterSet}
 use Rattle.frame.specs.Frames.{Frame}
 use Rattle.frame.specs.Frames.{Cut, Whole}
@@ -21,7 +21,7 @@ type_in set body = cond (leb 2 (length body) && is_carried (type_of set body)) (
 
 abbrev pub framed_type : CharacterSet → List ℕ → Frame → ℕ
 framed_type set file Cut = 0
-framed_type set file (Whole start size) = type_in set (part start size file)
+framed_type set file (Some x) = type_in set (part x.start x.size file)
 
 -- the same of the record at an offset, 0 too where the bytes end there or are cut
 unfoldable pub type_at : CharacterSet → List ℕ → ℕ → ℕ
