@@ -25,6 +25,7 @@ use Rattle.passes.specs.Answers.{Answer}
 use Rattle.passes.specs.Answers.{Accepted, Refused}
 use Rattle.passes.specs.CheckOrder.{turn_of}
 use Rattle.passes.specs.Reading.{totals_of, step_of, surveyed, in_room, answer_of}
+use Rattle.passes.proofs.Laws.{same-refusal}
 use Rattle.own_fault.specs.OwnFault.{is_own, wants_bytes, end_of, NotBefore, OwnFault}
 use Rattle.own_fault.proofs.SameReading.{ReadTo, read-within, as_long, set_same, frame_same, step_same, read-other}
 use Rattle.own_fault.proofs.Outcomes.{is_closed, last-is, Outcome, no_size, closed, left_open, behind, cut, faulty, outcome, stops_at, comes-to}
@@ -73,22 +74,22 @@ module _ (file other : List ℕ) (limit : length other ≤ 268_435_456) {past : 
 module _ (file : List ℕ) where
   own-answer : (a : Answer) → Outcome (set_of file) file a → {fault : Fault} {place offset : ℕ} → a ≡ Refused fault place offset → is_own fault ≡ true
       → (other : List ℕ) → length other ≤ 268_435_456 → take (end_of file offset) other ≡ take (end_of file offset) file → surveyed other ≡ a
-  own-answer a no_size e o other limit same = cc
+  own-answer a no_size e o other limit same = let f = same-refusal _ _ e in cc f.0
   own-answer a (closed r h l) e o other limit same = cc
-  own-answer a (left_open r h l) e o other limit same = cc
-  own-answer a (behind r h l) e o other limit same = cc
-  own-answer a (cut r h) e o other limit same = cc
+  own-answer a (left_open r h l) e o other limit same = let f = same-refusal _ _ e in cc f.0
+  own-answer a (behind r h l) e o other limit same = let f = same-refusal _ _ e in cc f.0
+  own-answer a (cut r h) e o other limit same = let f = same-refusal _ _ e in cc f.0
   own-answer a (faulty {at = at} r h l from size w step i) {offset = offset} e o other limit same =
-      let there : offset ≡ at = cc in
+      let there : offset ≡ at = sym (same-refusal _ _ e).2 in
       own-stop file other limit r l from size w step (rw there at same)
 
   never-room : (a : Answer) → Outcome (set_of file) file a → {place offset : ℕ} → a ≡ Refused Room place offset → ◌≡◌ {A = ℕ} 0 1
-  never-room a no_size e = cc
+  never-room a no_size e = let f = same-refusal _ _ e in cc f.0
   never-room a (closed r h l) e = cc
-  never-room a (left_open r h l) e = cc
-  never-room a (behind r h l) e = cc
-  never-room a (cut r h) e = cc
-  never-room a (faulty r h l from size w step i) e = cc
+  never-room a (left_open r h l) e = let f = same-refusal _ _ e in cc f.0
+  never-room a (behind r h l) e = let f = same-refusal _ _ e in cc f.0
+  never-room a (cut r h) e = let f = same-refusal _ _ e in cc f.0
+  never-room a (faulty r h l from size w step i) e = let f = same-refusal _ _ e in cc f.0
 
   module _ (more : List ℕ) (limit : length (file ++ more) ≤ 268_435_456) where
     read_more : {past : List Entry} {at : ℕ} → ReadTo (set_of file) file past at → ReadTo (set_of (file ++ more)) (file ++ more) past at
@@ -111,13 +112,13 @@ module _ (file : List ℕ) where
     accepted-answer a (faulty r l c from size w step i) e h = cc
 
     after-answer : (a : Answer) → Outcome (set_of file) file a → {place offset : ℕ} → a ≡ Refused After place offset → surveyed (file ++ more) ≡ a
-    after-answer a no_size e = cc
+    after-answer a no_size e = let f = same-refusal _ _ e in cc f.0
     after-answer a (closed r h l) e = cc
-    after-answer a (left_open r h l) e = cc
+    after-answer a (left_open r h l) e = let f = same-refusal _ _ e in cc f.0
     after-answer a (behind {at = at} r h l) e =
         after-99 file (file ++ more) limit r (take-append-le at file more (omega arith)) l (omega (arith, length-append file more))
-    after-answer a (cut r h) e = cc
-    after-answer a (faulty r h l from size w step i) e = cc
+    after-answer a (cut r h) e = let f = same-refusal _ _ e in cc f.0
+    after-answer a (faulty r h l from size w step i) e = let f = same-refusal _ _ e in cc f.0
 
     wanting-answer : (a : Answer) → Outcome (set_of file) file a → {fault : Fault} {place offset : ℕ} → a ≡ Refused fault place offset
         → wants_bytes fault ≡ true → NotBefore place (surveyed (file ++ more))
@@ -129,12 +130,12 @@ module _ (file : List ℕ) where
         more-read r l c p = rw p (comes-to (file ++ more) limit (read_more r) (omega (arith, length-append file more)) c)
 
         by : (a : Answer) → Outcome (set_of file) file a → a ≡ Refused fault place offset → NotBefore place (surveyed (file ++ more))
-        by a no_size e = let z : ◌≡◌ {A = ℕ} 0 1 = cc in absurd (omega arith)
+        by a no_size e = let f = same-refusal _ _ e in let z : ◌≡◌ {A = ℕ} 0 1 = cc f.0 in absurd (omega arith)
         by a (closed r l c) e = let z : ◌≡◌ {A = ℕ} 0 1 = cc in absurd (omega arith)
-        by a (left_open r l c) e = more-read r l (λ k. c) (cc)
-        by a (behind r l c) e = let z : ◌≡◌ {A = ℕ} 0 1 = cc in absurd (omega arith)
-        by a (cut r l) e = more-read r (omega arith) (λ k. absurd (omega (arith, length-append file more))) (cc)
-        by a (faulty r l c from size w step i) e = more-read r (omega arith) (λ k. absurd (omega (arith, length-append file more))) (cc)
+        by a (left_open r l c) e = more-read r l (λ k. c) (sym (same-refusal _ _ e).1)
+        by a (behind r l c) e = let f = same-refusal _ _ e in let z : ◌≡◌ {A = ℕ} 0 1 = cc f.0 in absurd (omega arith)
+        by a (cut r l) e = more-read r (omega arith) (λ k. absurd (omega (arith, length-append file more))) (sym (same-refusal _ _ e).1)
+        by a (faulty r l c from size w step i) e = more-read r (omega arith) (λ k. absurd (omega (arith, length-append file more))) (sym (same-refusal _ _ e).1)
 
 -- and with ROOM
 data Roomed (a : Answer) (fault : Fault) (place offset : ℕ) : Type 0 where
@@ -148,7 +149,7 @@ module _ (rows : ℕ) where
     where
       cases : (b : Bool) → cond b (Accepted t) (Refused Room t.records.0 0) ≡ Refused fault place offset → Roomed (Accepted t) fault place offset
       cases true q = itself q
-      cases false q = full t refl (cc) (cc) (cc)
+      cases false q = let f = same-refusal _ _ q in full t refl (sym f.0) (sym f.1) (sym f.2)
 
   accepted-in : (a : Answer) {t : Totals} → in_room rows a ≡ Accepted t → a ≡ Accepted t
   accepted-in (Err r) e = e

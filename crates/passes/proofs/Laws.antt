@@ -10,7 +10,8 @@ use lib.Dec.{eqb}
 use lib.ListN.{length, take, drop, length-append, take-append-drop}
 use lib.Seq.{sets, sets-eq, take_at, drop-append-add, length-take-le, drop-drop}
 use borrow.Author.Tests.{le-leb, lt-leb}
-use Rattle.std.specs.Prelude.{Some}
+use Rattle.std.specs.Prelude.{Some, Ok, Err}
+use Rattle.std.specs.declared.result.Result.{Result}
 use Rattle.text.specs.declared.character_set.CharacterSet.{CharacterSet}
 use Rattle.frame.specs.Frames.{part, frame_at}
 use Rattle.frame.specs.Frames.{Frame}
@@ -25,6 +26,7 @@ use Rattle.passes.specs.Answers.{Turn, Step}
 use Rattle.passes.specs.Answers.{Faulty, Good}
 use Rattle.passes.specs.Answers.{Stop, On}
 use Rattle.passes.specs.Answers.{Refused}
+use Rattle.passes.specs.declared.Refusal.{Refusal}
 use Rattle.passes.specs.CheckOrder.{turn_of}
 use Rattle.passes.specs.Rows.{row_of, rows_from}
 use Rattle.passes.specs.Reading.{of_turn, of_frame, step_of, ended, run}
@@ -86,6 +88,15 @@ pub record Framed (set : CharacterSet) (file : List ℕ) (s : Standing) (at t si
   pub whole : frame_at file at ≡ Whole start size
   pub turn : turn_of set file s at (part start size file) ≡ Good t
   pub type : type_of set (part start size file) ≡ t
+
+refusal_in : {T : Type 0} → Result T Refusal → Refusal
+refusal_in (Err r) = r
+refusal_in (Ok x) = record { fault = faults.Size; place = 0; offset = 0 }
+
+-- a refusal has one fault, one record and one offset
+pub same-refusal : {T : Type 0} (r q : Refusal) → ◌≡◌ {A = Result T Refusal} (Err r) (Err q) → (r.fault ≡ q.fault) × (r.place ≡ q.place) × (r.offset ≡ q.offset)
+unfolding refusal_in
+same-refusal r q e = let p = ap refusal_in e in (ap (λ (x : Refusal). x.fault) p, ap (λ (x : Refusal). x.place) p, ap (λ (x : Refusal). x.offset) p)
 
 found : Step → ℕ × ℕ
 found (On t size) = (t, size)
