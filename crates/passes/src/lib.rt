@@ -122,23 +122,8 @@ impl Fault {
         ensures { result ≡ field_of self }
     {
         match self {
-            Fault::Size => 0,
-            Fault::Room => 0,
-            Fault::Cut => 0,
-            Fault::Length => 0,
-            Fault::UnknownType => 0,
-            Fault::Place => 0,
-            Fault::Field(n) => n,
-            Fault::Link(n) => n,
-            Fault::Total(n) => n,
-            Fault::Open => 0,
-            Fault::After => 0,
-            Fault::Duplicate => 0,
-            Fault::Full => 0,
-            Fault::NoEntry => 0,
-            Fault::Range => 0,
-            Fault::Nothing => 0,
-            Fault::Book => 0,
+            Fault::Field(n) | Fault::Link(n) | Fault::Total(n) => n,
+            _ => 0,
         }
     }
 }
@@ -148,13 +133,11 @@ pub fn agrees(set: CharacterSet, file: &[u8], s: Standing, at: usize, kind: u64)
     requires { Roomy s }
     ensures { result ≡ agreement set file.now s at kind }
 {
-    let link = agree::link_fault(set, file, s, kind, at);
-    if link != 0 {
-        return Err(Fault::Link(link));
+    if let Some(field) = agree::link_fault(set, file, s, kind, at) {
+        return Err(Fault::Link(field));
     }
-    let total = agree::total_fault(set, file, s, kind, at);
-    if total != 0 {
-        return Err(Fault::Total(total));
+    if let Some(field) = agree::total_fault(set, file, s, kind, at) {
+        return Err(Fault::Total(field));
     }
     Ok(kind)
 }
@@ -212,15 +195,12 @@ fn ended_at(s: Standing, at: usize) -> Answer
     ensures { result ≡ ended_with s at }
 {
     if s.last == 99 {
-        let sums = s.whole;
-        let records = s.records;
-        let items = s.items;
         return Ok(Totals {
-            records,
+            records: s.records,
             letters: s.letters,
             bundles: s.bundles,
-            items,
-            sums,
+            items: s.items,
+            sums: s.whole,
         });
     }
     Err(Refusal {
@@ -270,12 +250,6 @@ pub fn survey(file: &[u8]) -> Answer
     survey_by(&layouts, file)
 }
 
-fn pick(test: bool, yes: u64, other: u64) -> u64
-    ensures { result ≡ cond test yes other }
-{
-    if test { yes } else { other }
-}
-
 // The debit cents of the bundle that a 70 closes: as its items add up, not as the 70, whose length field stands at an offset, states them.
 fn debit_of_bundle(file: &[u8], s: Standing, offset: usize) -> u64
     ensures { result ≡ s.bundle.debit.0 }
@@ -316,9 +290,9 @@ fn put_row(
     table[base] = kind;
     table[base + 1] = offset as u64;
     table[base + 2] = size as u64;
-    table[base + 3] = pick(outside_letter, 0, s.letters);
-    table[base + 4] = pick(in_bundle, s.opened, 0);
-    table[base + 5] = pick(s.inside, s.ordinal, 0);
+    table[base + 3] = if outside_letter { 0 } else { s.letters };
+    table[base + 4] = if in_bundle { s.opened } else { 0 };
+    table[base + 5] = if s.inside { s.ordinal } else { 0 };
     table[base + 6] = amount;
 }
 
