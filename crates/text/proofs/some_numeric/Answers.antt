@@ -1,19 +1,9 @@
-use Prim.Native.Nat.{◌-◌}
-use mathlib.Core.Path.{refl, sym, ◌∙◌}
+use Rattle.std.proofs.lemmas.Iterator.{YieldsList-from_slice}
+use Rattle.std.proofs.lemmas.Iterator.Search.{any_from_yields_List}
 use Rattle.text.specs.Characters.{is_numeric}
-use Rattle.text.specs.DataTypes.{some}
-use Rattle.text.proofs.Laws.{some-found, some-goes-on, some-ends}
+use Rattle.text.proofs.Laws.{some_from_any}
 use borrow.Author.Rules.{rules}
 use Rattle.text.proofs.some_numeric.Goals as goal
 
-pub loop-i-init : goal.loop-i-init
-loop-i-init c = (search rules, refl)
-
-pub returns-then-is_numeric : goal.returns-then-is_numeric
-returns-then-is_numeric c = sym (some-found (is_numeric c.args.set) c.args.s.now c.loop-i.i (search rules) (sym c.is_numeric.ensures ∙ c.if-is_numeric.true)) ∙ c.loop-i.invariant.1
-
-pub loop-i-preserved : goal.loop-i-preserved
-loop-i-preserved c = (search rules, sym (some-goes-on (is_numeric c.args.set) c.args.s.now c.loop-i.i (search rules) (sym c.is_numeric.ensures ∙ c.if-is_numeric.false)) ∙ c.loop-i.invariant.1)
-
 pub returns : goal.returns
-returns c = sym (some-ends (is_numeric c.args.set) c.args.s.now c.loop-i.i (search rules)) ∙ c.loop-i.invariant.1
+returns c = some_from_any (is_numeric c.args.set) c.any.result c.args.s.now (any_from_yields_List (is_numeric c.args.set) _ _ c.any.result c.any.ensures.ran (YieldsList-from_slice c.args.s.now cc) (λ x b q k. search rules))
