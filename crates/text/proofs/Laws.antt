@@ -2,7 +2,7 @@
 use mathlib.Core.Path.{◌≡◌, refl, ap, sym, ◌∙◌}
 use mathlib.Core.Bool.{Bool, true, false, ◌&&◌, ◌||◌, not, cond}
 use mathlib.Core.List.{List, [], ◌∷◌}
-use Prim.Native.Nat.{ℕ, suc, ◌+◌, ◌-◌, ◌*◌, ◌^◌, ◌≤◌, ◌<◌}
+use Prim.Native.Nat.{ℕ, ◌+◌, ◌-◌, ◌*◌, ◌^◌, ◌≤◌, ◌<◌}
 use native.Mathlib.Numerals.{add-one}
 use native.Mathlib.Nat.{pow-suc, pow-le-pow_right, mul_comm, mul_assoc, mul-le-mul_right, lt_of_lt_of_le}
 use native.Mathlib.Omega.{arith}
@@ -10,7 +10,7 @@ use borrow.Author.Tests.{leb-true}
 use lib.Dec.{leb}
 use lib.ListN.{length, get_or, take, drop, drop_of_length-le, length-take}
 use lib.Seq.{drop-cons}
-use Rattle.std.specs.List.{list_all, list_any, fold}
+use Rattle.std.specs.List.{list_any}
 use Rattle.text.specs.declared.character_set.CharacterSet.{CharacterSet}
 use Rattle.text.specs.declared.character_set.CharacterSet.TheVariants.{Ascii, Ebcdic}
 use Rattle.text.specs.Ranges.{within}
@@ -62,28 +62,14 @@ module _ (test : ℕ → Bool) (s : List ℕ) (i : ℕ) where
   pub some-ends : length s ≤ i → some test (drop i s) ≡ false
   some-ends h = rw (drop_of_length-le s h)
 
--- what the library's methods say of a test, in the words of clause 5
+-- what the library's `any` says of a test, in the words of clause 5
 module _ (test : ℕ → Bool) where
-  every_of_all : (xs : List ℕ) → list_all test xs ≡ every test xs
-  every_of_all [] = refl
-  every_of_all (x ∷ xs) = ap (λ (b : Bool). test x && b) (every_of_all xs)
-
   some_of_any : (xs : List ℕ) → list_any test xs ≡ some test xs
   some_of_any [] = refl
   some_of_any (x ∷ xs) = ap (λ (b : Bool). test x || b) (some_of_any xs)
 
-  every_of_fold : (all : Bool) (xs : List ℕ) → fold (λ (a : Bool) (x : ℕ). a && test x) all xs ≡ all && every test xs
-  every_of_fold all [] = sym (and-true all)
-  every_of_fold all (x ∷ xs) = every_of_fold (all && test x) xs ∙ and_assoc all (test x) (every test xs)
-
-  pub every_from_all : (r : Bool) (xs : List ℕ) → r ≡ list_all test xs → r ≡ every test xs
-  every_from_all r xs e = e ∙ every_of_all xs
-
   pub some_from_any : (r : Bool) (xs : List ℕ) → r ≡ list_any test xs → r ≡ some test xs
   some_from_any r xs e = e ∙ some_of_any xs
-
-  pub every_from_fold : (r : Bool) (xs : List ℕ) → r ≡ fold (λ (a : Bool) (x : ℕ). a && test x) true xs → r ≡ every test xs
-  every_from_fold r xs e = e ∙ every_of_fold true xs
 
 -- Whether a blank stands embedded in what is left, where `before` says that a digit came, and `gap` that a blank came after one.
 abbrev pub embedded_from : CharacterSet → Bool → Bool → List ℕ → Bool

@@ -13,8 +13,8 @@ pub enum CharacterSet {
 pub fn set_of(file: &[u8]) -> CharacterSet
     ensures { result ≡ set_of file.now }
 {
-    match file {
-        [_, _, _, _, 0xF0, 0xF1, ..] => CharacterSet::Ebcdic,
+    match file.get(4..6) {
+        Some([0xF0, 0xF1]) => CharacterSet::Ebcdic,
         _ => CharacterSet::Ascii,
     }
 }

@@ -49,7 +49,11 @@ pub fn capital_of(set: CharacterSet, x: u8) -> u8
 fn all_in<S: Charset>(t: DataType, s: &[u8]) -> bool
     ensures { result ≡ every (admits S.SET t) s.now }
 {
-    s.iter().fold(true, |all, &x| all & admits_in::<S>(t, x))
+    let mut all = true;
+    for &x in s {
+        all = all & admits_in::<S>(t, x);
+    }
+    all
 }
 
 pub fn all_admitted(set: CharacterSet, t: DataType, s: &[u8]) -> bool
@@ -126,23 +130,39 @@ pub fn of_type(set: CharacterSet, t: DataType, s: &[u8]) -> bool
     }
 }
 
-// With an early end: most fields that are asked for it begin with another character.
+// With an early end: most fields that are asked for it begin with another character. A `for` here and in the next two: by `all` and `any` they
+// cost 15 to 19 instructions more in a hundred (290 thousand became 344 thousand over the fields of 748 records).
 pub fn all_blank(set: CharacterSet, s: &[u8]) -> bool
     ensures { result ≡ every (is_blank set) s.now }
 {
-    s.iter().all(|&x| is_blank(set, x))
+    for &x in s {
+        if !is_blank(set, x) {
+            return false;
+        }
+    }
+    true
 }
 
 pub fn all_numeric(set: CharacterSet, s: &[u8]) -> bool
     ensures { result ≡ every (is_numeric set) s.now }
 {
-    s.iter().all(|&x| is_numeric(set, x))
+    for &x in s {
+        if !is_numeric(set, x) {
+            return false;
+        }
+    }
+    true
 }
 
 pub fn some_numeric(set: CharacterSet, s: &[u8]) -> bool
     ensures { result ≡ some (is_numeric set) s.now }
 {
-    s.iter().any(|&x| is_numeric(set, x))
+    for &x in s {
+        if is_numeric(set, x) {
+            return true;
+        }
+    }
+    false
 }
 
 fn zero_of(set: CharacterSet) -> u8
@@ -178,7 +198,7 @@ fn value_of(set: CharacterSet, s: &[u8]) -> u64
 fn leading(s: &[u8]) -> &[u8]
     ensures { result.now ≡ take 19 s.now }
 {
-    &s[..s.len().min(19)]
+    s.get(..19).unwrap_or(s)
 }
 
 pub fn number_in(set: CharacterSet, s: &[u8]) -> u64
