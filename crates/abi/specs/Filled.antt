@@ -4,7 +4,7 @@ use Rattle.text.specs.declared.character_set.CharacterSet.{CharacterSet}
 use Rattle.text.specs.declared.character_set.CharacterSet.TheVariants.{Ascii, Ebcdic}
 use Rattle.judge.specs.declared.Judged.{Judged}
 use Rattle.picture.specs.declared.Found.{Found}
-use Rattle.tiff.specs.declared.Tags.{Tags}
+use Rattle.tiff.specs.Required.{Tags}
 use Rattle.passes.specs.Answers.{number_of, numbers_of}
 use Rattle.draft.specs.declared.Outcome.{Outcome}
 use Rattle.draft.specs.declared.Outcome.TheVariants.{Written, Refused}

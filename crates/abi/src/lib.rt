@@ -163,9 +163,10 @@ pub extern "C" fn x9_record_in(body: &[u8], set: u64, answer: &mut [u64; 2]) -> 
 pub extern "C" fn x9_tiff(image: &[u8], answer: &mut [u64; 2]) -> u64
     ensures { Tagging image.now result answer.new }
 {
-    let tags = tiff::judge_tags(image);
-    let number = tags.number();
-    let tag = tags.tag();
+    let (number, tag) = match tiff::judge_tags(image) {
+        Ok(()) => (0, 0),
+        Err(fault) => (fault.number(), fault.tag()),
+    };
     *answer = [number, tag];
     number
 }
