@@ -3,8 +3,8 @@ use Rattle.std.specs.Prelude.{ℕ, cond, eqb, List, [], ◌∷◌, ◌++◌, Err
 use Rattle.text.specs.declared.character_set.CharacterSet.{CharacterSet}
 use Rattle.text.specs.declared.character_set.CharacterSet.TheVariants.{Ascii, Ebcdic}
 use Rattle.judge.specs.Alone.{Judged}
-use Rattle.picture.specs.declared.Found.{Found}
-use Rattle.tiff.specs.declared.Tags.{Tags}
+use Rattle.picture.specs.Picture.{Found}
+use Rattle.tiff.specs.Required.{Tags}
 use Rattle.passes.specs.Answers.{number_of, numbers_of}
 use Rattle.draft.specs.Outcomes.{Outcome}
 use Rattle.draft.specs.Outcomes.{Written, Refused}

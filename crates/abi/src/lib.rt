@@ -113,12 +113,11 @@ pub extern "C" fn x9_draft(file: &[u8], draft: &mut [u64], answer: &mut [u64; 12
 pub extern "C" fn x9_picture(file: &[u8], offset: u64, place: &mut [u64; 4]) -> u64
     ensures { Picturing file.now offset result place.new }
 {
-    let found = picture::find_picture(file, offset as usize);
-    let number = found.number();
-    let field = found.field() as u64;
-    let start = found.start() as u64;
-    let size = found.size() as u64;
-    *place = [number, field, start, size];
+    let (number, field, start, size) = match picture::find_picture(file, offset as usize) {
+        Ok(part) => (0, 0, part.start, part.size),
+        Err(unfound) => (unfound.number(), unfound.field(), 0, 0),
+    };
+    *place = [number, field as u64, start as u64, size as u64];
     number
 }
 
@@ -163,9 +162,10 @@ pub extern "C" fn x9_record_in(body: &[u8], set: u64, answer: &mut [u64; 2]) -> 
 pub extern "C" fn x9_tiff(image: &[u8], answer: &mut [u64; 2]) -> u64
     ensures { Tagging image.now result answer.new }
 {
-    let tags = tiff::judge_tags(image);
-    let number = tags.number();
-    let tag = tags.tag();
+    let (number, tag) = match tiff::judge_tags(image) {
+        Ok(()) => (0, 0),
+        Err(fault) => (fault.number(), fault.tag()),
+    };
     *answer = [number, tag];
     number
 }

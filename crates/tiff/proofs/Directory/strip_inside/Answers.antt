@@ -1,6 +1,6 @@
 use mathlib.Core.Path.{sym}
 use Rattle.tiff.specs.Image.{strip_inside}
-use Rattle.tiff.proofs.strip_inside.Goals as goal
+use Rattle.tiff.proofs.Directory.strip_inside.Goals as goal
 
 pub returns-then-not-is_number : goal.returns-then-not-is_number
 unfolding strip_inside
