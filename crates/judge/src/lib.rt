@@ -153,13 +153,7 @@ fn sizes_of(set: CharacterSet, parts: &[u64], body: &[u8]) -> u64
 }
 
 // The checks of one record alone, in document 01's order.
-fn judge_body(
-    set: CharacterSet,
-    fixed: usize,
-    lines: &[u64],
-    parts: &[u64],
-    body: &[u8],
-) -> Judged
+fn judge_body(set: CharacterSet, fixed: usize, lines: &[u64], parts: &[u64], body: &[u8]) -> Judged
     requires { (length lines.now + length parts.now ≤ 0x1_0000) × (every (lies_within fixed) lines.now ≡ true) }
     ensures { result ≡ judged set fixed (lines_from 1 lines.now) (sized_from (length lines.now + 1) parts.now) body.now }
 {
