@@ -388,6 +388,7 @@ pub fn table() -> [u64; COUNT]
 pub fn own_numbers(numbers: &[u64], kind: u64) -> &[u64]
     ensures { result.now ≡ own_in kind (length numbers.now) numbers.now }
 {
+    // Stays: no index loop. Each step is as long as the kind's number says.
     let mut at = 0;
     while at < numbers.len() {
         let header = numbers[at];
