@@ -14,7 +14,6 @@ ghost use Rattle.salvage_runs.specs.RunAt.{number_in, RunAt, GroupAt};
 
 use judge::Judged;
 use passes::Turn;
-use salvage_walk::Sort;
 use standing::Standing;
 use text::CharacterSet;
 
@@ -101,7 +100,7 @@ pub fn group_at(set: CharacterSet, file: &[u8], at: usize, end: usize) -> Groupe
     let kind = seen.kind;
     let behind = seen.next;
     if kind == 61 {
-        let stop = salvage_walk::end_of(set, file, behind, end, Sort::Views);
+        let stop = salvage_walk::end_of(set, file, behind, end, |kind| matches!(kind, 50 | 52 | 54));
         return Grouped {
             end: stop,
             run: true,
@@ -115,7 +114,7 @@ pub fn group_at(set: CharacterSet, file: &[u8], at: usize, end: usize) -> Groupe
             kind,
         };
     }
-    let stop = salvage_walk::end_of(set, file, behind, end, Sort::InStretch);
+    let stop = salvage_walk::end_of(set, file, behind, end, |kind| !matches!(kind, 20 | 70));
     if stop < end {
         let closing = salvage_walk::seen_at(set, file, stop, end);
         if closing.kind == 70 {
