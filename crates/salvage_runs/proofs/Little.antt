@@ -39,7 +39,7 @@ use Rattle.salvage_walk.specs.declared.Seen.{Seen}
 use Rattle.salvage_walk.specs.Spans.{Stands, Spans, SeenAs}
 use Rattle.salvage_walk.proofs.Sorts.{First, first_of, none_left}
 use Rattle.salvage_runs.specs.Places.{placed_at}
-use Rattle.salvage_runs.specs.RunAt.{number_in, RunAt}
+use Rattle.salvage_runs.specs.RunAt.{read_through, RunAt}
 use Rattle.passes.specs.declared.Fault.TheVariants as faults
 
 -- the first bytes of a record in the little file and where it stands
@@ -234,14 +234,14 @@ module _ (set : CharacterSet) (file : List ℕ) (header_at from end : ℕ) where
         let r = v w in
         figures-capped s (placed (standing set (little_of w) r.past) r.item r.header r.heading) r.figures
 
-    pub reads_end : end ≤ at → number_in (cond (eqb s.last 50) (some Place) none) ≡ number_in (run_fault set w.header w.bodies)
+    pub reads_end : end ≤ at → read_through (cond (eqb s.last 50) (some Place) none) ≡ read_through (run_fault set w.header w.bodies)
     unfolding read_on
     reads_end h =
         let r = v w in
         let gone = none_left file at r.left end r.spans h in
         let last : s.last ≡ (standing set (little_of w) r.past).last = ap (λ (u : Standing). u.last) r.figures in
-        sym (ap number_in (r.same ∙ ap (λ (bs : List Body). read_on set (little_of w) bs r.small r.past) gone.0)
-        ∙ ap (λ (n : ℕ). number_in (cond (eqb n 50) (some Place) none)) (sym last))
+        sym (ap read_through (r.same ∙ ap (λ (bs : List Body). read_on set (little_of w) bs r.small r.past) gone.0)
+        ∙ ap (λ (n : ℕ). read_through (cond (eqb n 50) (some Place) none)) (sym last))
 
     module _ (h : at < end) (seen : Seen) (told : (b : Body) → Stands file at b → SeenAs set at b seen) (body : List ℕ)
         (is : body ≡ part seen.start seen.size file) (turn : Turn) (judged : turn ≡ turn_of set file s at body) where
