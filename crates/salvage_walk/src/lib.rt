@@ -6,7 +6,7 @@ ghost use Rattle.file_as_records.specs.Framed.{Body};
 ghost use Rattle.salvage_model.specs.Walked.{walked_from};
 ghost use Rattle.salvage_walk.specs.Spans.{Stands, Spans, SeenAs, Computes, Parted};
 
-use frame::{Cursor, Frame};
+use frame::{Cursor, Extent};
 use text::CharacterSet;
 
 // How far the walk leads, and over how many records.
@@ -30,22 +30,20 @@ pub fn seen_at(set: CharacterSet, file: &[u8], at: usize, end: usize) -> Seen
     ensures seen { (b : Body) → Stands file.now at b → SeenAs set at b result }
     ensures onward { at < end → at < result.next }
 {
-    match Cursor::at(at).frame(file) {
-        Frame::Cut => Seen {
+    let Some(Extent { start, size }) = Cursor::at(at).frame(file) else {
+        return Seen {
             start: end,
             size: 0,
             next: end,
             kind: 0,
-        },
-        Frame::Whole(start, size) => {
-            let kind = judge::type_of(set, frame::part_of(file, start, size));
-            Seen {
-                start,
-                size,
-                next: start + size,
-                kind,
-            }
-        }
+        };
+    };
+    let kind = judge::type_of(set, frame::part_of(file, start, size));
+    Seen {
+        start,
+        size,
+        next: start + size,
+        kind,
     }
 }
 
@@ -55,22 +53,19 @@ pub fn walk(set: CharacterSet, file: &[u8]) -> Way
 {
     let mut at: usize = 0;
     let mut count: u64 = 0;
+    // Stays: (d) the step is what the record's length says, so that no range counts it.
     while at < file.len() {
-        match Cursor::at(at).frame(file) {
-            Frame::Cut => {
-                return Way { end: at, count };
-            }
-            Frame::Whole(start, size) => {
-                if size < 2 {
-                    return Way { end: at, count };
-                }
-                let kind = judge::type_of(set, frame::part_of(file, start, size));
-                count += 1;
-                at = start + size;
-                if kind == 99 {
-                    return Way { end: at, count };
-                }
-            }
+        let Some(Extent { start, size }) = Cursor::at(at).frame(file) else {
+            return Way { end: at, count };
+        };
+        if size < 2 {
+            return Way { end: at, count };
+        }
+        let kind = judge::type_of(set, frame::part_of(file, start, size));
+        count += 1;
+        at = start + size;
+        if kind == 99 {
+            return Way { end: at, count };
         }
     }
     Way { end: at, count }
