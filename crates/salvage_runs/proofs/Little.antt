@@ -10,6 +10,7 @@ use lib.Dec.{leb, eqb}
 use lib.ListN.{length, take, drop}
 use lib.Seq.{take-take, drop-drop, take-append-le, drop-append-add, drop-append_seam}
 use borrow.Author.Tests.{eqb-true, le-leb, lt-leb, eq-eqb, ne_eqb}
+use Rattle.std.specs.Prelude.{is_ok}
 use Rattle.text.specs.declared.character_set.CharacterSet.{CharacterSet}
 use Rattle.frame.specs.Frames.{part}
 use Rattle.frame.specs.Unless.{unless}
@@ -51,6 +52,13 @@ record-alike little file small at b rest e s w h = record {
       ∙ ap (take w) s.body
       ∙ sym (ap (take w) e ∙ take-append-le w b rest h);
 }
+
+-- a record with nothing wrong
+pub right-ok : (j : Judged) → is_ok j ≡ is_right j
+right-ok Sound = refl
+right-ok WrongLength = refl
+right-ok UnknownType = refl
+right-ok (WrongField n) = refl
 
 -- a record alone
 module _ (set : CharacterSet) (t : ℕ) (b : Body) where

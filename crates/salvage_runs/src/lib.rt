@@ -12,8 +12,7 @@ ghost use Rattle.salvage_walk.specs.Spans.{Spans};
 ghost use Rattle.salvage_runs.specs.Places.{placed_at};
 ghost use Rattle.salvage_runs.specs.RunAt.{read_through, is_run, is_bundle, RunAt, GroupAt};
 
-use judge::Judged;
-use passes::{Fault, Turn};
+use passes::Fault;
 use standing::Standing;
 use text::CharacterSet;
 
@@ -58,12 +57,7 @@ pub fn is_sound_alone<'a>(set: CharacterSet, layouts: &'a [u64], kind: u64, body
     if stated != kind {
         return false;
     }
-    match judge::judge_as(set, layouts, stated, body) {
-        Judged::Sound => true,
-        Judged::WrongLength => false,
-        Judged::UnknownType => false,
-        Judged::WrongField(_) => false,
-    }
+    judge::judge_as(set, layouts, stated, body).is_ok()
 }
 
 // The figures behind a 01 and a cash letter header and nothing else. Whatever has not come yet stands at the header.
@@ -95,18 +89,10 @@ pub fn run_fault<'a>(
     // Stays: (d) the step is what the record's length says, so that no range counts it.
     while at < end {
         let seen = salvage_walk::seen_at(set, file, at, end);
-        let start = seen.start;
-        let size = seen.size;
-        let body = frame::part_of(file, start, size);
-        match passes::judge_next(set, layouts, file, s, at, body) {
-            Turn::Faulty(fault) => {
-                return Err(fault);
-            }
-            Turn::Good(kind) => {
-                s = standing::moved(set, file, s, kind, at);
-                at = seen.next;
-            }
-        }
+        let body = frame::part_of(file, seen.start, seen.size);
+        let kind = passes::judge_next(set, layouts, file, s, at, body)?;
+        s = standing::moved(set, file, s, kind, at);
+        at = seen.next;
     }
     if s.last == 50 {
         return Err(Fault::Place);
