@@ -16,7 +16,8 @@ ghost use Rattle.draft_survey.specs.CappedOutcome.{capped_outcome};
 ghost use Rattle.sheet.specs.Sheet.{OnSheet};
 
 use draft::Outcome;
-use passes::{Fault, Totals, Turn};
+use draft_rows::Row;
+use passes::{Fault, Refusal, Totals, Turn};
 use standing::Standing;
 use text::CharacterSet;
 
@@ -56,19 +57,18 @@ pub fn judge_counted<'a>(
 {
     let kind = rows[0];
     if !order::may_follow(s.inside, s.last, s.present, kind) {
-        return Turn::Faulty(Fault::Place);
+        return Err(Fault::Place);
     }
+    let row = Row { own, rows };
     let at = sheet::slot_of(kind);
     let body = at + 4;
-    let fixed = completing::complete(set, own, text, rows, addenda, s, sheet, body);
+    let fixed = completing::complete(set, text, row, addenda, s, sheet, body);
     let end = body + fixed;
-    let field = fitting::field_fault(own, text, rows, addenda, &sheet[body..end]);
-    if field != 0 {
-        return Turn::Faulty(Fault::Field(field));
+    if let Some(field) = fitting::field_fault(row, text, addenda, &sheet[body..end]) {
+        return Err(Fault::Field(field));
     }
-    let part = fitting::part_fault(set, own, text, rows);
-    if part != 0 {
-        return Turn::Faulty(Fault::Field(part));
+    if let Some(part) = fitting::part_fault(set, row, text) {
+        return Err(Fault::Field(part));
     }
     passes::agrees(CharacterSet::Ascii, sheet, s, at, kind)
 }
@@ -98,18 +98,20 @@ pub fn rows_ended(s: Standing, bytes: usize) -> Outcome
         let sums = s.whole;
         let records = s.records;
         let items = s.items;
-        return Outcome::Written(
-            bytes,
-            Totals {
-                records,
-                letters: s.letters,
-                bundles: s.bundles,
-                items,
-                sums,
-            },
-        );
+        let totals = Totals {
+            records,
+            letters: s.letters,
+            bundles: s.bundles,
+            items,
+            sums,
+        };
+        return Ok((bytes, totals));
     }
-    Outcome::Refused(Fault::Place, s.records.0 + 1, bytes)
+    Err(Refusal {
+        fault: Fault::Place,
+        place: s.records.0 + 1,
+        offset: bytes,
+    })
 }
 
 // The answer to a draft, whatever the buffer; 2^64 - 1 bytes stand for as many or more.
@@ -122,15 +124,21 @@ pub fn survey_draft<'a>(layouts: &'a [u64], text: &'a [u8], draft: &'a [u64]) ->
     let mut s = Standing::start();
     let mut bytes: usize = 0;
     let mut at: usize = 0;
+    // Stays: a record is judged with the rows behind its own, among which its addenda are counted. `chunks_exact` gives the row alone.
     while 10 <= draft.len() - at {
         let rows = &draft[at..];
         let own = layout::own_numbers(layouts, rows[0]);
         match judge_row(set, own, text, rows, s, &mut sheet) {
-            Turn::Faulty(fault) => {
-                return Outcome::Refused(fault, s.records.0 + 1, bytes);
+            Err(fault) => {
+                return Err(Refusal {
+                    fault,
+                    place: s.records.0 + 1,
+                    offset: bytes,
+                });
             }
-            Turn::Good(kind) => {
-                bytes = fitting::plus(bytes, fitting::plus(4, fitting::size_of(own, rows)));
+            Ok(kind) => {
+                let size = fitting::size_of(Row { own, rows });
+                bytes = bytes.saturating_add(size.saturating_add(4));
                 s = standing::moved(CharacterSet::Ascii, &sheet, s, kind, sheet::slot_of(kind));
                 at += 10;
             }

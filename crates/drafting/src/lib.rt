@@ -11,8 +11,8 @@ ghost use Rattle.file_as_records.specs.Framed.{field_of};
 ghost use Rattle.drafting.specs.ByNumbers.{seven_sizes, parts_own};
 ghost use Rattle.drafting.specs.DraftOf.{row_of, draft_rows_of, draft_answer_of, draft_table_of, DraftOfItself};
 
-use frame::{Cursor, Frame};
-use passes::{Answer, Fault};
+use frame::{Cursor, Extent};
+use passes::{Answer, Fault, Refusal};
 use text::CharacterSet;
 
 // The size that a record states for its i-th part, 0 where it has none, by the numbers of its kind.
@@ -37,10 +37,8 @@ fn put_sizes<'a>(set: CharacterSet, own: &'a [u64], body: &'a [u8], draft: &mut 
     requires { (is_whole own.now ≡ true) × (base + 7 ≤ length draft.old) }
     ensures { draft.new ≡ sets draft.old base (seven_sizes set (parts_own own.now) body.now) }
 {
-    let mut i = 0;
-    while i < 7 {
+    for i in 0..7 {
         draft[base + i] = size_of_part(set, own, i, body);
-        i += 1;
     }
 }
 
@@ -88,24 +86,14 @@ fn fill<'a>(layouts: &'a [u64], file: &'a [u8], draft: &mut [u64])
     let set = text::set_of(file);
     let mut at: usize = 0;
     let mut base: usize = 0;
+    // Stays: a turn steps by the length that stands in the file, and a row by ten: no method of a slice cuts by what it reads.
     while at < file.len() {
-        match Cursor::at(at).frame(file) {
-            Frame::Cut => {
-                return;
-            }
-            Frame::Whole(start, size) => {
-                put_row(
-                    set,
-                    layouts,
-                    frame::part_of(file, start, size),
-                    start,
-                    draft,
-                    base,
-                );
-                base += 10;
-                at = start + size;
-            }
-        }
+        let Some(Extent { start, size }) = Cursor::at(at).frame(file) else {
+            return;
+        };
+        put_row(set, layouts, frame::part_of(file, start, size), start, draft, base);
+        base += 10;
+        at = start + size;
     }
 }
 
@@ -115,17 +103,12 @@ pub fn draft_of(file: &[u8], draft: &mut [u64]) -> Answer
     ensures rows { draft.new ≡ draft_table_of file.now draft.old }
     ensures itself { DraftOfItself file.now result draft.new }
 {
-    let answer = passes::survey(file);
-    match answer {
-        Answer::Accepted(totals) => {
-            let needed = totals.records.0;
-            if (draft.len() as u64) / 10 < needed {
-                return Answer::Refused(Fault::Room, needed, 0);
-            }
-            let layouts = layout::table();
-            fill(&layouts, file, draft);
-            answer
-        }
-        Answer::Refused(_, _, _) => answer,
+    let totals = passes::survey(file)?;
+    let needed = totals.records.0;
+    if (draft.len() as u64) / 10 < needed {
+        return Err(Refusal::of_file(Fault::Room, needed));
     }
+    let layouts = layout::table();
+    fill(&layouts, file, draft);
+    Ok(totals)
 }

@@ -5,6 +5,7 @@ ghost use Rattle.std.specs.Prelude.{◌&&◌, cond, List, ◌≡◌, ℕ, ◌+�
 ghost use Rattle.text.specs.declared.character_set.CharacterSet.TheVariants.{Ascii};
 ghost use Rattle.text.specs.DataTypes.{of_type};
 ghost use Rattle.decimal.specs.Digits.{fits};
+ghost use Rattle.layout.specs.Fault.{as_field};
 ghost use Rattle.layout.specs.Layout.{sized_parts};
 ghost use Rattle.layout.specs.Packing.{line_of};
 ghost use Rattle.judge.specs.Alone.{first_wrong};
@@ -35,37 +36,41 @@ fn line_fits<'a>(row: Row<'a>, packed: u64, text: &'a [u8], addenda: u64) -> boo
     decimal::fits_in(size, stated)
 }
 
-// The lowest field that does not lie in the text or is outgrown, or 0.
-fn first_unfit<'a>(row: Row<'a>, text: &'a [u8], addenda: u64) -> usize
-    ensures { (set : CharacterSet) → result ≡ first_unfit (values_of_row set text.now row.entry.rows.now) addenda (layout_of (get_or row.entry.rows.now 0 0)).lines (values_of_row set text.now row.entry.rows.now).fields }
+// The lowest field that does not lie in the text or is outgrown.
+fn first_unfit<'a>(row: Row<'a>, text: &'a [u8], addenda: u64) -> Option<usize>
+    ensures { (set : CharacterSet) → result ≡ as_field (first_unfit (values_of_row set text.now row.entry.rows.now) addenda (layout_of (get_or row.entry.rows.now 0 0)).lines (values_of_row set text.now row.entry.rows.now).fields) }
 {
     let all_here = draft_rows::lies_within(text, row.rows[1] as usize, 0, row.fixed_length());
     for (i, packed) in row.lines().iter().enumerate() {
         if !(all_here & (*packed / 0x2_0000_0000 % 0x80 == 0)) {
             if !line_fits(row, *packed, text, addenda) {
-                return i + 1;
+                return Some(i + 1);
             }
         }
     }
-    0
+    None
 }
 
-fn lower_of(m: usize, n: usize) -> usize
-    ensures { result ≡ lower m n }
+// The lower of two fields, where there may be none.
+fn lower_of(m: Option<usize>, n: Option<usize>) -> Option<usize>
+    ensures { (a b : ℕ) → m ≡ as_field a → n ≡ as_field b → result ≡ as_field (lower a b) }
 {
-    if m == 0 {
-        return n;
+    match (m, n) {
+        (Some(m), Some(n)) => Some(m.min(n)),
+        (None, n) => n,
+        (m, None) => m,
     }
-    if n == 0 {
-        return m;
-    }
-    if m <= n { m } else { n }
 }
 
-// The lowest field of the fixed part that cannot be had or breaks its rule, or 0; `fixed` is the fixed part, completed.
-pub fn field_fault<'a>(row: Row<'a>, text: &'a [u8], addenda: u64, fixed: &'a [u8]) -> usize
+// The lowest field of the fixed part that cannot be had or breaks its rule; `fixed` is the fixed part, completed.
+pub fn field_fault<'a>(
+    row: Row<'a>,
+    text: &'a [u8],
+    addenda: u64,
+    fixed: &'a [u8],
+) -> Option<usize>
     requires { length fixed.now ≡ (layout_of (get_or row.rows.now 0 0)).fixed_length }
-    ensures { (set : CharacterSet) → result ≡ lower (first_unfit (values_of_row set text.now row.entry.rows.now) addenda (layout_of (get_or row.entry.rows.now 0 0)).lines (values_of_row set text.now row.entry.rows.now).fields) (first_wrong Ascii (layout_of (get_or row.entry.rows.now 0 0)).lines fixed.now) }
+    ensures { (set : CharacterSet) → result ≡ as_field (lower (first_unfit (values_of_row set text.now row.entry.rows.now) addenda (layout_of (get_or row.entry.rows.now 0 0)).lines (values_of_row set text.now row.entry.rows.now).fields) (first_wrong Ascii (layout_of (get_or row.entry.rows.now 0 0)).lines fixed.now)) }
 {
     lower_of(
         first_unfit(row, text, addenda),
@@ -93,9 +98,9 @@ fn part_fits(
     text::of_type(set, data_type, frame::part_of(text, start + place, size))
 }
 
-// The first part that does not lie in the text or is not of its data type, or 0.
-pub fn part_fault<'a>(set: CharacterSet, row: Row<'a>, text: &'a [u8]) -> usize
-    ensures { result ≡ first_unfit_part (sized_parts (layout_of (get_or row.entry.rows.now 0 0))) (values_of_row set text.now row.entry.rows.now).parts }
+// The first part that does not lie in the text or is not of its data type.
+pub fn part_fault<'a>(set: CharacterSet, row: Row<'a>, text: &'a [u8]) -> Option<usize>
+    ensures { result ≡ as_field (first_unfit_part (sized_parts (layout_of (get_or row.entry.rows.now 0 0))) (values_of_row set text.now row.entry.rows.now).parts) }
 {
     let start = row.rows[1] as usize;
     let first = row.lines().len() + 1;
@@ -104,11 +109,11 @@ pub fn part_fault<'a>(set: CharacterSet, row: Row<'a>, text: &'a [u8]) -> usize
         let size = row.rows[3 + i] as usize;
         let data_type = layout::data_type_of(*part / 0x100_0000 % 0x100);
         if !part_fits(set, data_type, text, start, place, size) {
-            return first + i;
+            return Some(first + i);
         }
         place = place.saturating_add(size);
     }
-    0
+    None
 }
 
 // How long the whole record is; 2^64 - 1 where no 64 bits hold it.

@@ -128,6 +128,7 @@ fn write_bundle<'a>(
     let mut bytes: usize = 0;
     let mut at: usize = 0;
     let mut open = true;
+    // Stays: a record is set out with the rows behind its own, and in the rest of the buffer: each turn steps by as much as was set out of both.
     while open & (10 <= rows.len() - at) {
         let one = write_row(
             set,
@@ -165,6 +166,7 @@ pub fn write_rows<'a>(
     let mut s = Standing::start();
     let mut bytes: usize = 0;
     let mut at: usize = 0;
+    // Stays: a turn sets out a record or a whole bundle, and steps by as many numbers and bytes as that took.
     while 10 <= draft.len() - at {
         let rows = &draft[at..];
         let done = if rows[0] == 20 {

@@ -22,7 +22,7 @@ use Rattle.draft.specs.Promises.{ReadBack, Promised}
 use Rattle.draft_survey.specs.CappedOutcome.{capped_outcome}
 use Rattle.set_out.specs.SetOut.{values_in, Fits}
 use Rattle.draft.proofs.Shapes.{shaped-draft}
-use Rattle.made_is_read.proofs.Whole.{accepted, as-the-reader}
+use Rattle.made_is_read.proofs.Whole.{same_outcome, accepted, as-the-reader}
 use Rattle.same_bytes.proofs.Either.{made_again}
 use Rattle.values_back.proofs.Whole.{read-back-whole}
 
@@ -39,7 +39,7 @@ kept room n t (Written m u) e = by (leb m 268_435_456) refl (leb m room) e
   where
     by : (b : Bool) → leb m 268_435_456 ≡ b → (c : Bool) → unless b (Refused Size 0 0) (unless c (Refused Room m 0) (Written m u)) ≡ Written n t
         → Kept n t (Written m u)
-    by true p true q = record { is = q; small = let z : m ≡ n = cc in omega (arith, leb-true m 268_435_456 p) }
+    by true p true q = record { is = q; small = let z : m ≡ n = (same_outcome q).0 in omega (arith, leb-true m 268_435_456 p) }
     by true p false q = never q
     by false p c q = never q
 kept room n t (Err r) e = never e
@@ -147,7 +147,7 @@ record Told (answer : Outcome) (bytes : ℕ) (t : Totals) : Type 0 where
   counts : bytes ≡ offset_of size
 
 told : (answer : Outcome) {bytes : ℕ} {t : Totals} → Written bytes t ≡ capped_outcome answer → Told answer bytes t
-told (Written n u) e = record { size = n; is = cc; counts = cc }
+told (Written n u) e = let same = same_outcome e in record { size = n; is = ap (Written n) (sym same.1); counts = same.0 }
 told (Err r) e = never (sym e)
 
 told-refused : (answer : Outcome) {fault : Fault} {place offset : ℕ} → Refused fault place offset ≡ capped_outcome answer → answer ≡ Refused fault place offset
