@@ -22,6 +22,7 @@ use standing::Standing;
 use text::CharacterSet;
 
 // The set of a draft's text, told by the two bytes where the first row's fixed part begins.
+#[tactic(auto, unfolding(draft::specs::Values::set_of_text))]
 pub fn set_of_text<'a>(text: &'a [u8], draft: &'a [u64]) -> CharacterSet
     ensures { 10 ≤ length draft.now → result ≡ set_of_text text.now draft.now }
 {
@@ -29,16 +30,10 @@ pub fn set_of_text<'a>(text: &'a [u8], draft: &'a [u64]) -> CharacterSet
         return CharacterSet::Ascii;
     }
     let start = draft[1] as usize;
-    if text.len() < 2 {
-        return CharacterSet::Ascii;
+    match text.get(start..) {
+        Some([0xF0, 0xF1, ..]) => CharacterSet::Ebcdic,
+        _ => CharacterSet::Ascii,
     }
-    if text.len() - 2 < start {
-        return CharacterSet::Ascii;
-    }
-    if (text[start] == 0xF0) & (text[start + 1] == 0xF1) {
-        return CharacterSet::Ebcdic;
-    }
-    CharacterSet::Ascii
 }
 
 // The checks of one record in its place, with so many addenda behind it: PLACE, FIELD, LINK, TOTAL. The record's fixed part then stands on the sheet.

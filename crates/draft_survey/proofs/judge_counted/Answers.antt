@@ -58,14 +58,14 @@ returns-in-Some c = row_field ((let filled' : Filled c.args.set c.args.text.now 
   long = c.complete-fixed.ensures.1;
 } in filled')) c.in-Some.field (sym (faulted _ _ (sym (c.field_fault.ensures c.args.set) ∙ c.in-Some.is)).0) (λ z. omega (arith, (faulted _ _ (sym (c.field_fault.ensures c.args.set) ∙ c.in-Some.is)).1))
 
-pub returns-in-Some-2 : goal.returns-in-Some-2
-returns-in-Some-2 c = row-part ((let filled' : Filled c.args.set c.args.text.now c.args.rows.now c.args.sheet.now c.args.s c.args.addenda c.slot_of-at.result c.complete-fixed.result c.complete-fixed.new.out = record {
+pub returns-in-Some-part_fault : goal.returns-in-Some-part_fault
+returns-in-Some-part_fault c = row-part ((let filled' : Filled c.args.set c.args.text.now c.args.rows.now c.args.sheet.now c.args.s c.args.addenda c.slot_of-at.result c.complete-fixed.result c.complete-fixed.new.out = record {
   may = sym c.may_follow.ensures ∙ c.if-not-may_follow.false;
   slot = c.slot_of-at.ensures;
   room = c.requires.3;
   stored = c.complete-fixed.ensures.0;
   long = c.complete-fixed.ensures.1;
-} in filled')) 0 (sym (faultless _ (sym (c.field_fault.ensures c.args.set) ∙ c.in_default.is))) refl c.in-Some-2.part (sym (faulted _ _ (sym c.part_fault.ensures ∙ c.in-Some-2.is)).0) (λ z. omega (arith, (faulted _ _ (sym c.part_fault.ensures ∙ c.in-Some-2.is)).1))
+} in filled')) 0 (sym (faultless _ (sym (c.field_fault.ensures c.args.set) ∙ c.in_default.is))) refl c.in-Some-part_fault.part (sym (faulted _ _ (sym c.part_fault.ensures ∙ c.in-Some-part_fault.is)).0) (λ z. omega (arith, (faulted _ _ (sym c.part_fault.ensures ∙ c.in-Some-part_fault.is)).1))
 
 pub returns : goal.returns
 returns c = row-agrees ((let filled' : Filled c.args.set c.args.text.now c.args.rows.now c.args.sheet.now c.args.s c.args.addenda c.slot_of-at.result c.complete-fixed.result c.complete-fixed.new.out = record {
@@ -74,4 +74,4 @@ returns c = row-agrees ((let filled' : Filled c.args.set c.args.text.now c.args.
   room = c.requires.3;
   stored = c.complete-fixed.ensures.0;
   long = c.complete-fixed.ensures.1;
-} in filled')) 0 (sym (faultless _ (sym (c.field_fault.ensures c.args.set) ∙ c.in_default.is))) refl 0 (sym (faultless _ (sym c.part_fault.ensures ∙ c.in_default-2.is))) refl c.agrees.result c.agrees.ensures
+} in filled')) 0 (sym (faultless _ (sym (c.field_fault.ensures c.args.set) ∙ c.in_default.is))) refl 0 (sym (faultless _ (sym c.part_fault.ensures ∙ c.in_default-part_fault.is))) refl c.agrees.result c.agrees.ensures

@@ -1,6 +1,5 @@
 use mathlib.Core.Path.{refl, sym, ◌∙◌}
 use mathlib.Core.List.{[]}
-use Prim.Native.Nat.{◌-◌}
 use native.Mathlib.Omega.{arith}
 use Rattle.text.specs.declared.character_set.CharacterSet.TheVariants.{Ascii}
 use Rattle.draft_survey.proofs.Laws.{Next, rows_at, rows-some, rows-owned, next-found, survey-first, survey-roomy, survey-end, survey-stop, survey-carried, survey-long, survey-on}
