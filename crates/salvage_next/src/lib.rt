@@ -7,10 +7,11 @@ ghost use Rattle.file_as_records.specs.Framed.{Body};
 ghost use Rattle.draft.specs.Values.{Values};
 ghost use Rattle.salvage_model.specs.Kept.{Marked};
 ghost use Rattle.salvage_walk.specs.Spans.{Spans};
+ghost use Rattle.salvage_marks.specs.Left.{is_kept};
 ghost use Rattle.salvage_made.specs.ByMarks.{addenda_among};
 ghost use Rattle.salvage_next.specs.Cued.{Going, Underway, NextLeft, closes_first, new_control, kept_entry, Cued, Cueing, NextEntry};
 
-use salvage_marks::{Marking, Plan};
+use salvage_marks::{Fate, Marking, Plan};
 use text::CharacterSet;
 
 // Where the making out stands: what is marked next; whether a cash letter is open; whether the file's control has been made out.
@@ -45,9 +46,10 @@ fn next_left<'a>(
     ensures { (ms : List Marked) → Going set file.now end from ms → NextLeft set file.now end from ms result }
 {
     let mut plan = from;
+    // Stays: (d) the step is what the record's length says, so that no range counts it.
     while plan.at < end {
         let mark = salvage_marks::mark_next(set, layouts, file, end, plan);
-        if mark.status != 2 {
+        if !mark.fate.is_dropped() {
             return mark;
         }
         plan = mark.next;
@@ -56,17 +58,19 @@ fn next_left<'a>(
         start: 0,
         size: 0,
         kind: 99,
-        status: 1,
-        number: 0,
+        fate: Fate::MadeNew,
         next: plan,
     }
 }
 
 // Whether a letter that is open is closed before this record: before another begins, and before the file's control.
-fn closes_first(status: u64, kind: u64) -> bool
-    ensures { result ≡ closes_first status kind }
+fn closes_first(fate: Fate, kind: u64) -> bool
+    ensures { result ≡ closes_first (is_kept fate) kind }
 {
-    if status == 0 { kind == 10 } else { kind == 99 }
+    match fate {
+        Fate::Kept => kind == 10,
+        Fate::MadeNew | Fate::Dropped(_) => kind == 99,
+    }
 }
 
 // A new control, with the walked one whose free fields it takes.
@@ -124,10 +128,10 @@ pub fn next_entry<'a>(
     let plan = cue.plan;
     let mark = next_left(set, layouts, file, end, plan);
     let kind = mark.kind;
-    if cue.open & closes_first(mark.status, kind) {
+    if cue.open & closes_first(mark.fate, kind) {
         return new_control(90, 0, 0, plan);
     }
-    if mark.status == 0 {
+    if mark.fate.is_kept() {
         return kept_entry(set, file, end, cue.open, mark);
     }
     let made = if kind == 99 { 99 } else { 90 };

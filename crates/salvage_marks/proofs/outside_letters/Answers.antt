@@ -10,5 +10,5 @@ returns-then-kind-eq10 c = c.letter_begun.ensures
 pub returns-then-kind-plan : goal.returns-then-kind-plan
 returns-then-kind-plan c = λ ms v. next-renewed c.args.set c.args.file.now c.args.end c.args.plan c.args.seen c.requires.5 c.requires.1 c.requires.2 c.requires.3 ms v c.plan_at-next.result (c.plan_at-next.ensures.0 c.args.set c.args.file.now c.args.end) c.plan_at-next.ensures.1 c.if-kind-plan.true
 
-pub returns : goal.returns
-returns c = λ ms v. next-dropped c.args.set c.args.file.now c.args.end c.args.plan c.args.seen c.requires.5 c.requires.1 c.requires.2 c.requires.3 ms v c.plan_at-next.result (c.plan_at-next.ensures.0 c.args.set c.args.file.now c.args.end) c.plan_at-next.ensures.1 c.if-kind-eq10.false c.if-kind-plan.false
+pub returns-else-kind-plan : goal.returns-else-kind-plan
+returns-else-kind-plan c = λ ms v. next-dropped c.args.set c.args.file.now c.args.end c.args.plan c.args.seen c.requires.5 c.requires.1 c.requires.2 c.requires.3 ms v c.plan_at-next.result (c.plan_at-next.ensures.0 c.args.set c.args.file.now c.args.end) c.plan_at-next.ensures.1 c.if-kind-eq10.false c.if-kind-plan.false
