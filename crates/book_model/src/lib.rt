@@ -19,22 +19,15 @@ pub enum Entering {
     Refused(Fault, u64, usize),
 }
 
+// What an owner has in the book: how many entries there are, the running totals and the net position.
 #[derive(Clone, Copy)]
-pub enum Finding {
-    Found(Entry),
-    Refused(Fault),
+pub struct Tally {
+    pub entries: u64,
+    pub figures: Figures,
+    pub net: i64,
 }
 
-// How many entries there are, the running totals and the net position.
-#[derive(Clone, Copy)]
-pub enum Tally {
-    Totals(u64, Figures, i64),
-    Refused(Fault),
-}
-
-// What withdrawing an entry and tidying up give.
-#[derive(Clone, Copy)]
-pub enum Change {
-    Done,
-    Refused(Fault),
-}
+// What looking up an entry, asking for an owner's tally, and withdrawing an entry or tidying up give: each of them, or the fault.
+pub type Finding = Result<Entry, Fault>;
+pub type Tallying = Result<Tally, Fault>;
+pub type Change = Result<(), Fault>;
