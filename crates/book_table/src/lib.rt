@@ -155,12 +155,12 @@ pub fn first_numbered(book: &[u64], owner: u64, claimed: u64, number: u64) -> Fi
     let mut rows = claimed;
     while 0 < rows {
         if (book[at] == owner) & (book[at + 1] == number) {
-            return Finding::Found(entry_at(book, at));
+            return Ok(entry_at(book, at));
         }
         at += 9;
         rows -= 1;
     }
-    Finding::Refused(Fault::NoEntry)
+    Err(Fault::NoEntry)
 }
 
 // How many rows among so many are an owner's.
