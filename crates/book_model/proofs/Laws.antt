@@ -32,6 +32,16 @@ module _ (book : List ℕ) (claimed n at : ℕ) (h : claimed ≤ rows_there book
   pub row_here : at < length book
   row_here = omega (arith, row_within)
 
+-- the walk in a loop over the rows claimed, at its row k
+pub walk-at : (claimed k : ℕ) → k ≤ claimed → Walk claimed (claimed - k) (17 + 9 * k)
+walk-at claimed k h = (omega arith, omega arith)
+
+pub fewer : (claimed k : ℕ) → claimed - k - 1 ≡ claimed - (k + 1)
+fewer claimed k = omega arith
+
+pub further : (at k : ℕ) → at + 9 * k + 9 ≡ at + 9 * (k + 1)
+further at k = omega arith
+
 -- where an owner's numbers stand: behind the rows claimed, and before the rows
 pub block_within : (o : ℕ) → (1 ≤ block_of o) × (block_of o ≤ 9)
 unfolding block_of

@@ -2,18 +2,14 @@
 use Rattle.std.specs.Prelude.{Ok}
 use Prim.Native.Nat.{ℕ, suc, ◌+◌, ◌<◌}
 use native.Mathlib.Omega.{arith}
-use mathlib.Core.Bool.{Bool, true, false, cond}
+use mathlib.Core.Bool.{true}
 use mathlib.Core.List.{List, [], ◌∷◌}
 use mathlib.Core.Path.{◌≡◌, refl, sym, ap, ◌∙◌}
-use lib.Dec.{eqb}
 use lib.ListN.{length, get_or, set}
 use lib.Seq.{sets, get_or-set_other}
 use Rattle.figures.specs.declared.Figures.{Figures}
-use Rattle.figures.specs.Figures.{figures, plus, minus, same, covers, all_of, figures_at}
+use Rattle.figures.specs.Figures.{plus, minus, same, covers, all_of, figures_at}
 use Rattle.figures.proofs.Laws.{both, same_true, same_refl, same_step}
-use Rattle.passes.specs.declared.Fault.{Fault}
-use Rattle.passes.specs.declared.Fault.TheVariants.{NoEntry}
-use Rattle.measure.specs.Measures.{sums}
 use Rattle.book_model.specs.declared.Entry.{Entry}
 use Rattle.book_model.specs.PlainList.{totals_of, entries_on, finding, without}
 use Rattle.book_model.specs.Table.{block_of, last_number, running_totals}

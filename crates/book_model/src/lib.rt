@@ -29,5 +29,7 @@ pub struct Tally {
 
 // What looking up an entry, asking for an owner's tally, and withdrawing an entry or tidying up give: each of them, or the fault.
 pub type Finding = Result<Entry, Fault>;
+
 pub type Tallying = Result<Tally, Fault>;
+
 pub type Change = Result<(), Fault>;

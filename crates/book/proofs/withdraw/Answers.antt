@@ -5,7 +5,7 @@ use native.Mathlib.Omega.{arith}
 use Rattle.std.proofs.lemmas.Result.{err_from_is_err_and}
 use Rattle.passes.specs.declared.Fault.TheVariants.{Book, NoEntry}
 use Rattle.figures.proofs.Laws.{both}
-use Rattle.book_model.specs.PlainList.{Finding, finding}
+use Rattle.book_model.specs.PlainList.{finding}
 use Rattle.book_model.specs.Table.{is_owner, entries_from, entries_of, is_book, is_list}
 use Rattle.book_model.proofs.Laws.{sound}
 use Rattle.book.proofs.Asked.{refused, granted}
