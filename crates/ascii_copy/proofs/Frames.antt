@@ -11,9 +11,9 @@ use lib.ListN.{length, get_or, take, drop, length-append, length-take, length-dr
 use lib.Seq.{length-take-le, take_at, drop_at, drop-drop, get_or-take, get_or-drop}
 use Rattle.text.specs.declared.character_set.CharacterSet.TheVariants.{Ascii, Ebcdic}
 use Rattle.text.specs.CharacterSet.{set_of}
-use Rattle.frame.specs.declared.Frame.TheVariants.{Cut, Whole}
+use Rattle.frame.specs.Frames.{Cut, Whole}
 use Rattle.frame.specs.Frames.{part, length_in, length_at, frame_at}
-use Rattle.frame.proofs.Laws.{cut-length, cut-body, whole, whole-within, whole-start}
+use Rattle.frame.proofs.Laws.{cut-length, cut-body, whole, whole-within, whole-start, whole-size}
 use Rattle.ascii_copy.specs.CodePage037.{counterpart}
 use Rattle.ascii_copy.specs.AsciiCopy.{copied_body, copied_frames, Begins, first, behind}
 use Rattle.ascii_copy.proofs.Records.{length-copied, front-copied}
@@ -105,7 +105,7 @@ module _ (file copy : List ℕ) (at start size : ℕ) (a : Ahead file copy at) (
       by : Seen file at → frame_at (drop at file) 0 ≡ Whole 4 size
       by (none f) = cc
       by (one s is fits f) =
-          let same : size ≡ length_at file at = cc in
+          let same : size ≡ length_at file at = sym (whole-size file at start size e) in
           rw same (whole (drop at file) 0 (omega (arith, length-drop at file)))
 
   -- where a record stands, the copy has its copy, and then the copy of what follows

@@ -4,7 +4,7 @@
 ghost use Rattle.std.specs.Prelude.{true, ◌≡◌, ◌+◌, ◌-◌, ◌*◌, ◌≤◌, ◌<◌, length};
 ghost use Rattle.letters.specs.Letters.{letters_of};
 ghost use Rattle.letters.specs.OfArrangement.{LettersOwn};
-ghost use Rattle.passes.specs.declared.Answer.TheVariants.{Accepted};
+ghost use Rattle.passes.specs.Answers.{Accepted};
 ghost use Rattle.passes.specs.Reading.{surveyed};
 ghost use Rattle.passes.specs.Rows.{rows_of as rows_of_file};
 ghost use Rattle.book_model.specs.PlainList.{entries_on, finding, withdrawing};
@@ -14,8 +14,8 @@ ghost use Rattle.book_model.specs.Calls.{enter_answer, rows_after, book_after, l
 
 use book_model::{Change, Entering, Entry, Finding, Tally, Tallying};
 use figures::Figures;
-use frame::{Cursor, Frame};
-use passes::{Answer, Fault, Totals};
+use frame::{Cursor, Extent};
+use passes::{Fault, Refusal, Totals};
 use standing::Standing;
 use text::CharacterSet;
 
@@ -31,33 +31,29 @@ fn put_letters(file: &[u8], number: u64, owner: u64, last: u64, book: &mut [u64]
     let mut rows = claimed;
     let mut given = last;
     while at < file.len() {
-        match Cursor::at(at).frame(file) {
-            Frame::Cut => {
-                return;
-            }
-            Frame::Whole(start, size) => {
-                let kind = judge::type_of(set, frame::part_of(file, start, size));
-                s = standing::moved(set, file, s, kind, at);
-                if kind == 90 {
-                    let spot = book_gaps::free_row(book, place, rows);
-                    let sums = s.letter;
-                    let figures = Figures {
-                        bundles: s.opened,
-                        sums,
-                    };
-                    given += 1;
-                    let e = Entry {
-                        number: given,
-                        file: number,
-                        figures,
-                    };
-                    book_table::put_row(book, spot.at, owner, e);
-                    place = spot.at + 9;
-                    rows = spot.rows;
-                }
-                at = start + size;
-            }
+        let Some(Extent { start, size }) = Cursor::at(at).frame(file) else {
+            return;
+        };
+        let kind = judge::type_of(set, frame::part_of(file, start, size));
+        s = standing::moved(set, file, s, kind, at);
+        if kind == 90 {
+            let spot = book_gaps::free_row(book, place, rows);
+            let sums = s.letter;
+            let figures = Figures {
+                bundles: s.opened,
+                sums,
+            };
+            given += 1;
+            let e = Entry {
+                number: given,
+                file: number,
+                figures,
+            };
+            book_table::put_row(book, spot.at, owner, e);
+            place = spot.at + 9;
+            rows = spot.rows;
         }
+        at = start + size;
     }
 }
 
@@ -89,10 +85,10 @@ fn enter_accepted(
 {
     let needed = totals.records.0;
     if (table.len() as u64) / 7 < needed {
-        return Entering::Refused(Fault::Room, needed, 0);
+        return Err(Refusal::of_file(Fault::Room, needed));
     }
     if taken_list::is_taken(list, owner, number) {
-        return Entering::Refused(Fault::Duplicate, 0, 0);
+        return Err(Refusal::of_file(Fault::Duplicate, 0));
     }
     let letters = totals.letters;
     let sums = totals.sums;
@@ -101,13 +97,13 @@ fn enter_accepted(
         sums,
     };
     if !book_table::keeps_range(book, owner, added) {
-        return Entering::Refused(Fault::Range, 0, 0);
+        return Err(Refusal::of_file(Fault::Range, 0));
     }
     let claimed = book_table::number_at(book, 0);
     let used = book_gaps::rows_used(book, claimed);
     let free = book_table::rows_there(book) - used;
     if !(taken_list::has_place(list) & book_table::has_room(book, owner, free, letters, added)) {
-        return Entering::Refused(Fault::Full, 0, 0);
+        return Err(Refusal::of_file(Fault::Full, 0));
     }
     let last = book_table::number_at(book, book_table::block_of(owner));
     passes::fill(file, table);
@@ -120,7 +116,7 @@ fn enter_accepted(
         added,
     );
     taken_list::put_taken(list, owner, number);
-    Entering::Entered(last + 1, totals)
+    Ok((last + 1, totals))
 }
 
 // An owner enters a file under its own number for it: its letters join the book and its number the list, and its rows fill the row table, or nothing
@@ -140,17 +136,13 @@ pub fn enter(
     ensures own { LettersOwn file.now }
 {
     if !(book_table::is_book(book) & taken_list::is_list(list)) {
-        return Entering::Refused(Fault::Book, 0, 0);
+        return Err(Refusal::of_file(Fault::Book, 0));
     }
     if !book_table::is_owner(owner) {
-        return Entering::Refused(Fault::NoEntry, 0, 0);
+        return Err(Refusal::of_file(Fault::NoEntry, 0));
     }
-    match passes::survey(file) {
-        Answer::Refused(fault, place, offset) => Entering::Refused(fault, place, offset),
-        Answer::Accepted(totals) => {
-            enter_accepted(file, number, owner, totals, table, book, list)
-        }
-    }
+    let totals = passes::survey(file)?;
+    enter_accepted(file, number, owner, totals, table, book, list)
 }
 
 // What is asked of a call, one thing after the other: a fault unless a test holds.

@@ -9,7 +9,7 @@ use mathlib.Core.List.{List}
 use lib.ListN.{length}
 use Rattle.passes.specs.Reading.{answer_of}
 use Rattle.letters.specs.Letters.{letters_of}
-use Rattle.book_model.specs.declared.Entering.{Entering}
+use Rattle.book_model.specs.Entering.{Entering}
 use Rattle.book_model.specs.PlainList.{Change, Own, position_of, withdrawing, after_entering, after_withdrawing}
 use Rattle.book_model.specs.Table.{is_owner, entries_of, own_of, free_rows, free_in, tidied}
 use Rattle.book_model.specs.Calls.{enter_answer, rows_after, book_after, list_after, find_answer, totals_answer, withdraw_answer, book_withdrawn, tidy_answer}

@@ -6,8 +6,8 @@ use Rattle.passes.specs.declared.Fault.TheVariants.{NoEntry}
 use Rattle.passes.specs.Reading.{answer_of}
 use Rattle.letters.specs.Letters.{letters_of}
 use Rattle.book_model.specs.declared.Entry.{Entry}
-use Rattle.book_model.specs.declared.Entering.{Entering}
-use Rattle.book_model.specs.declared.Entering.TheVariants.{Refused}
+use Rattle.book_model.specs.Entering.{Entering}
+use Rattle.book_model.specs.Entering.{Refused}
 use Rattle.book_model.specs.PlainList.{Finding, Tallying, Change, Own, Free, is_taken, entering, after_entering, finding, withdrawing, after_withdrawing, tally}
 use Rattle.book_model.specs.Table.{is_owner}
 use Rattle.book_model.specs.Calls.{enter_answer, rows_after, book_after, list_after, find_answer, totals_answer, withdraw_answer, book_withdrawn, tidy_answer, book_tidied}

@@ -1,12 +1,13 @@
 -- A list set down byte by byte: what is still to be set down gives the whole. Assumes nothing.
-use Prim.Native.Nat.{ℕ, zero, suc, ◌+◌, ◌≤◌, ◌<◌}
+use Prim.Native.Nat.{ℕ, zero, suc, ◌+◌, ◌-◌, ◌≤◌, ◌<◌}
 use mathlib.Core.Path.{◌≡◌, refl, ap, sym, ◌∙◌}
-use mathlib.Core.List.{List, [], ◌∷◌, map}
+use mathlib.Core.List.{List, ◌∷◌, append_assoc}
 use native.Mathlib.Numerals.{add-one}
 use native.Mathlib.Nat.{add-zero}
 use native.Mathlib.Omega.{arith}
-use lib.ListN.{length, get_or, take, drop, set, length-set, length-take, length-drop, length-map, drop_of_length-le, get_or-map}
-use lib.Seq.{sets, drop-cons, get_or-take, get_or-drop}
+use lib.ListN.{length, get_or, take, drop, set, replicate, length-set, length-take, length-drop, length-map, drop_of_length-le, get_or-map}
+use lib.Seq.{sets, sets-eq, drop-cons, drop-drop, get_or-take, get_or-drop}
+use borrow.Rule.Slice.PartMut.{put_mid}
 use Rattle.frame.specs.Frames.{part}
 use Rattle.ascii_copy.specs.CodePage037.{counterpart}
 use Rattle.ascii_copy.specs.AsciiCopy.{translated}
@@ -58,3 +59,15 @@ pub times-at : (n x i : ℕ) → i < n → x ≡ get_or (times n x) i 0
 times-at zero x i h = absurd (omega arith)
 times-at (suc n) x zero h = refl
 times-at (suc n) x (suc i) h = times-at n x i (omega arith)
+
+-- one byte many times, as the library writes it
+pub times-are : (n x : ℕ) → times n x ≡ replicate n x
+times-are zero x = refl
+times-are (suc n) x = ap (λ xs. x ∷ xs) (times-are n x)
+
+-- a part of a list that is written as a whole
+pub put-part : (out bytes ys : List ℕ) (at size : ℕ) → at + size ≤ length out → length bytes ≡ size → ys ≡ bytes
+    → put_mid at (at + size - at) out ys ≡ sets out at bytes
+put-part out bytes ys at size fits sized e =
+    let same : at + size - at ≡ length bytes = omega arith in
+    rw (e, same, drop-drop (length bytes) at out, ← append_assoc (take at out) bytes (drop (at + length bytes) out)) (sym (sets-eq bytes out at (omega arith)))

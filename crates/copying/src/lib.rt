@@ -12,11 +12,7 @@ pub fn copy_bytes(text: &[u8], from: usize, size: usize, out: &mut [u8], at: usi
     requires { (from + size ≤ length text.now) × (at + size ≤ length out.old) }
     ensures { out.new ≡ sets out.old at (part from size text.now) }
 {
-    let mut i = 0;
-    while i < size {
-        out[at + i] = text[from + i];
-        i += 1;
-    }
+    out[at..at + size].copy_from_slice(&text[from..from + size]);
 }
 
 // The characters of code page 037 as those of ASCII.
@@ -24,10 +20,8 @@ pub fn translate_bytes(text: &[u8], from: usize, size: usize, out: &mut [u8], at
     requires { (from + size ≤ length text.now) × (at + size ≤ length out.old) }
     ensures { out.new ≡ sets out.old at (translated (part from size text.now)) }
 {
-    let mut i = 0;
-    while i < size {
-        out[at + i] = ascii_copy::counterpart_of(text[from + i]);
-        i += 1;
+    for (i, byte) in text[from..from + size].iter().enumerate() {
+        out[at + i] = ascii_copy::counterpart_of(*byte);
     }
 }
 
@@ -35,9 +29,5 @@ pub fn put_times(out: &mut [u8], at: usize, size: usize, byte: u8)
     requires { at + size ≤ length out.old }
     ensures { out.new ≡ sets out.old at (times size byte) }
 {
-    let mut i = 0;
-    while i < size {
-        out[at + i] = byte;
-        i += 1;
-    }
+    out[at..at + size].fill(byte);
 }

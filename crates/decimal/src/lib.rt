@@ -11,11 +11,9 @@ pub fn put_digits(out: &mut [u8], at: usize, size: usize, value: u64)
     ensures { out.new ≡ sets out.old at (digits size value) }
 {
     let mut left = value;
-    let mut end = size;
-    while 0 < end {
-        end -= 1;
-        out[at + end] = 48 + (left % 10) as u8;
-        left = left / 10;
+    for i in (0..size).rev() {
+        out[at + i] = b'0' + (left % 10) as u8;
+        left /= 10;
     }
 }
 
@@ -24,10 +22,8 @@ pub fn fits_in(size: usize, value: u64) -> bool
     ensures { result ≡ fits size value }
 {
     let mut left = value;
-    let mut i = 0;
-    while i < size {
-        left = left / 10;
-        i += 1;
+    for _ in 0..size {
+        left /= 10;
     }
     left == 0
 }

@@ -5,7 +5,7 @@ use mathlib.Core.List.{List, [], ◌∷◌}
 use Prim.Native.Nat.{ℕ, zero, suc, ◌+◌, ◌-◌, ◌/◌, ◌%◌, ◌≤◌, ◌<◌, min}
 use native.Mathlib.Nat.{zero-add, suc-add, zero-min, suc-min-suc, not-suc-le-zero, le_of_suc-le-suc}
 use native.Mathlib.Omega.{arith}
-use borrow.Author.Tests.{ne_eqb, eqb-true, leb-true, le-leb}
+use borrow.Author.Tests.{ne_eqb, eqb-true, leb-true, le-leb, lt-leb}
 use lib.Dec.{leb, ltb, eqb, leb-zero, leb-suc-zero, leb-suc-suc, eqb-suc-zero, eqb-suc-suc}
 use lib.ListN.{length, get_or, take, drop, drop_of_length-le}
 use lib.Seq.{drop-drop, drop-nil}
@@ -18,12 +18,15 @@ use Rattle.field.specs.declared.Usage.TheVariants.{Mandatory, Conditional}
 use Rattle.field.specs.declared.Rule.{Rule}
 use Rattle.field.specs.Rules.{follows, meets, left_blank, holds}
 use Rattle.layout.specs.Layout.{Sized, sized_parts, Line}
-use Rattle.judge.specs.Alone.{line_holds, first_wrong, stated_size, stated_sizes, first_wrong_part, is_variable, judged, alone}
+use Rattle.judge.specs.Alone.{line_holds, first_wrong, stated_size, stated_sizes, first_wrong_part, is_variable, judged, alone, unless_field}
 use Rattle.layout.specs.Layouts.{image_view_data}
 use Rattle.judge.specs.Image.{image_start, image_size}
-use Rattle.judge.specs.declared.Judged.{Judged}
-use Rattle.judge.specs.declared.Judged.TheVariants.{Sound, WrongLength, WrongField}
+use Rattle.judge.specs.Alone.{Judged}
+use Rattle.judge.specs.Alone.{Sound, WrongLength, WrongField}
 use Rattle.layout.specs.Packing.{line_of, lines_from, lies_within, sized_of, sized_from}
+use Rattle.layout.specs.Fault.{as_field}
+use Rattle.layout.proofs.Fault.{faultless, faulted}
+use Rattle.std.proofs.Common.{Option, None, Some}
 use Rattle.frame.specs.Unless.{unless}
 
 pub both_true : (a b : Bool) → a && b ≡ true → (a ≡ true) × (b ≡ true)
@@ -142,6 +145,64 @@ flip (suc m) (suc f) = leb-suc-suc m f ∙ flip m f ∙ sym (ap not (leb-suc-suc
 pub length-allowed : (parts : List ℕ) (n m fixed : ℕ) → is_variable (sized_from n parts) || leb m fixed ≡ not (eqb (length parts) 0 && ltb fixed m)
 length-allowed [] n m fixed = flip m fixed
 length-allowed (p ∷ ps) n m fixed = sym (ap (λ (b : Bool). not (b && ltb fixed m)) (eqb-suc-zero (length ps)))
+
+-- a field at fault is the answer, and with none it is what is asked next
+field-wrong : (n m : ℕ) (next : Judged) → as_field n ≡ Some m → WrongField m ≡ unless_field n next
+field-wrong n m next e =
+    let f = faulted n m e in
+    rw (ne_eqb n 0 (λ z. omega arith), f.0)
+
+field-right : (n : ℕ) (next : Judged) → as_field n ≡ None → unless_field n next ≡ next
+field-right n next e = rw (faultless n e)
+
+-- the checks of a record, each with what the code found
+module _ (set : CharacterSet) (fixed : ℕ) (lines parts body : List ℕ) where
+  pub too-short : length body < fixed → WrongLength ≡ judged set fixed (lines_from 1 lines) (sized_from (length lines + 1) parts) body
+  unfolding judged
+  too-short h = simp (lt-leb _ _ h)
+
+  module _ (long : fixed ≤ length body) where
+    pub too-long : eqb (length parts) 0 && ltb fixed (length body) ≡ true → WrongLength ≡ judged set fixed (lines_from 1 lines) (sized_from (length lines + 1) parts) body
+    unfolding judged
+    too-long e = simp (le-leb fixed (length body) long, length-allowed parts (length lines + 1) (length body) fixed ∙ ap not e)
+
+    module _ (short : eqb (length parts) 0 && ltb fixed (length body) ≡ false) where
+      to-lines : judged set fixed (lines_from 1 lines) (sized_from (length lines + 1) parts) body
+          ≡ unless_field (first_wrong set (lines_from 1 lines) body)
+          (unless (eqb (length body) (fixed + stated_sizes set (sized_from (length lines + 1) parts) body)) WrongLength
+          (unless_field (first_wrong_part set (sized_from (length lines + 1) parts) body (drop fixed body)) Sound))
+      unfolding judged
+      to-lines = simp (le-leb fixed (length body) long, length-allowed parts (length lines + 1) (length body) fixed ∙ ap not short)
+
+      pub wrong-line : (n : ℕ) → as_field (first_wrong set (lines_from 1 lines) body) ≡ Some n
+          → WrongField n ≡ judged set fixed (lines_from 1 lines) (sized_from (length lines + 1) parts) body
+      wrong-line n e = field-wrong (first_wrong set (lines_from 1 lines) body) n _ e ∙ sym to-lines
+
+      module _ (right : as_field (first_wrong set (lines_from 1 lines) body) ≡ None) where
+        to-sizes : judged set fixed (lines_from 1 lines) (sized_from (length lines + 1) parts) body
+            ≡ unless (eqb (length body - fixed) (stated_sizes set (sized_from (length lines + 1) parts) body)) WrongLength
+            (unless_field (first_wrong_part set (sized_from (length lines + 1) parts) body (drop fixed body)) Sound)
+        to-sizes =
+            to-lines
+            ∙ field-right (first_wrong set (lines_from 1 lines) body) _ right
+            ∙ rw (eqb-sub (length body) fixed (stated_sizes set (sized_from (length lines + 1) parts) body) long)
+
+        pub wrong-sizes : eqb (length body - fixed) (stated_sizes set (sized_from (length lines + 1) parts) body) ≡ false
+            → WrongLength ≡ judged set fixed (lines_from 1 lines) (sized_from (length lines + 1) parts) body
+        wrong-sizes e = sym (to-sizes ∙ rw e)
+
+        module _ (filled-up : eqb (length body - fixed) (stated_sizes set (sized_from (length lines + 1) parts) body) ≡ true) where
+          to-parts : judged set fixed (lines_from 1 lines) (sized_from (length lines + 1) parts) body
+              ≡ unless_field (first_wrong_part set (sized_from (length lines + 1) parts) body (drop fixed body)) Sound
+          to-parts = to-sizes ∙ rw filled-up
+
+          pub wrong-part : (n : ℕ) → as_field (first_wrong_part set (sized_from (length lines + 1) parts) body (drop fixed body)) ≡ Some n
+              → WrongField n ≡ judged set fixed (lines_from 1 lines) (sized_from (length lines + 1) parts) body
+          wrong-part n e = field-wrong (first_wrong_part set (sized_from (length lines + 1) parts) body (drop fixed body)) n Sound e ∙ sym to-parts
+
+          pub nothing-wrong : as_field (first_wrong_part set (sized_from (length lines + 1) parts) body (drop fixed body)) ≡ None
+              → Sound ≡ judged set fixed (lines_from 1 lines) (sized_from (length lines + 1) parts) body
+          nothing-wrong e = sym (to-parts ∙ field-right (first_wrong_part set (sized_from (length lines + 1) parts) body (drop fixed body)) Sound e)
 
 -- the sizes of one part more
 pub sizes-suc : (set : CharacterSet) (parts body : List ℕ) (n i : ℕ) → i < length parts

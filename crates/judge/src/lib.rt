@@ -1,50 +1,50 @@
 // One record alone: its length, its fixed fields, its stated sizes and its variable fields.
 #![tactic(auto)]
 
-ghost use Rattle.std.specs.Prelude.{◌≡◌, List, [], ℕ, ◌+◌, ◌-◌, ◌≤◌, min, eqb, length, take, drop, true};
+ghost use Rattle.std.specs.Prelude.{◌≡◌, List, [], ℕ, ◌+◌, ◌-◌, ◌≤◌, min, eqb, length, take, drop, true, Err};
 ghost use Rattle.judge.specs.Alone.{number_of, field_of, line_holds, first_wrong, stated_size, stated_sizes, first_wrong_part, judged, type_of, judged_as, judged_record, alone};
 ghost use Rattle.judge.specs.ByNumbers.{by_own};
 ghost use Rattle.judge.specs.Image.{image_start, image_size};
 ghost use Rattle.layout.specs.Layouts.{image_view_data};
-ghost use Rattle.judge.specs.declared.Judged.TheVariants.{Sound};
+ghost use Rattle.judge.specs.Alone.{Sound};
+ghost use Rattle.layout.specs.Fault.{as_field};
 ghost use Rattle.layout.specs.Packing.{Packed, is_whole, line_of, lines_from, sized_of, sized_from, lies_within};
 ghost use Rattle.text.specs.DataTypes.{every};
 
-use layout::ImageViewData;
+use layout::{ImageViewData, Kind};
 use text::CharacterSet;
 
-// What is found of a record alone.
+// What is wrong with a record alone.
 #[derive(Clone, Copy)]
-pub enum Judged {
-    Sound,
-    WrongLength,
+pub enum Flaw {
+    Length,
     UnknownType,
     // The number of the first field at fault.
-    WrongField(usize),
+    Field(usize),
 }
 
-impl Judged {
+// What is found of a record alone.
+pub type Judged = Result<(), Flaw>;
+
+impl Flaw {
     // Document 01's number for the answer.
     pub fn number(self) -> u64
-        ensures { result ≡ number_of self }
+        ensures { result ≡ number_of (Err self) }
     {
         match self {
-            Judged::Sound => 0,
-            Judged::WrongLength => 4,
-            Judged::UnknownType => 5,
-            Judged::WrongField(_) => 7,
+            Flaw::Length => 4,
+            Flaw::UnknownType => 5,
+            Flaw::Field(_) => 7,
         }
     }
 
     // The field at fault, 0 for the whole record.
     pub fn field(self) -> usize
-        ensures { result ≡ field_of self }
+        ensures { result ≡ field_of (Err self) }
     {
         match self {
-            Judged::Sound => 0,
-            Judged::WrongLength => 0,
-            Judged::UnknownType => 0,
-            Judged::WrongField(n) => n,
+            Flaw::Length | Flaw::UnknownType => 0,
+            Flaw::Field(n) => n,
         }
     }
 }
@@ -73,19 +73,17 @@ fn line_holds(set: CharacterSet, packed: u64, body: &[u8]) -> bool
     field::rule_holds(set, data_type, rule, part, body)
 }
 
-// The number of the first field of the fixed part that does not hold, or 0.
-pub fn first_wrong<'a>(set: CharacterSet, lines: &'a [u64], body: &'a [u8]) -> usize
+// The number of the first field of the fixed part that does not hold.
+pub fn first_wrong(set: CharacterSet, lines: &[u64], body: &[u8]) -> Option<usize>
     requires { every (lies_within (length body.now)) lines.now ≡ true }
-    ensures { result ≡ first_wrong set (lines_from 1 lines.now) body.now }
+    ensures { result ≡ as_field (first_wrong set (lines_from 1 lines.now) body.now) }
 {
-    let mut i = 0;
-    while i < lines.len() {
-        if !line_holds(set, lines[i], body) {
-            return i + 1;
+    for (i, &packed) in lines.iter().enumerate() {
+        if !line_holds(set, packed, body) {
+            return Some(i + 1);
         }
-        i += 1;
     }
-    0
+    None
 }
 
 // The size that the record states for a part.
@@ -98,18 +96,16 @@ pub fn stated_size(set: CharacterSet, packed: u64, body: &[u8]) -> u64
 }
 
 // Whether the stated sizes come to just what is left after the fixed part.
-fn sizes_fill<'a>(set: CharacterSet, parts: &'a [u64], body: &'a [u8], left: u64) -> bool
+fn sizes_fill(set: CharacterSet, parts: &[u64], body: &[u8], left: u64) -> bool
     ensures { (n : ℕ) → result ≡ eqb left (stated_sizes set (sized_from n parts.now) body.now) }
 {
     let mut rest = left;
-    let mut i = 0;
-    while i < parts.len() {
-        let size = stated_size(set, parts[i], body);
+    for &packed in parts {
+        let size = stated_size(set, packed, body);
         if rest < size {
             return false;
         }
         rest -= size;
-        i += 1;
     }
     rest == 0
 }
@@ -118,87 +114,67 @@ fn sizes_fill<'a>(set: CharacterSet, parts: &'a [u64], body: &'a [u8], left: u64
 fn past(at: usize, size: u64, end: usize) -> usize
     ensures { result ≡ min (at + size) end }
 {
-    if end < at {
-        return end;
-    }
-    let left = (end - at) as u64;
-    if left < size {
-        return end;
-    }
-    at + size as usize
+    at.saturating_add(size as usize).min(end)
 }
 
-// The number of the first part that is not of its data type, or 0. The parts stand one after the other from a start on, and their
-// fields are numbered from `first` on.
-fn first_wrong_part<'a>(
+// The number of the first part that is not of its data type. The parts stand one after the other from a start on, and their
+// fields are numbered on from those before.
+fn first_wrong_part(
     set: CharacterSet,
-    first: usize,
-    parts: &'a [u64],
+    before: usize,
+    parts: &[u64],
     start: usize,
-    body: &'a [u8],
-) -> usize
-    requires { first + length parts.now ≤ 0x2_0000 }
-    ensures { result ≡ first_wrong_part set (sized_from first parts.now) body.now (drop start body.now) }
+    body: &[u8],
+) -> Option<usize>
+    requires { before + 1 + length parts.now ≤ 0x2_0000 }
+    ensures { result ≡ as_field (first_wrong_part set (sized_from (before + 1) parts.now) body.now (drop start body.now)) }
 {
     let mut at = start;
-    let mut i = 0;
-    while i < parts.len() {
-        let packed = parts[i];
+    for (i, &packed) in parts.iter().enumerate() {
         let size = stated_size(set, packed, body);
         let data_type = layout::data_type_of(packed / 0x100_0000 % 0x100);
         if !text::of_type(set, data_type, frame::part_of(body, at, size as usize)) {
-            return first + i;
+            return Some(before + 1 + i);
         }
         at = past(at, size, body.len());
-        i += 1;
     }
-    0
+    None
 }
 
-// The sizes that the record states for the first `count` parts, together.
-fn sizes_before<'a>(set: CharacterSet, count: usize, parts: &'a [u64], body: &'a [u8]) -> u64
-    requires { (count ≤ length parts.now) × (stated_sizes set (sized_from 1 parts.now) body.now ≤ 0xFFFF_FFFF) }
-    ensures { (n : ℕ) → result ≡ stated_sizes set (sized_from n (take count parts.now)) body.now }
+// The sizes that the record states for parts, together.
+fn sizes_of(set: CharacterSet, parts: &[u64], body: &[u8]) -> u64
+    requires { stated_sizes set (sized_from 1 parts.now) body.now ≤ 0xFFFF_FFFF }
+    ensures { (n : ℕ) → result ≡ stated_sizes set (sized_from n parts.now) body.now }
 {
     let mut sum: u64 = 0;
-    let mut i = 0;
-    while i < count {
-        sum += stated_size(set, parts[i], body);
-        i += 1;
+    for &packed in parts {
+        sum += stated_size(set, packed, body);
     }
     sum
 }
 
 // The checks of one record alone, in document 01's order.
-fn judge_body<'a>(
-    set: CharacterSet,
-    fixed: usize,
-    lines: &'a [u64],
-    parts: &'a [u64],
-    body: &'a [u8],
-) -> Judged
+fn judge_body(set: CharacterSet, fixed: usize, lines: &[u64], parts: &[u64], body: &[u8]) -> Judged
     requires { (length lines.now + length parts.now ≤ 0x1_0000) × (every (lies_within fixed) lines.now ≡ true) }
     ensures { result ≡ judged set fixed (lines_from 1 lines.now) (sized_from (length lines.now + 1) parts.now) body.now }
 {
     if body.len() < fixed {
-        return Judged::WrongLength;
+        return Err(Flaw::Length);
     }
     let left = body.len() - fixed;
     if (parts.len() == 0) & (fixed < body.len()) {
-        return Judged::WrongLength;
+        return Err(Flaw::Length);
     }
-    let wrong = first_wrong(set, lines, body);
-    if wrong != 0 {
-        return Judged::WrongField(wrong);
+    if let Some(field) = first_wrong(set, lines, body) {
+        return Err(Flaw::Field(field));
     }
     if !sizes_fill(set, parts, body, left as u64) {
-        return Judged::WrongLength;
+        return Err(Flaw::Length);
     }
-    let wrong_part = first_wrong_part(set, lines.len() + 1, parts, fixed, body);
-    if wrong_part != 0 {
-        return Judged::WrongField(wrong_part);
+    if let Some(field) = first_wrong_part(set, lines.len(), parts, fixed, body) {
+        return Err(Flaw::Field(field));
     }
-    Judged::Sound
+    Ok(())
 }
 
 // The type that a record's first two characters name, or 0.
@@ -216,14 +192,13 @@ pub fn type_of(set: CharacterSet, body: &[u8]) -> u64
 }
 
 // A record judged by the numbers of its own kind, those of other kinds behind them; by none it is of no kind that is carried.
-fn judge_by<'a>(set: CharacterSet, own: &'a [u64], body: &'a [u8]) -> Judged
+fn judge_by(set: CharacterSet, own: &[u64], body: &[u8]) -> Judged
     requires { is_whole own.now ≡ true }
     ensures { result ≡ by_own set own.now body.now }
 {
-    if own.len() == 0 {
-        return Judged::UnknownType;
-    }
-    let header = own[0];
+    let Some(&header) = own.first() else {
+        return Err(Flaw::UnknownType);
+    };
     let end = layout::fields_in(header) + 1;
     let parts = end - layout::parts_in(header);
     let fixed = layout::length_in(header);
@@ -243,7 +218,7 @@ pub fn judge_record(set: CharacterSet, body: &[u8]) -> Judged
     ensures { result ≡ judged_record set body.now }
 {
     if body.len() < 2 {
-        return Judged::WrongLength;
+        return Err(Flaw::Length);
     }
     let layouts = layout::table();
     judge_as(set, &layouts, type_of(set, body), body)
@@ -263,7 +238,7 @@ pub fn image_start(set: CharacterSet, body: &[u8]) -> usize
     ensures { result ≡ image_start set body.now }
 {
     let parts = ImageViewData::PARTS;
-    (ImageViewData::LENGTH + sizes_before(set, 5, &parts, body)) as usize
+    (ImageViewData::LENGTH + sizes_of(set, &parts[..5], body)) as usize
 }
 
 // How long it is: what field 20 states.

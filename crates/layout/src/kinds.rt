@@ -1,173 +1,154 @@
 // The carried kinds of record, each a type with its type number, the length of its fixed part and how many fields it has, as its clause says.
 use crate::packing::{ANS, BINARY, FIRST, SIZE};
 
+// The form that document 01 names.
+pub trait Kind {
+    const TYPE: u64;
+    const LENGTH: u64;
+    const FIELDS: u64;
+}
+
 // Clause 7: File Header Record (Type 01).
 #[derive(Clone, Copy)]
 pub struct FileHeader {}
 
-impl FileHeader {
-    pub const TYPE: u64 = 1;
-
-    pub const LENGTH: u64 = 80;
-
-    pub const FIELDS: u64 = 14;
+impl Kind for FileHeader {
+    const TYPE: u64 = 1;
+    const LENGTH: u64 = 80;
+    const FIELDS: u64 = 14;
 }
 
 // Clause 8: Cash Letter Header Record (Type 10).
 #[derive(Clone, Copy)]
 pub struct CashLetterHeader {}
 
-impl CashLetterHeader {
-    pub const TYPE: u64 = 10;
-
-    pub const LENGTH: u64 = 80;
-
-    pub const FIELDS: u64 = 14;
+impl Kind for CashLetterHeader {
+    const TYPE: u64 = 10;
+    const LENGTH: u64 = 80;
+    const FIELDS: u64 = 14;
 }
 
 // Clause 9: Bundle Header Record (Type 20).
 #[derive(Clone, Copy)]
 pub struct BundleHeader {}
 
-impl BundleHeader {
-    pub const TYPE: u64 = 20;
-
-    pub const LENGTH: u64 = 80;
-
-    pub const FIELDS: u64 = 13;
+impl Kind for BundleHeader {
+    const TYPE: u64 = 20;
+    const LENGTH: u64 = 80;
+    const FIELDS: u64 = 13;
 }
 
 // Clause 10: Check Detail Record (Type 25).
 #[derive(Clone, Copy)]
 pub struct CheckDetail {}
 
-impl CheckDetail {
-    pub const TYPE: u64 = 25;
-
-    pub const LENGTH: u64 = 80;
-
-    pub const FIELDS: u64 = 14;
+impl Kind for CheckDetail {
+    const TYPE: u64 = 25;
+    const LENGTH: u64 = 80;
+    const FIELDS: u64 = 14;
 }
 
 // Clause 11: Check Detail Addendum A Record (Type 26).
 #[derive(Clone, Copy)]
 pub struct CheckDetailAddendumA {}
 
-impl CheckDetailAddendumA {
-    pub const TYPE: u64 = 26;
-
-    pub const LENGTH: u64 = 115;
-
-    pub const FIELDS: u64 = 14;
+impl Kind for CheckDetailAddendumA {
+    const TYPE: u64 = 26;
+    const LENGTH: u64 = 115;
+    const FIELDS: u64 = 14;
 }
 
 // Clause 12: Check Detail Addendum B Record (Type 27).
 #[derive(Clone, Copy)]
 pub struct CheckDetailAddendumB {}
 
-impl CheckDetailAddendumB {
-    pub const TYPE: u64 = 27;
-
-    pub const LENGTH: u64 = 73;
-
-    pub const FIELDS: u64 = 18;
+impl Kind for CheckDetailAddendumB {
+    const TYPE: u64 = 27;
+    const LENGTH: u64 = 73;
+    const FIELDS: u64 = 18;
 }
 
 // Clause 13: Check Detail Addendum C Record (Type 28).
 #[derive(Clone, Copy)]
 pub struct CheckDetailAddendumC {}
 
-impl CheckDetailAddendumC {
-    pub const TYPE: u64 = 28;
-
-    pub const LENGTH: u64 = 80;
-
-    pub const FIELDS: u64 = 14;
+impl Kind for CheckDetailAddendumC {
+    const TYPE: u64 = 28;
+    const LENGTH: u64 = 80;
+    const FIELDS: u64 = 14;
 }
 
 // Clause 14: Return Record (Type 31).
 #[derive(Clone, Copy)]
 pub struct ReturnRecord {}
 
-impl ReturnRecord {
-    pub const TYPE: u64 = 31;
-
-    pub const LENGTH: u64 = 80;
-
-    pub const FIELDS: u64 = 9;
+impl Kind for ReturnRecord {
+    const TYPE: u64 = 31;
+    const LENGTH: u64 = 80;
+    const FIELDS: u64 = 9;
 }
 
 // Clause 15: Return Addendum A Record (Type 32).
 #[derive(Clone, Copy)]
 pub struct ReturnAddendumA {}
 
-impl ReturnAddendumA {
-    pub const TYPE: u64 = 32;
-
-    pub const LENGTH: u64 = 115;
-
-    pub const FIELDS: u64 = 14;
+impl Kind for ReturnAddendumA {
+    const TYPE: u64 = 32;
+    const LENGTH: u64 = 115;
+    const FIELDS: u64 = 14;
 }
 
 // Clause 16: Return Addendum B Record (Type 33).
 #[derive(Clone, Copy)]
 pub struct ReturnAddendumB {}
 
-impl ReturnAddendumB {
-    pub const TYPE: u64 = 33;
-
-    pub const LENGTH: u64 = 80;
-
-    pub const FIELDS: u64 = 11;
+impl Kind for ReturnAddendumB {
+    const TYPE: u64 = 33;
+    const LENGTH: u64 = 80;
+    const FIELDS: u64 = 11;
 }
 
 // Clause 17: Return Addendum C Record (Type 34).
 #[derive(Clone, Copy)]
 pub struct ReturnAddendumC {}
 
-impl ReturnAddendumC {
-    pub const TYPE: u64 = 34;
-
-    pub const LENGTH: u64 = 73;
-
-    pub const FIELDS: u64 = 18;
+impl Kind for ReturnAddendumC {
+    const TYPE: u64 = 34;
+    const LENGTH: u64 = 73;
+    const FIELDS: u64 = 18;
 }
 
 // Clause 18: Return Addendum D Record (Type 35).
 #[derive(Clone, Copy)]
 pub struct ReturnAddendumD {}
 
-impl ReturnAddendumD {
-    pub const TYPE: u64 = 35;
-
-    pub const LENGTH: u64 = 80;
-
-    pub const FIELDS: u64 = 14;
+impl Kind for ReturnAddendumD {
+    const TYPE: u64 = 35;
+    const LENGTH: u64 = 80;
+    const FIELDS: u64 = 14;
 }
 
 // Clause 21: Image View Detail Record (Type 50).
 #[derive(Clone, Copy)]
 pub struct ImageViewDetail {}
 
-impl ImageViewDetail {
-    pub const TYPE: u64 = 50;
-
-    pub const LENGTH: u64 = 80;
-
-    pub const FIELDS: u64 = 23;
+impl Kind for ImageViewDetail {
+    const TYPE: u64 = 50;
+    const LENGTH: u64 = 80;
+    const FIELDS: u64 = 23;
 }
 
 // Clause 22: Image View Data Record (Type 52).
 #[derive(Clone, Copy)]
 pub struct ImageViewData {}
 
+impl Kind for ImageViewData {
+    const TYPE: u64 = 52;
+    const LENGTH: u64 = 139;
+    const FIELDS: u64 = 28;
+}
+
 impl ImageViewData {
-    pub const TYPE: u64 = 52;
-
-    pub const LENGTH: u64 = 139;
-
-    pub const FIELDS: u64 = 28;
-
     // The fields after the fixed part, which the picture call wants without the rest of the layouts.
     pub const PARTS: [u64; 7] = [
         104 * FIRST + 4 * SIZE + ANS, // 22 Image Reference Key
@@ -184,58 +165,48 @@ impl ImageViewData {
 #[derive(Clone, Copy)]
 pub struct ImageViewAnalysis {}
 
-impl ImageViewAnalysis {
-    pub const TYPE: u64 = 54;
-
-    pub const LENGTH: u64 = 80;
-
-    pub const FIELDS: u64 = 47;
+impl Kind for ImageViewAnalysis {
+    const TYPE: u64 = 54;
+    const LENGTH: u64 = 80;
+    const FIELDS: u64 = 47;
 }
 
 // Clause 26: Credit/Reconciliation Record (Type 61).
 #[derive(Clone, Copy)]
 pub struct CreditRecord {}
 
-impl CreditRecord {
-    pub const TYPE: u64 = 61;
-
-    pub const LENGTH: u64 = 84;
-
-    pub const FIELDS: u64 = 12;
+impl Kind for CreditRecord {
+    const TYPE: u64 = 61;
+    const LENGTH: u64 = 84;
+    const FIELDS: u64 = 12;
 }
 
 // Clause 31: Bundle Control Record (Type 70).
 #[derive(Clone, Copy)]
 pub struct BundleControl {}
 
-impl BundleControl {
-    pub const TYPE: u64 = 70;
-
-    pub const LENGTH: u64 = 80;
-
-    pub const FIELDS: u64 = 9;
+impl Kind for BundleControl {
+    const TYPE: u64 = 70;
+    const LENGTH: u64 = 80;
+    const FIELDS: u64 = 9;
 }
 
 // Clause 34: Cash Letter Control Record (Type 90).
 #[derive(Clone, Copy)]
 pub struct CashLetterControl {}
 
-impl CashLetterControl {
-    pub const TYPE: u64 = 90;
-
-    pub const LENGTH: u64 = 85;
-
-    pub const FIELDS: u64 = 9;
+impl Kind for CashLetterControl {
+    const TYPE: u64 = 90;
+    const LENGTH: u64 = 85;
+    const FIELDS: u64 = 9;
 }
 
 // Clause 35: File Control Record (Type 99).
 #[derive(Clone, Copy)]
 pub struct FileControl {}
 
-impl FileControl {
-    pub const TYPE: u64 = 99;
-
-    pub const LENGTH: u64 = 80;
-
-    pub const FIELDS: u64 = 8;
+impl Kind for FileControl {
+    const TYPE: u64 = 99;
+    const LENGTH: u64 = 80;
+    const FIELDS: u64 = 8;
 }

@@ -8,7 +8,7 @@ mod packing;
 pub use kinds::{
     BundleControl, BundleHeader, CashLetterControl, CashLetterHeader, CheckDetail,
     CheckDetailAddendumA, CheckDetailAddendumB, CheckDetailAddendumC, CreditRecord, FileControl,
-    FileHeader, ImageViewAnalysis, ImageViewData, ImageViewDetail, ReturnAddendumA,
+    FileHeader, ImageViewAnalysis, ImageViewData, ImageViewDetail, Kind, ReturnAddendumA,
     ReturnAddendumB, ReturnAddendumC, ReturnAddendumD, ReturnRecord,
 };
 pub use packed::{COUNT, own_numbers, table};

@@ -6,7 +6,7 @@ ghost use Rattle.layout.specs.Packing.{Packed, own_in};
 use crate::kinds::{
     BundleControl, BundleHeader, CashLetterControl, CashLetterHeader, CheckDetail,
     CheckDetailAddendumA, CheckDetailAddendumB, CheckDetailAddendumC, CreditRecord, FileControl,
-    FileHeader, ImageViewAnalysis, ImageViewData, ImageViewDetail, ReturnAddendumA,
+    FileHeader, ImageViewAnalysis, ImageViewData, ImageViewDetail, Kind, ReturnAddendumA,
     ReturnAddendumB, ReturnAddendumC, ReturnAddendumD, ReturnRecord,
 };
 use crate::packing::{
@@ -23,9 +23,19 @@ use crate::packing::{
 
 pub const COUNT: usize = 322;
 
+// A kind's number, with how many of its fields are parts.
+macro_rules! header {
+    ($kind:ident) => {
+        header!($kind, 0)
+    };
+    ($kind:ident, $parts:expr) => {
+        $kind::TYPE * KIND + $kind::LENGTH * LONG + $kind::FIELDS * FIELDS + $parts * PARTS
+    };
+}
+
 const LAYOUTS: [u64; COUNT] = [
     // Clause 7: File Header Record.
-    FileHeader::TYPE * KIND + FileHeader::LENGTH * LONG + FileHeader::FIELDS * FIELDS,
+    header!(FileHeader),
     1 * FIRST + 2 * SIZE + M + TYPE_NUMBER + N + NUMBERS + 1 * LOW + 1, // 1 Record Type
     3 * FIRST + 2 * SIZE + M + N + STANDARD_LEVEL, // 2 Standard Level
     5 * FIRST + 1 * SIZE + M + AN + FILE_TYPES, // 3 File Type Indicator
@@ -41,9 +51,7 @@ const LAYOUTS: [u64; COUNT] = [
     76 * FIRST + 4 * SIZE + C + ANS, // 13 User Field
     80 * FIRST + 1 * SIZE + M + AB, // 14 Reserved
     // Clause 8: Cash Letter Header Record.
-    CashLetterHeader::TYPE * KIND
-        + CashLetterHeader::LENGTH * LONG
-        + CashLetterHeader::FIELDS * FIELDS,
+    header!(CashLetterHeader),
     1 * FIRST + 2 * SIZE + M + TYPE_NUMBER + N + NUMBERS + 10 * LOW + 10, // 1 Record Type
     3 * FIRST + 2 * SIZE + M + N + COLLECTION_TYPE, // 2 Collection Type Indicator
     5 * FIRST + 9 * SIZE + M + NBD + ROUTING + TTTTAAAAC + TTTTT_FFF + NNNNNNNNN, // 3 Destination Routing Number
@@ -59,7 +67,7 @@ const LAYOUTS: [u64; COUNT] = [
     77 * FIRST + 2 * SIZE + C + AN + NUMBERS + 1 * LOW + 99, // 13 Work Type
     79 * FIRST + 2 * SIZE + C + ANS, // 14 User Field
     // Clause 9: Bundle Header Record.
-    BundleHeader::TYPE * KIND + BundleHeader::LENGTH * LONG + BundleHeader::FIELDS * FIELDS,
+    header!(BundleHeader),
     1 * FIRST + 2 * SIZE + M + TYPE_NUMBER + N + NUMBERS + 20 * LOW + 20, // 1 Record Type
     3 * FIRST + 2 * SIZE + M + N + BUNDLE_COLLECTION_TYPE, // 2 Collection Type Indicator
     5 * FIRST + 9 * SIZE + M + NBD + ROUTING + TTTTAAAAC + TTTTT_FFF + NNNNNNNNN, // 3 Bundle Destination Routing Number
@@ -74,7 +82,7 @@ const LAYOUTS: [u64; COUNT] = [
     68 * FIRST + 6 * SIZE + C + ANS, // 12 User Field
     74 * FIRST + 7 * SIZE + M + AB, // 13 Reserved
     // Clause 10: Check Detail Record.
-    CheckDetail::TYPE * KIND + CheckDetail::LENGTH * LONG + CheckDetail::FIELDS * FIELDS,
+    header!(CheckDetail),
     1 * FIRST + 2 * SIZE + M + TYPE_NUMBER + N + NUMBERS + 25 * LOW + 25, // 1 Record Type
     3 * FIRST + 15 * SIZE + C + NBMCD, // 2 Auxiliary On-Us
     18 * FIRST + 1 * SIZE + C + NBMC, // 3 External Processing Code
@@ -90,9 +98,7 @@ const LAYOUTS: [u64; COUNT] = [
     79 * FIRST + 1 * SIZE + C + AN + NUMBERS + 0 * LOW + 4, // 13 Correction Indicator
     80 * FIRST + 1 * SIZE + C + AN + ARCHIVE_TYPES, // 14 Archive Type Indicator
     // Clause 11: Check Detail Addendum A Record.
-    CheckDetailAddendumA::TYPE * KIND
-        + CheckDetailAddendumA::LENGTH * LONG
-        + CheckDetailAddendumA::FIELDS * FIELDS,
+    header!(CheckDetailAddendumA),
     1 * FIRST + 2 * SIZE + M + TYPE_NUMBER + N + NUMBERS + 26 * LOW + 26, // 1 Record Type
     3 * FIRST + 1 * SIZE + M + RECORD_NUMBER + N, // 2 Check Detail Addendum A Record Number
     4 * FIRST + 9 * SIZE + C + NBD + ROUTING + TTTTAAAAC + TTTTT_FFF, // 3 Return Location Routing Number
@@ -108,10 +114,7 @@ const LAYOUTS: [u64; COUNT] = [
     113 * FIRST + 1 * SIZE + C + ANS, // 13 User Field
     114 * FIRST + 2 * SIZE + M + AB, // 14 Reserved
     // Clause 12: Check Detail Addendum B Record.
-    CheckDetailAddendumB::TYPE * KIND
-        + CheckDetailAddendumB::LENGTH * LONG
-        + CheckDetailAddendumB::FIELDS * FIELDS
-        + 6 * PARTS,
+    header!(CheckDetailAddendumB, 6),
     1 * FIRST + 2 * SIZE + M + TYPE_NUMBER + N + NUMBERS + 27 * LOW + 27, // 1 Record Type
     3 * FIRST + 20 * SIZE + C + ANS, // 2 Item Description
     23 * FIRST + 8 * SIZE + C + NB + DATE, // 3 Image Capture Date
@@ -131,9 +134,7 @@ const LAYOUTS: [u64; COUNT] = [
     62 * FIRST + 2 * SIZE + NBMU, // 17 Corrected High Unparsed MICR Data
     64 * FIRST + 5 * SIZE + ANS, // 18 User Field
     // Clause 13: Check Detail Addendum C Record.
-    CheckDetailAddendumC::TYPE * KIND
-        + CheckDetailAddendumC::LENGTH * LONG
-        + CheckDetailAddendumC::FIELDS * FIELDS,
+    header!(CheckDetailAddendumC),
     1 * FIRST + 2 * SIZE + M + TYPE_NUMBER + N + NUMBERS + 28 * LOW + 28, // 1 Record Type
     3 * FIRST + 2 * SIZE + M + RECORD_NUMBER + N, // 2 Check Detail Addendum C Record Number
     5 * FIRST + 9 * SIZE + C + NBD + ROUTING + TTTTAAAAC + TTTTT_FFF, // 3 Endorsing Bank Routing Number
@@ -149,7 +150,7 @@ const LAYOUTS: [u64; COUNT] = [
     62 * FIRST + 15 * SIZE + C + ANS, // 13 User Field
     77 * FIRST + 4 * SIZE + M + AB, // 14 Reserved
     // Clause 14: Return Record.
-    ReturnRecord::TYPE * KIND + ReturnRecord::LENGTH * LONG + ReturnRecord::FIELDS * FIELDS,
+    header!(ReturnRecord),
     1 * FIRST + 2 * SIZE + M + TYPE_NUMBER + N + NUMBERS + 31 * LOW + 31, // 1 Record Type
     3 * FIRST + 15 * SIZE + C + NBMCD, // 2 Auxiliary On-Us
     18 * FIRST + 1 * SIZE + C + NBMC, // 3 External Processing Code
@@ -160,9 +161,7 @@ const LAYOUTS: [u64; COUNT] = [
     73 * FIRST + 2 * SIZE + M + ADDENDUM_COUNT + N + NUMBERS + 0 * LOW + 99, // 8 Return Record Addendum Count
     75 * FIRST + 6 * SIZE + M + AB, // 9 Reserved
     // Clause 15: Return Addendum A Record.
-    ReturnAddendumA::TYPE * KIND
-        + ReturnAddendumA::LENGTH * LONG
-        + ReturnAddendumA::FIELDS * FIELDS,
+    header!(ReturnAddendumA),
     1 * FIRST + 2 * SIZE + M + TYPE_NUMBER + N + NUMBERS + 32 * LOW + 32, // 1 Record Type
     3 * FIRST + 1 * SIZE + M + RECORD_NUMBER + N, // 2 Return Addendum A Record Number
     4 * FIRST + 9 * SIZE + C + NBD + ROUTING + TTTTAAAAC + TTTTT_FFF, // 3 Return Location Routing Number
@@ -178,9 +177,7 @@ const LAYOUTS: [u64; COUNT] = [
     113 * FIRST + 1 * SIZE + C + ANS, // 13 User Field
     114 * FIRST + 2 * SIZE + M + AB, // 14 Reserved
     // Clause 16: Return Addendum B Record.
-    ReturnAddendumB::TYPE * KIND
-        + ReturnAddendumB::LENGTH * LONG
-        + ReturnAddendumB::FIELDS * FIELDS,
+    header!(ReturnAddendumB),
     1 * FIRST + 2 * SIZE + M + TYPE_NUMBER + N + NUMBERS + 33 * LOW + 33, // 1 Record Type
     3 * FIRST + 2 * SIZE + M + AN, // 2 Return Reason
     5 * FIRST + 8 * SIZE + C + NB + DATE, // 3 Forward Bundle Date
@@ -193,10 +190,7 @@ const LAYOUTS: [u64; COUNT] = [
     51 * FIRST + 8 * SIZE + C + NB + DATE, // 10 Payor Bank Business Date
     59 * FIRST + 22 * SIZE + C + ANS, // 11 Payor Account Name
     // Clause 17: Return Addendum C Record.
-    ReturnAddendumC::TYPE * KIND
-        + ReturnAddendumC::LENGTH * LONG
-        + ReturnAddendumC::FIELDS * FIELDS
-        + 6 * PARTS,
+    header!(ReturnAddendumC, 6),
     1 * FIRST + 2 * SIZE + M + TYPE_NUMBER + N + NUMBERS + 34 * LOW + 34, // 1 Record Type
     3 * FIRST + 20 * SIZE + C + ANS, // 2 Item Description
     23 * FIRST + 8 * SIZE + C + NB + DATE, // 3 Image Capture Date
@@ -216,9 +210,7 @@ const LAYOUTS: [u64; COUNT] = [
     62 * FIRST + 2 * SIZE + NBMU, // 17 Corrected High Unparsed MICR Data
     64 * FIRST + 5 * SIZE + ANS, // 18 User Field
     // Clause 18: Return Addendum D Record.
-    ReturnAddendumD::TYPE * KIND
-        + ReturnAddendumD::LENGTH * LONG
-        + ReturnAddendumD::FIELDS * FIELDS,
+    header!(ReturnAddendumD),
     1 * FIRST + 2 * SIZE + M + TYPE_NUMBER + N + NUMBERS + 35 * LOW + 35, // 1 Record Type
     3 * FIRST + 2 * SIZE + M + RECORD_NUMBER + N, // 2 Return Addendum D Record Number
     5 * FIRST + 9 * SIZE + C + NBD + ROUTING + TTTTAAAAC + TTTTT_FFF, // 3 Endorsing Bank Routing Number
@@ -234,9 +226,7 @@ const LAYOUTS: [u64; COUNT] = [
     62 * FIRST + 15 * SIZE + C + ANS, // 13 User Field
     77 * FIRST + 4 * SIZE + M + AB, // 14 Reserved
     // Clause 21: Image View Detail Record.
-    ImageViewDetail::TYPE * KIND
-        + ImageViewDetail::LENGTH * LONG
-        + ImageViewDetail::FIELDS * FIELDS,
+    header!(ImageViewDetail),
     1 * FIRST + 2 * SIZE + M + TYPE_NUMBER + N + NUMBERS + 50 * LOW + 50, // 1 Record Type
     3 * FIRST + 1 * SIZE + M + AN + NUMBERS + 0 * LOW + 3, // 2 Image Indicator
     4 * FIRST + 9 * SIZE + M + NBD + ROUTING + TTTTAAAAC + TTTTT_FFF + NNNNNNNNN, // 3 Image Creator Routing Number
@@ -261,10 +251,7 @@ const LAYOUTS: [u64; COUNT] = [
     71 * FIRST + 6 * SIZE + C + ANS, // 22 User Field
     77 * FIRST + 4 * SIZE + M + AB, // 23 Reserved
     // Clause 22: Image View Data Record.
-    ImageViewData::TYPE * KIND
-        + ImageViewData::LENGTH * LONG
-        + ImageViewData::FIELDS * FIELDS
-        + 7 * PARTS,
+    header!(ImageViewData, 7),
     1 * FIRST + 2 * SIZE + M + TYPE_NUMBER + N + NUMBERS + 52 * LOW + 52, // 1 Record Type
     3 * FIRST + 9 * SIZE + M + NBD + ROUTING + TTTTAAAAC + TTTTT_FFF + NNNNNNNNN, // 2 ECE Institution Routing Number
     12 * FIRST + 8 * SIZE + M + N + DATE, // 3 Bundle Business Date
@@ -294,9 +281,7 @@ const LAYOUTS: [u64; COUNT] = [
     ImageViewData::PARTS[5], // 27 Image Data
     ImageViewData::PARTS[6], // 28 Ancillary Data
     // Clause 23: Image View Analysis Record.
-    ImageViewAnalysis::TYPE * KIND
-        + ImageViewAnalysis::LENGTH * LONG
-        + ImageViewAnalysis::FIELDS * FIELDS,
+    header!(ImageViewAnalysis),
     1 * FIRST + 2 * SIZE + M + TYPE_NUMBER + N + NUMBERS + 54 * LOW + 54, // 1 Record Type
     3 * FIRST + 1 * SIZE + M + AN + NUMBERS + 0 * LOW + 2, // 2 Global Image Defect
     4 * FIRST + 1 * SIZE + M + AN + NUMBERS + 0 * LOW + 2, // 3 Global Image Usability
@@ -345,7 +330,7 @@ const LAYOUTS: [u64; COUNT] = [
     47 * FIRST + 20 * SIZE + C + ANS, // 46 User Field
     67 * FIRST + 14 * SIZE + M + AB, // 47 Reserved
     // Clause 26: Credit/Reconciliation Record.
-    CreditRecord::TYPE * KIND + CreditRecord::LENGTH * LONG + CreditRecord::FIELDS * FIELDS,
+    header!(CreditRecord),
     1 * FIRST + 2 * SIZE + M + TYPE_NUMBER + N + NUMBERS + 61 * LOW + 61, // 1 Record Type
     3 * FIRST + 1 * SIZE + C + AN + NUMBERS + 1 * LOW + 9, // 2 Record Usage Indicator
     4 * FIRST + 15 * SIZE + C + NBMCD, // 3 Auxiliary On-Us
@@ -359,7 +344,7 @@ const LAYOUTS: [u64; COUNT] = [
     80 * FIRST + 2 * SIZE + C + AN + SOURCE_OF_WORK, // 11 Source of Work Code
     82 * FIRST + 3 * SIZE + M + AB, // 12 Reserved
     // Clause 31: Bundle Control Record.
-    BundleControl::TYPE * KIND + BundleControl::LENGTH * LONG + BundleControl::FIELDS * FIELDS,
+    header!(BundleControl),
     1 * FIRST + 2 * SIZE + M + TYPE_NUMBER + N + NUMBERS + 70 * LOW + 70, // 1 Record Type
     3 * FIRST + 4 * SIZE + M + DEBIT_COUNT + N, // 2 Bundle Debit Item Count
     7 * FIRST + 12 * SIZE + M + DEBIT_CENTS + N, // 3 Bundle Debit Total Amount
@@ -370,9 +355,7 @@ const LAYOUTS: [u64; COUNT] = [
     52 * FIRST + 9 * SIZE + C + ANS, // 8 User Field
     61 * FIRST + 20 * SIZE + M + AB, // 9 Reserved
     // Clause 34: Cash Letter Control Record.
-    CashLetterControl::TYPE * KIND
-        + CashLetterControl::LENGTH * LONG
-        + CashLetterControl::FIELDS * FIELDS,
+    header!(CashLetterControl),
     1 * FIRST + 2 * SIZE + M + TYPE_NUMBER + N + NUMBERS + 90 * LOW + 90, // 1 Record Type
     3 * FIRST + 6 * SIZE + M + BUNDLE_COUNT + N, // 2 Bundle Count
     9 * FIRST + 8 * SIZE + M + DEBIT_COUNT + N, // 3 Cash Letter Debit Item Count
@@ -383,7 +366,7 @@ const LAYOUTS: [u64; COUNT] = [
     64 * FIRST + 8 * SIZE + M + CREDIT_COUNT + N, // 8 Cash Letter Credit Item Count
     72 * FIRST + 14 * SIZE + M + CREDIT_CENTS + N, // 9 Cash Letter Credit Total Amount
     // Clause 35: File Control Record.
-    FileControl::TYPE * KIND + FileControl::LENGTH * LONG + FileControl::FIELDS * FIELDS,
+    header!(FileControl),
     1 * FIRST + 2 * SIZE + M + TYPE_NUMBER + N + NUMBERS + 99 * LOW + 99, // 1 Record Type
     3 * FIRST + 6 * SIZE + M + LETTER_COUNT + N, // 2 Cash Letter Count
     9 * FIRST + 8 * SIZE + M + RECORD_COUNT + N, // 3 Total Record Count

@@ -186,10 +186,7 @@ pub fn parts_in(header: u64) -> usize
 pub fn place_of(position: u64) -> usize
     ensures { result ≡ position - 1 }
 {
-    if position == 0 {
-        return 0;
-    }
-    (position - 1) as usize
+    position.saturating_sub(1) as usize
 }
 
 pub fn usage_of(code: u64) -> Usage

@@ -8,9 +8,10 @@ use lib.Dec.{leb}
 use lib.ListN.{length, take, drop, length-append, length-take}
 use lib.Seq.{take-append-le}
 use borrow.Author.Tests.{le-leb, lt-leb, leb-true, leb-false}
+use Rattle.std.specs.Prelude.{Err}
 use Rattle.text.specs.declared.character_set.CharacterSet.{CharacterSet}
 use Rattle.text.specs.CharacterSet.{set_of}
-use Rattle.frame.specs.declared.Frame.TheVariants.{Whole}
+use Rattle.frame.specs.Frames.{Whole}
 use Rattle.frame.specs.Frames.{part, frame_at}
 use Rattle.frame.proofs.Laws.{whole-start, whole-within, whole-size}
 use Rattle.standing.specs.History.{Entry}
@@ -19,11 +20,12 @@ use Rattle.standing.proofs.Laws.{standing-records}
 use Rattle.passes.specs.declared.Fault.{Fault}
 use Rattle.passes.specs.declared.Fault.TheVariants.{Room, Length, After}
 use Rattle.passes.specs.declared.Totals.{Totals}
-use Rattle.passes.specs.declared.Step.TheVariants.{Stop}
-use Rattle.passes.specs.declared.Answer.{Answer}
-use Rattle.passes.specs.declared.Answer.TheVariants.{Accepted, Refused}
+use Rattle.passes.specs.Answers.{Stop}
+use Rattle.passes.specs.Answers.{Answer}
+use Rattle.passes.specs.Answers.{Accepted, Refused}
 use Rattle.passes.specs.CheckOrder.{turn_of}
 use Rattle.passes.specs.Reading.{totals_of, step_of, surveyed, in_room, answer_of}
+use Rattle.passes.proofs.Laws.{same-refusal}
 use Rattle.own_fault.specs.OwnFault.{is_own, wants_bytes, end_of, NotBefore, OwnFault}
 use Rattle.own_fault.proofs.SameReading.{ReadTo, read-within, as_long, set_same, frame_same, step_same, read-other}
 use Rattle.own_fault.proofs.Outcomes.{is_closed, last-is, Outcome, no_size, closed, left_open, behind, cut, faulty, outcome, stops_at, comes-to}
@@ -72,22 +74,22 @@ module _ (file other : List ℕ) (limit : length other ≤ 268_435_456) {past : 
 module _ (file : List ℕ) where
   own-answer : (a : Answer) → Outcome (set_of file) file a → {fault : Fault} {place offset : ℕ} → a ≡ Refused fault place offset → is_own fault ≡ true
       → (other : List ℕ) → length other ≤ 268_435_456 → take (end_of file offset) other ≡ take (end_of file offset) file → surveyed other ≡ a
-  own-answer a no_size e o other limit same = cc
+  own-answer a no_size e o other limit same = let f = same-refusal _ _ e in cc f.0
   own-answer a (closed r h l) e o other limit same = cc
-  own-answer a (left_open r h l) e o other limit same = cc
-  own-answer a (behind r h l) e o other limit same = cc
-  own-answer a (cut r h) e o other limit same = cc
+  own-answer a (left_open r h l) e o other limit same = let f = same-refusal _ _ e in cc f.0
+  own-answer a (behind r h l) e o other limit same = let f = same-refusal _ _ e in cc f.0
+  own-answer a (cut r h) e o other limit same = let f = same-refusal _ _ e in cc f.0
   own-answer a (faulty {at = at} r h l from size w step i) {offset = offset} e o other limit same =
-      let there : offset ≡ at = cc in
+      let there : offset ≡ at = sym (same-refusal _ _ e).2 in
       own-stop file other limit r l from size w step (rw there at same)
 
   never-room : (a : Answer) → Outcome (set_of file) file a → {place offset : ℕ} → a ≡ Refused Room place offset → ◌≡◌ {A = ℕ} 0 1
-  never-room a no_size e = cc
+  never-room a no_size e = let f = same-refusal _ _ e in cc f.0
   never-room a (closed r h l) e = cc
-  never-room a (left_open r h l) e = cc
-  never-room a (behind r h l) e = cc
-  never-room a (cut r h) e = cc
-  never-room a (faulty r h l from size w step i) e = cc
+  never-room a (left_open r h l) e = let f = same-refusal _ _ e in cc f.0
+  never-room a (behind r h l) e = let f = same-refusal _ _ e in cc f.0
+  never-room a (cut r h) e = let f = same-refusal _ _ e in cc f.0
+  never-room a (faulty r h l from size w step i) e = let f = same-refusal _ _ e in cc f.0
 
   module _ (more : List ℕ) (limit : length (file ++ more) ≤ 268_435_456) where
     read_more : {past : List Entry} {at : ℕ} → ReadTo (set_of file) file past at → ReadTo (set_of (file ++ more)) (file ++ more) past at
@@ -110,13 +112,13 @@ module _ (file : List ℕ) where
     accepted-answer a (faulty r l c from size w step i) e h = cc
 
     after-answer : (a : Answer) → Outcome (set_of file) file a → {place offset : ℕ} → a ≡ Refused After place offset → surveyed (file ++ more) ≡ a
-    after-answer a no_size e = cc
+    after-answer a no_size e = let f = same-refusal _ _ e in cc f.0
     after-answer a (closed r h l) e = cc
-    after-answer a (left_open r h l) e = cc
+    after-answer a (left_open r h l) e = let f = same-refusal _ _ e in cc f.0
     after-answer a (behind {at = at} r h l) e =
         after-99 file (file ++ more) limit r (take-append-le at file more (omega arith)) l (omega (arith, length-append file more))
-    after-answer a (cut r h) e = cc
-    after-answer a (faulty r h l from size w step i) e = cc
+    after-answer a (cut r h) e = let f = same-refusal _ _ e in cc f.0
+    after-answer a (faulty r h l from size w step i) e = let f = same-refusal _ _ e in cc f.0
 
     wanting-answer : (a : Answer) → Outcome (set_of file) file a → {fault : Fault} {place offset : ℕ} → a ≡ Refused fault place offset
         → wants_bytes fault ≡ true → NotBefore place (surveyed (file ++ more))
@@ -128,12 +130,12 @@ module _ (file : List ℕ) where
         more-read r l c p = rw p (comes-to (file ++ more) limit (read_more r) (omega (arith, length-append file more)) c)
 
         by : (a : Answer) → Outcome (set_of file) file a → a ≡ Refused fault place offset → NotBefore place (surveyed (file ++ more))
-        by a no_size e = let z : ◌≡◌ {A = ℕ} 0 1 = cc in absurd (omega arith)
+        by a no_size e = let f = same-refusal _ _ e in let z : ◌≡◌ {A = ℕ} 0 1 = cc f.0 in absurd (omega arith)
         by a (closed r l c) e = let z : ◌≡◌ {A = ℕ} 0 1 = cc in absurd (omega arith)
-        by a (left_open r l c) e = more-read r l (λ k. c) (cc)
-        by a (behind r l c) e = let z : ◌≡◌ {A = ℕ} 0 1 = cc in absurd (omega arith)
-        by a (cut r l) e = more-read r (omega arith) (λ k. absurd (omega (arith, length-append file more))) (cc)
-        by a (faulty r l c from size w step i) e = more-read r (omega arith) (λ k. absurd (omega (arith, length-append file more))) (cc)
+        by a (left_open r l c) e = more-read r l (λ k. c) (sym (same-refusal _ _ e).1)
+        by a (behind r l c) e = let f = same-refusal _ _ e in let z : ◌≡◌ {A = ℕ} 0 1 = cc f.0 in absurd (omega arith)
+        by a (cut r l) e = more-read r (omega arith) (λ k. absurd (omega (arith, length-append file more))) (sym (same-refusal _ _ e).1)
+        by a (faulty r l c from size w step i) e = more-read r (omega arith) (λ k. absurd (omega (arith, length-append file more))) (sym (same-refusal _ _ e).1)
 
 -- and with ROOM
 data Roomed (a : Answer) (fault : Fault) (place offset : ℕ) : Type 0 where
@@ -142,15 +144,15 @@ data Roomed (a : Answer) (fault : Fault) (place offset : ℕ) : Type 0 where
 
 module _ (rows : ℕ) where
   roomed : (a : Answer) {fault : Fault} {place offset : ℕ} → in_room rows a ≡ Refused fault place offset → Roomed a fault place offset
-  roomed (Refused f n o) e = itself e
+  roomed (Err r) e = itself e
   roomed (Accepted t) {fault} {place} {offset} e = cases (leb t.records.0 rows) e
     where
       cases : (b : Bool) → cond b (Accepted t) (Refused Room t.records.0 0) ≡ Refused fault place offset → Roomed (Accepted t) fault place offset
       cases true q = itself q
-      cases false q = full t refl (cc) (cc) (cc)
+      cases false q = let f = same-refusal _ _ q in full t refl (sym f.0) (sym f.1) (sym f.2)
 
   accepted-in : (a : Answer) {t : Totals} → in_room rows a ≡ Accepted t → a ≡ Accepted t
-  accepted-in (Refused f n o) e = e
+  accepted-in (Err r) e = e
   accepted-in (Accepted u) {t} e = cases (leb u.records.0 rows) e
     where
       cases : (b : Bool) → cond b (Accepted u) (Refused Room u.records.0 0) ≡ Accepted t → Accepted u ≡ Accepted t
@@ -158,7 +160,7 @@ module _ (rows : ℕ) where
       cases false q = cc
 
   not-before-in : (place : ℕ) (a : Answer) → NotBefore place a → NotBefore place (in_room rows a)
-  not-before-in place (Refused f n o) h = h
+  not-before-in place (Err r) h = h
   not-before-in place (Accepted t) h = cases (leb t.records.0 rows)
     where
       cases : (b : Bool) → NotBefore place (cond b (Accepted t) (Refused Room t.records.0 0))

@@ -2,7 +2,7 @@
 use mathlib.Core.Path.{◌≡◌, refl, ap, sym, ◌∙◌}
 use mathlib.Core.Bool.{Bool, true, false, ◌&&◌, ◌||◌, not, cond}
 use mathlib.Core.List.{List, [], ◌∷◌}
-use Prim.Native.Nat.{ℕ, suc, ◌+◌, ◌-◌, ◌*◌, ◌^◌, ◌≤◌, ◌<◌}
+use Prim.Native.Nat.{ℕ, ◌+◌, ◌-◌, ◌*◌, ◌^◌, ◌≤◌, ◌<◌}
 use native.Mathlib.Numerals.{add-one}
 use native.Mathlib.Nat.{pow-suc, pow-le-pow_right, mul_comm, mul_assoc, mul-le-mul_right, lt_of_lt_of_le}
 use native.Mathlib.Omega.{arith}
@@ -10,6 +10,7 @@ use borrow.Author.Tests.{leb-true}
 use lib.Dec.{leb}
 use lib.ListN.{length, get_or, take, drop, drop_of_length-le, length-take}
 use lib.Seq.{drop-cons}
+use Rattle.std.specs.List.{list_any}
 use Rattle.text.specs.declared.character_set.CharacterSet.{CharacterSet}
 use Rattle.text.specs.declared.character_set.CharacterSet.TheVariants.{Ascii, Ebcdic}
 use Rattle.text.specs.Ranges.{within}
@@ -60,6 +61,15 @@ module _ (test : ℕ → Bool) (s : List ℕ) (i : ℕ) where
 
   pub some-ends : length s ≤ i → some test (drop i s) ≡ false
   some-ends h = rw (drop_of_length-le s h)
+
+-- what the library's `any` says of a test, in the words of clause 5
+module _ (test : ℕ → Bool) where
+  some_of_any : (xs : List ℕ) → list_any test xs ≡ some test xs
+  some_of_any [] = refl
+  some_of_any (x ∷ xs) = ap (λ (b : Bool). test x || b) (some_of_any xs)
+
+  pub some_from_any : (r : Bool) (xs : List ℕ) → r ≡ list_any test xs → r ≡ some test xs
+  some_from_any r xs e = e ∙ some_of_any xs
 
 -- Whether a blank stands embedded in what is left, where `before` says that a digit came, and `gap` that a blank came after one.
 abbrev pub embedded_from : CharacterSet → Bool → Bool → List ℕ → Bool

@@ -1,7 +1,7 @@
 -- 5.1.1: a lower case letter has the meaning of its upper case letter.
 use Rattle.std.specs.Prelude.{ℕ, ◌+◌, ◌-◌, cond}
 use Prim.Native.Char.{Char, code}
-use Rattle.text.specs.Ranges.{within, through}
+use Rattle.text.specs.Ranges.{within}
 use Rattle.text.specs.declared.character_set.CharacterSet.{CharacterSet}
 use Rattle.text.specs.declared.character_set.CharacterSet.TheVariants.{Ascii, Ebcdic}
 

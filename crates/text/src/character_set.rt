@@ -2,21 +2,19 @@
 ghost use Rattle.std.specs.Prelude.{◌≡◌};
 ghost use Rattle.text.specs.CharacterSet.{set_of};
 
-#[derive(Clone, Copy)]
+#[derive(Clone, Copy, PartialEq, Eq)]
 pub enum CharacterSet {
     Ascii,
     Ebcdic,
 }
 
 // Decided by bytes 5 and 6 of the file, the first two characters after the first length, whatever that length says.
+#[tactic(auto, unfolding(crate::specs::CharacterSet::set_of))]
 pub fn set_of(file: &[u8]) -> CharacterSet
     ensures { result ≡ set_of file.now }
 {
-    if file.len() < 6 {
-        return CharacterSet::Ascii;
+    match file.get(4..6) {
+        Some([0xF0, 0xF1]) => CharacterSet::Ebcdic,
+        _ => CharacterSet::Ascii,
     }
-    if (file[4] == 0xF0) & (file[5] == 0xF1) {
-        return CharacterSet::Ebcdic;
-    }
-    CharacterSet::Ascii
 }

@@ -1,6 +1,7 @@
 // Clause 5.3: the field data types, each made of the basic character types as Table 2 makes it.
 ghost use Rattle.std.specs.Prelude.{◌≡◌};
 ghost use Rattle.text.specs.declared.data_types.DataType.TheVariants.{ANS};
+ghost use Rattle.text.specs.declared.character_set.CharacterSet.{CharacterSet};
 ghost use Rattle.text.specs.declared.character_set.CharacterSet.TheVariants.{Ascii, Ebcdic};
 ghost use Rattle.text.specs.DataTypes.{admits, is_mark};
 
@@ -35,66 +36,48 @@ pub fn is_alphanumeric_special(set: CharacterSet, x: u8) -> bool
     is_alphabetic(set, x) | (is_numeric(set, x) | is_special(set, x))
 }
 
-// The same in ASCII: in Table 1 these stand together, from the blank through ~. This one runs there, being one comparison.
-fn is_printable(x: u8) -> bool
-    ensures { result ≡ admits Ascii ANS x }
-{
-    (b' ' <= x) & (x <= b'~')
+// A character set as a type. What is generic over it knows its set, so that the compiler keeps one column of each basic type and makes a loop
+// of its own for each set and data type.
+pub trait Charset {
+    ghost SET: { CharacterSet };
+
+    const SET: CharacterSet;
+
+    // 5.3.5 (ANS)
+    fn is_printable(x: u8) -> bool
+        ensures { result ≡ admits SET ANS x };
 }
 
-// The characters to which a field of each type is limited, by the row of Table 2. The table stands once for each set, so that the compiler
-// keeps one column of each basic type and makes a loop of its own for each data type.
-pub fn admits_in_ascii(t: DataType, x: u8) -> bool
-    ensures { result ≡ admits Ascii t x }
-{
-    let set = CharacterSet::Ascii;
-    match t {
-        // 5.3.1
-        DataType::AB => is_blank(set, x),
-        // 5.3.2
-        DataType::A => is_alphabetic(set, x),
-        // 5.3.3
-        DataType::AN => is_alphabetic(set, x) | is_numeric(set, x),
-        // 5.3.5
-        DataType::ANS => is_printable(x),
-        // 5.3.6
-        DataType::Binary => true,
-        // 5.3.7
-        DataType::N => is_numeric(set, x),
-        // 5.3.8
-        DataType::NB => is_numeric(set, x) | is_blank(set, x),
-        // 5.3.9
-        DataType::NBD => is_numeric(set, x) | (is_blank(set, x) | is_dash(set, x)),
-        // 5.3.10
-        DataType::NBQ => is_numeric(set, x) | (is_blank(set, x) | is_questionable(set, x)),
-        // 5.3.11
-        DataType::NBMc => is_numeric(set, x) | (is_blank(set, x) | is_cannot_read(set, x)),
-        // 5.3.12
-        DataType::NBMcd => {
-            is_numeric(set, x) | (is_blank(set, x) | (is_cannot_read(set, x) | is_dash(set, x)))
-        }
-        // 5.3.13
-        DataType::NBMcdo => {
-            is_numeric(set, x)
-                | (is_blank(set, x)
-                    | (is_cannot_read(set, x) | (is_dash(set, x) | is_on_us_symbol(set, x))))
-        }
-        // 5.3.14
-        DataType::NBMU => {
-            is_numeric(set, x)
-                | (is_blank(set, x)
-                    | (is_amount_symbol(set, x)
-                        | (is_cannot_read(set, x)
-                            | (is_dash(set, x)
-                                | (is_on_us_symbol(set, x) | is_transit_symbol(set, x))))))
-        }
+pub struct InAscii;
+
+impl Charset for InAscii {
+    ghost SET = { Ascii };
+
+    const SET: CharacterSet = CharacterSet::Ascii;
+
+    // In Table 1 these stand together, from the blank through ~: one comparison.
+    fn is_printable(x: u8) -> bool {
+        (b' ' <= x) & (x <= b'~')
     }
 }
 
-pub fn admits_in_ebcdic(t: DataType, x: u8) -> bool
-    ensures { result ≡ admits Ebcdic t x }
+pub struct InEbcdic;
+
+impl Charset for InEbcdic {
+    ghost SET = { Ebcdic };
+
+    const SET: CharacterSet = CharacterSet::Ebcdic;
+
+    fn is_printable(x: u8) -> bool {
+        is_alphanumeric_special(CharacterSet::Ebcdic, x)
+    }
+}
+
+// The characters to which a field of each type is limited, by the row of Table 2.
+pub fn admits_in<S: Charset>(t: DataType, x: u8) -> bool
+    ensures { result ≡ admits S.SET t x }
 {
-    let set = CharacterSet::Ebcdic;
+    let set = S::SET;
     match t {
         // 5.3.1
         DataType::AB => is_blank(set, x),
@@ -103,7 +86,7 @@ pub fn admits_in_ebcdic(t: DataType, x: u8) -> bool
         // 5.3.3
         DataType::AN => is_alphabetic(set, x) | is_numeric(set, x),
         // 5.3.5
-        DataType::ANS => is_alphanumeric_special(set, x),
+        DataType::ANS => S::is_printable(x),
         // 5.3.6
         DataType::Binary => true,
         // 5.3.7
@@ -142,21 +125,11 @@ pub fn admits_in_ebcdic(t: DataType, x: u8) -> bool
 pub fn is_mark(set: CharacterSet, t: DataType, x: u8) -> bool
     ensures { result ≡ is_mark set t x }
 {
-    let questionable = is_questionable(set, x);
-    let cannot_read = is_cannot_read(set, x);
     match t {
-        DataType::AB => false,
-        DataType::A => false,
-        DataType::AN => false,
-        DataType::ANS => false,
-        DataType::Binary => false,
-        DataType::N => false,
-        DataType::NB => false,
-        DataType::NBD => false,
-        DataType::NBQ => questionable,
-        DataType::NBMc => cannot_read,
-        DataType::NBMcd => cannot_read,
-        DataType::NBMcdo => cannot_read,
-        DataType::NBMU => cannot_read,
+        DataType::NBQ => is_questionable(set, x),
+        DataType::NBMc | DataType::NBMcd | DataType::NBMcdo | DataType::NBMU => {
+            is_cannot_read(set, x)
+        }
+        _ => false,
     }
 }

@@ -6,12 +6,10 @@ mod characters;
 mod data_types;
 
 ghost use Rattle.std.specs.Prelude.{◌≡◌, ◌<◌, ◌≤◌, ◌^◌, length, take};
-ghost use Rattle.text.specs.declared.character_set.CharacterSet.TheVariants.{Ascii, Ebcdic};
 ghost use Rattle.text.specs.Characters.{is_blank, is_numeric};
-ghost use Rattle.text.specs.Ranges.{within};
 ghost use Rattle.text.specs.Capitals.{capital};
 ghost use Rattle.text.specs.DataTypes.{every, some, admits, blank_embedded, of_type, is_mark};
-ghost use Rattle.text.specs.Number.{digit, value_after, number};
+ghost use Rattle.text.specs.Number.{code_of_zero, digit, value_after, number};
 
 pub use character_set::{CharacterSet, set_of};
 pub use characters::{
@@ -19,89 +17,41 @@ pub use characters::{
     is_on_us_symbol, is_questionable, is_special, is_transit_symbol,
 };
 pub use data_types::{
-    DataType, admits_in_ascii, admits_in_ebcdic, is_alphanumeric_special, is_mark,
+    Charset, DataType, InAscii, InEbcdic, admits_in, is_alphanumeric_special, is_mark,
 };
-
-fn is_within(low: u8, high: u8, x: u8) -> bool
-    ensures { result ≡ within low high x }
-{
-    (low <= x) & (x <= high)
-}
-
-fn capital_in_ascii(x: u8) -> u8
-    ensures { result ≡ capital Ascii x }
-{
-    if is_within(b'A', b'Z', x) {
-        return x;
-    }
-    if is_within(b'a', b'z', x) {
-        return x - b'a' + b'A';
-    }
-    if is_within(b'0', b'9', x) {
-        return x;
-    }
-    0
-}
-
-fn capital_in_ebcdic(x: u8) -> u8
-    ensures { result ≡ capital Ebcdic x }
-{
-    if is_within(0xC1, 0xC9, x) {
-        return x - 0xC1 + b'A';
-    }
-    if is_within(0xD1, 0xD9, x) {
-        return x - 0xD1 + b'J';
-    }
-    if is_within(0xE2, 0xE9, x) {
-        return x - 0xE2 + b'S';
-    }
-    if is_within(0x81, 0x89, x) {
-        return x - 0x81 + b'A';
-    }
-    if is_within(0x91, 0x99, x) {
-        return x - 0x91 + b'J';
-    }
-    if is_within(0xA2, 0xA9, x) {
-        return x - 0xA2 + b'S';
-    }
-    if is_within(0xF0, 0xF9, x) {
-        return x - 0xF0 + b'0';
-    }
-    0
-}
 
 // The letter, in capitals, or the digit that a character is, by its ASCII code; 0 of any other. A lower case letter has the meaning of
 // its upper case letter (clause 5.1.1).
+#[tactic(auto, unfolding(crate::specs::Capitals::capital))]
 pub fn capital_of(set: CharacterSet, x: u8) -> u8
     ensures { result ≡ capital set x }
 {
     match set {
-        CharacterSet::Ascii => capital_in_ascii(x),
-        CharacterSet::Ebcdic => capital_in_ebcdic(x),
+        CharacterSet::Ascii => match x {
+            b'A'..=b'Z' | b'0'..=b'9' => x,
+            b'a'..=b'z' => x - b'a' + b'A',
+            _ => 0,
+        },
+        CharacterSet::Ebcdic => match x {
+            0xC1..=0xC9 => x - 0xC1 + b'A',
+            0xD1..=0xD9 => x - 0xD1 + b'J',
+            0xE2..=0xE9 => x - 0xE2 + b'S',
+            0x81..=0x89 => x - 0x81 + b'A',
+            0x91..=0x99 => x - 0x91 + b'J',
+            0xA2..=0xA9 => x - 0xA2 + b'S',
+            0xF0..=0xF9 => x - 0xF0 + b'0',
+            _ => 0,
+        },
     }
 }
 
 // No early end: a branch on each character costs more than the rest of the characters.
-fn all_in_ascii(t: DataType, s: &[u8]) -> bool
-    ensures { result ≡ every (admits Ascii t) s.now }
+fn all_in<S: Charset>(t: DataType, s: &[u8]) -> bool
+    ensures { result ≡ every (admits S.SET t) s.now }
 {
     let mut all = true;
-    let mut i = 0;
-    while i < s.len() {
-        all = all & admits_in_ascii(t, s[i]);
-        i += 1;
-    }
-    all
-}
-
-fn all_in_ebcdic(t: DataType, s: &[u8]) -> bool
-    ensures { result ≡ every (admits Ebcdic t) s.now }
-{
-    let mut all = true;
-    let mut i = 0;
-    while i < s.len() {
-        all = all & admits_in_ebcdic(t, s[i]);
-        i += 1;
+    for &x in s {
+        all = all & admits_in::<S>(t, x);
     }
     all
 }
@@ -110,22 +60,15 @@ pub fn all_admitted(set: CharacterSet, t: DataType, s: &[u8]) -> bool
     ensures { result ≡ every (admits set t) s.now }
 {
     match set {
-        CharacterSet::Ascii => all_in_ascii(t, s),
-        CharacterSet::Ebcdic => all_in_ebcdic(t, s),
+        CharacterSet::Ascii => all_in::<InAscii>(t, s),
+        CharacterSet::Ebcdic => all_in::<InEbcdic>(t, s),
     }
 }
 
 pub fn has_mark(set: CharacterSet, t: DataType, s: &[u8]) -> bool
     ensures { result ≡ some (is_mark set t) s.now }
 {
-    let mut i = 0;
-    while i < s.len() {
-        if is_mark(set, t, s[i]) {
-            return true;
-        }
-        i += 1;
-    }
-    false
+    s.iter().any(|&x| is_mark(set, t, x))
 }
 
 // A blank stands between two digits. `gap` says that a blank stands after some digit.
@@ -134,15 +77,13 @@ fn blank_between_digits(set: CharacterSet, s: &[u8]) -> bool
 {
     let mut before = false;
     let mut gap = false;
-    let mut i = 0;
-    while i < s.len() {
-        let numeric = is_numeric(set, s[i]);
+    for &x in s {
+        let numeric = is_numeric(set, x);
         if gap & numeric {
             return true;
         }
-        gap = gap | (before & is_blank(set, s[i]));
+        gap = gap | (before & is_blank(set, x));
         before = before | numeric;
-        i += 1;
     }
     false
 }
@@ -159,43 +100,24 @@ pub fn blank_embedded(set: CharacterSet, s: &[u8]) -> bool
 
 // Whether a field is of its data type. Binary data is passed unread. Each type is named at its call, so that the compiler makes a loop of its own
 // for each (and it does so only while some arms differ in form: else it makes one call of them all).
-fn of_type_in_ascii(t: DataType, s: &[u8]) -> bool
-    ensures { result ≡ of_type Ascii t s.now }
+#[tactic(auto, unfolding(crate::specs::DataTypes::of_type))]
+fn of_type_in<S: Charset>(t: DataType, s: &[u8]) -> bool
+    ensures { result ≡ of_type S.SET t s.now }
 {
     match t {
-        DataType::AB => all_in_ascii(DataType::AB, s),
-        DataType::A => all_in_ascii(DataType::A, s),
-        DataType::AN => all_in_ascii(DataType::AN, s),
-        DataType::ANS => all_in_ascii(DataType::ANS, s),
+        DataType::AB => all_in::<S>(DataType::AB, s),
+        DataType::A => all_in::<S>(DataType::A, s),
+        DataType::AN => all_in::<S>(DataType::AN, s),
+        DataType::ANS => all_in::<S>(DataType::ANS, s),
         DataType::Binary => true,
-        DataType::N => all_in_ascii(DataType::N, s),
-        DataType::NB => all_in_ascii(DataType::NB, s) & !blank_embedded(CharacterSet::Ascii, s),
-        DataType::NBD => all_in_ascii(DataType::NBD, s) & !blank_embedded(CharacterSet::Ascii, s),
-        DataType::NBQ => all_in_ascii(DataType::NBQ, s) & !blank_embedded(CharacterSet::Ascii, s),
-        DataType::NBMc => all_in_ascii(DataType::NBMc, s),
-        DataType::NBMcd => all_in_ascii(DataType::NBMcd, s),
-        DataType::NBMcdo => all_in_ascii(DataType::NBMcdo, s),
-        DataType::NBMU => all_in_ascii(DataType::NBMU, s),
-    }
-}
-
-fn of_type_in_ebcdic(t: DataType, s: &[u8]) -> bool
-    ensures { result ≡ of_type Ebcdic t s.now }
-{
-    match t {
-        DataType::AB => all_in_ebcdic(DataType::AB, s),
-        DataType::A => all_in_ebcdic(DataType::A, s),
-        DataType::AN => all_in_ebcdic(DataType::AN, s),
-        DataType::ANS => all_in_ebcdic(DataType::ANS, s),
-        DataType::Binary => true,
-        DataType::N => all_in_ebcdic(DataType::N, s),
-        DataType::NB => all_in_ebcdic(DataType::NB, s) & !blank_embedded(CharacterSet::Ebcdic, s),
-        DataType::NBD => all_in_ebcdic(DataType::NBD, s) & !blank_embedded(CharacterSet::Ebcdic, s),
-        DataType::NBQ => all_in_ebcdic(DataType::NBQ, s) & !blank_embedded(CharacterSet::Ebcdic, s),
-        DataType::NBMc => all_in_ebcdic(DataType::NBMc, s),
-        DataType::NBMcd => all_in_ebcdic(DataType::NBMcd, s),
-        DataType::NBMcdo => all_in_ebcdic(DataType::NBMcdo, s),
-        DataType::NBMU => all_in_ebcdic(DataType::NBMU, s),
+        DataType::N => all_in::<S>(DataType::N, s),
+        DataType::NB => all_in::<S>(DataType::NB, s) & !blank_embedded(S::SET, s),
+        DataType::NBD => all_in::<S>(DataType::NBD, s) & !blank_embedded(S::SET, s),
+        DataType::NBQ => all_in::<S>(DataType::NBQ, s) & !blank_embedded(S::SET, s),
+        DataType::NBMc => all_in::<S>(DataType::NBMc, s),
+        DataType::NBMcd => all_in::<S>(DataType::NBMcd, s),
+        DataType::NBMcdo => all_in::<S>(DataType::NBMcdo, s),
+        DataType::NBMU => all_in::<S>(DataType::NBMU, s),
     }
 }
 
@@ -203,21 +125,20 @@ pub fn of_type(set: CharacterSet, t: DataType, s: &[u8]) -> bool
     ensures { result ≡ of_type set t s.now }
 {
     match set {
-        CharacterSet::Ascii => of_type_in_ascii(t, s),
-        CharacterSet::Ebcdic => of_type_in_ebcdic(t, s),
+        CharacterSet::Ascii => of_type_in::<InAscii>(t, s),
+        CharacterSet::Ebcdic => of_type_in::<InEbcdic>(t, s),
     }
 }
 
-// With an early end: most fields that are asked for it begin with another character.
+// With an early end: most fields that are asked for it begin with another character. A `for` here and in the next two: by `all` and `any` they
+// cost 15 to 19 instructions more in a hundred (290 thousand became 344 thousand over the fields of 748 records).
 pub fn all_blank(set: CharacterSet, s: &[u8]) -> bool
     ensures { result ≡ every (is_blank set) s.now }
 {
-    let mut i = 0;
-    while i < s.len() {
-        if !is_blank(set, s[i]) {
+    for &x in s {
+        if !is_blank(set, x) {
             return false;
         }
-        i += 1;
     }
     true
 }
@@ -225,12 +146,10 @@ pub fn all_blank(set: CharacterSet, s: &[u8]) -> bool
 pub fn all_numeric(set: CharacterSet, s: &[u8]) -> bool
     ensures { result ≡ every (is_numeric set) s.now }
 {
-    let mut i = 0;
-    while i < s.len() {
-        if !is_numeric(set, s[i]) {
+    for &x in s {
+        if !is_numeric(set, x) {
             return false;
         }
-        i += 1;
     }
     true
 }
@@ -238,56 +157,39 @@ pub fn all_numeric(set: CharacterSet, s: &[u8]) -> bool
 pub fn some_numeric(set: CharacterSet, s: &[u8]) -> bool
     ensures { result ≡ some (is_numeric set) s.now }
 {
-    let mut i = 0;
-    while i < s.len() {
-        if is_numeric(set, s[i]) {
+    for &x in s {
+        if is_numeric(set, x) {
             return true;
         }
-        i += 1;
     }
     false
 }
 
-fn digit_in_ascii(x: u8) -> u64
-    ensures { (result ≡ digit Ascii x) × (result ≤ 9) }
+fn zero_of(set: CharacterSet) -> u8
+    ensures { result ≡ code_of_zero set }
 {
-    if b'0' <= x {
-        if x <= b'9' {
-            return (x - b'0') as u64;
-        }
+    match set {
+        CharacterSet::Ascii => b'0',
+        CharacterSet::Ebcdic => 0xF0,
     }
-    0
-}
-
-fn digit_in_ebcdic(x: u8) -> u64
-    ensures { (result ≡ digit Ebcdic x) × (result ≤ 9) }
-{
-    if 0xF0 <= x {
-        if x <= 0xF9 {
-            return (x - 0xF0) as u64;
-        }
-    }
-    0
 }
 
 pub fn digit_of(set: CharacterSet, x: u8) -> u64
     ensures { (result ≡ digit set x) × (result ≤ 9) }
 {
-    match set {
-        CharacterSet::Ascii => digit_in_ascii(x),
-        CharacterSet::Ebcdic => digit_in_ebcdic(x),
+    if is_numeric(set, x) {
+        return u64::from(x - zero_of(set));
     }
+    0
 }
 
 fn value_of(set: CharacterSet, s: &[u8]) -> u64
     requires { length s.now ≤ 19 }
     ensures { result ≡ value_after set 0 s.now }
 {
-    let mut value: u64 = 0;
-    let mut i = 0;
-    while i < s.len() {
-        value = value * 10 + digit_of(set, s[i]);
-        i += 1;
+    let mut value = 0;
+    for &x in s {
+        value = value * 10 + digit_of(set, x);
     }
     value
 }
@@ -296,10 +198,7 @@ fn value_of(set: CharacterSet, s: &[u8]) -> u64
 fn leading(s: &[u8]) -> &[u8]
     ensures { result.now ≡ take 19 s.now }
 {
-    if 19 < s.len() {
-        return &s[0..19];
-    }
-    s
+    s.get(..19).unwrap_or(s)
 }
 
 pub fn number_in(set: CharacterSet, s: &[u8]) -> u64

@@ -21,23 +21,14 @@ pub struct DirectoryReader<'a> {
     pub at: usize,
 }
 
-fn wide(x: u8) -> u64
-    ensures { (result ≡ x) × (result ≤ 255) }
-{
-    x as u64
-}
-
 // The byte so far ahead of a place.
-fn byte_ahead(image: &[u8], at: usize, ahead: usize) -> u64
-    ensures { (result ≡ get_or image.now (at + ahead) 0) × (result ≤ 255) }
+fn byte_ahead(image: &[u8], at: usize, ahead: usize) -> u8
+    ensures { result ≡ get_or image.now (at + ahead) 0 }
 {
-    if image.len() <= at {
-        return 0;
-    }
-    if image.len() - at <= ahead {
-        return 0;
-    }
-    wide(image[at + ahead])
+    at.checked_add(ahead)
+        .and_then(|place| image.get(place))
+        .copied()
+        .unwrap_or(0)
 }
 
 // Two bytes, low byte first.
@@ -45,7 +36,10 @@ fn short_ahead(image: &[u8], at: usize, ahead: usize) -> u64
     requires { ahead < 16 }
     ensures { (result ≡ short_at image.now (at + ahead)) × (result ≤ 0xFFFF) }
 {
-    byte_ahead(image, at, ahead) + byte_ahead(image, at, ahead + 1) * 0x100
+    u64::from(u16::from_le_bytes([
+        byte_ahead(image, at, ahead),
+        byte_ahead(image, at, ahead + 1),
+    ]))
 }
 
 // Four bytes, low byte first.
@@ -53,7 +47,12 @@ fn long_ahead(image: &[u8], at: usize, ahead: usize) -> u64
     requires { ahead < 12 }
     ensures { (result ≡ long_at image.now (at + ahead)) × (result ≤ 0xFFFF_FFFF) }
 {
-    short_ahead(image, at, ahead) + short_ahead(image, at, ahead + 2) * 0x1_0000
+    u64::from(u32::from_le_bytes([
+        byte_ahead(image, at, ahead),
+        byte_ahead(image, at, ahead + 1),
+        byte_ahead(image, at, ahead + 2),
+        byte_ahead(image, at, ahead + 3),
+    ]))
 }
 
 pub fn short_at(image: &[u8], at: usize) -> u64

@@ -1,23 +1,16 @@
-use borrow.Author.Tests.{ne_eqb}
+use Rattle.std.proofs.Common.{arith}
+use Rattle.std.proofs.lemmas.Grind.{common_steps}
 use Rattle.agree.specs.Links.{numbered_on}
 use Rattle.agree.proofs.numbered_on.Goals as goal
 
 pub returns-in-26 : goal.returns-in-26
 unfolding numbered_on
-returns-in-26 c = rw (c.in-26.is, c.number_at.ensures)
-
-pub returns-in-32 : goal.returns-in-32
-unfolding numbered_on
-returns-in-32 c = rw (c.in-32.is, c.number_at-in-32.ensures)
+returns-in-26 c = grind (arith, common_steps)
 
 pub returns-in-28 : goal.returns-in-28
 unfolding numbered_on
-returns-in-28 c = rw (c.in-28.is, c.number_at-in-28.ensures)
-
-pub returns-in-35 : goal.returns-in-35
-unfolding numbered_on
-returns-in-35 c = rw (c.in-35.is, c.number_at-in-35.ensures)
+returns-in-28 c = grind (arith, common_steps)
 
 pub returns-in_default : goal.returns-in_default
 unfolding numbered_on
-returns-in_default c = simp (ne_eqb _ _ c.in_default.in_default-own.rest.1, ne_eqb _ _ c.in_default.in_default-own.rest.0.1, ne_eqb _ _ c.in_default.in_default-own.rest.0.0.1, ne_eqb _ _ c.in_default.in_default-own.rest.0.0.0.1)
+returns-in_default c = grind (arith, common_steps)

@@ -1,5 +1,6 @@
+use Rattle.std.proofs.Common.{arith}
+use Rattle.std.proofs.lemmas.Grind.{common_steps}
 use Rattle.agree.specs.Totals.{total_fault}
-use borrow.Author.Tests.{ne_eqb}
 use Rattle.agree.proofs.total_fault.Goals as goal
 
 pub returns-in-70 : goal.returns-in-70
@@ -16,4 +17,4 @@ returns-in-99 c = rw (c.in-99.is, c.file_fault.ensures)
 
 pub returns-in_default : goal.returns-in_default
 unfolding total_fault
-returns-in_default c = simp (ne_eqb _ _ c.in_default.in_default-own.rest.1, ne_eqb _ _ c.in_default.in_default-own.rest.0.1, ne_eqb _ _ c.in_default.in_default-own.rest.0.0.1)
+returns-in_default c = grind (arith, common_steps)

@@ -1,17 +1,10 @@
-use Prim.Native.Nat.{◌-◌}
-use Rattle.copying.specs.Times.{times}
-use Rattle.copying.proofs.Laws.{down-none, down-one, down-all, length-times, times-at}
-use borrow.Author.Rules.{rules}
+use mathlib.Core.Path.{sym, ◌∙◌, ap}
+use lib.ListN.{replicate, length-take, length-drop, length-replicate}
+use native.Mathlib.Omega.{arith}
+use Rattle.copying.proofs.Laws.{put-part, times-are}
 use Rattle.copying.proofs.put_times.Goals as goal
 
-pub loop-i-init : goal.loop-i-init
-loop-i-init c = down-none
-
-pub loop-i-preserved : goal.loop-i-preserved
-loop-i-preserved c = down-one (length-times c.args.size c.args.byte) c.loop-i.invariant (search rules) _ (times-at c.args.size c.args.byte c.loop-i.i (search rules))
-
-pub shape_of-out : goal.shape_of-out
-shape_of-out c = c.loop-i.invariant.long
-
 pub returns : goal.returns
-returns c = down-all (length-times c.args.size c.args.byte) c.loop-i.invariant (search rules)
+returns c =
+    put-part _ _ _ c.args.at c.args.size c.requires (rw (times-are c.args.size c.args.byte) (length-replicate c.args.size c.args.byte))
+    (c.fill.ensures.after (λ y e. e) ∙ ap (λ n. replicate n c.args.byte) (simp (length-take, length-drop) (omega arith)) ∙ sym (times-are c.args.size c.args.byte))

@@ -1,19 +1,21 @@
-use Prim.Native.Nat.{◌-◌}
+use Prim.Native.Nat.{◌+◌, ◌-◌, ◌<◌}
+use mathlib.Core.Path.{◌≡◌, ap, sym, ◌∙◌}
+use native.Mathlib.Omega.{arith}
+use lib.ListN.{length, get_or, take, drop}
 use Rattle.frame.specs.Frames.{part}
-use Rattle.ascii_copy.specs.AsciiCopy.{translated}
-use mathlib.Core.Path.{◌∙◌}
-use Rattle.copying.proofs.Laws.{down-none, down-one, down-all, length-translated, translated-at}
-use borrow.Author.Rules.{rules}
+use Rattle.ascii_copy.specs.CodePage037.{counterpart}
+use Rattle.copying.proofs.Laws.{down-one, length-translated, part_at, translated-at, length_part}
 use Rattle.copying.proofs.translate_bytes.Goals as goal
 
-pub loop-i-init : goal.loop-i-init
-loop-i-init c = down-none
-
 pub loop-i-preserved : goal.loop-i-preserved
-loop-i-preserved c = down-one (length-translated c.args.text.now c.args.from c.args.size c.requires.0) c.loop-i.invariant (search rules) _ (c.counterpart_of.ensures ∙ translated-at c.args.text.now c.args.from c.args.size c.requires.0 c.loop-i.i (search rules))
-
-pub shape_of-out : goal.shape_of-out
-shape_of-out c = c.loop-i.invariant.long
-
-pub returns : goal.returns
-returns c = down-all (length-translated c.args.text.now c.args.from c.args.size c.requires.0) c.loop-i.invariant (search rules)
+loop-i-preserved c =
+    let text = c.args.text.now in
+    let from = c.args.from in
+    let size = c.args.size in
+    let same : from + size - from ≡ size = omega arith in
+    let part_more : c.loop-i.i < length (part from size text) = rw (← same) c.loop-i-test.true in
+    let long = length_part text from size c.requires.0 in
+    let more : c.loop-i.i < size = omega arith in
+    down-one (length-translated text from size c.requires.0) c.loop-i.invariant more _
+    (c.counterpart_of.ensures ∙ ap (λ n. counterpart (get_or (take n (drop from text)) c.loop-i.i 0)) same
+    ∙ ap counterpart (sym (part_at text from size c.requires.0 c.loop-i.i more)) ∙ translated-at text from size c.requires.0 c.loop-i.i more)

@@ -1,4 +1,3 @@
-use Prim.Native.Nat.{◌-◌}
 use Rattle.frame.specs.Frames.{part}
 use Rattle.ascii_copy.specs.AsciiCopy.{translated}
 use Rattle.copying.proofs.Laws.{Down}
@@ -6,6 +5,3 @@ use Rattle.copying.proofs.translate_bytes.Given as goal
 
 abbrev pub invariant-loop-i : goal.invariant-loop-i
 invariant-loop-i l = Down (translated (part l.from l.size l.text)) l.initial.out l.size l.at l.out l.i
-
-abbrev pub decreases-loop-i : goal.decreases-loop-i
-decreases-loop-i l = l.size - l.i

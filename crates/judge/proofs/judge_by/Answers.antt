@@ -1,31 +1,20 @@
-use Prim.Native.Nat.{ℕ, ◌+◌, ◌-◌}
-use mathlib.Core.Path.{◌≡◌, sym, ◌∙◌, ap, subst}
-use mathlib.Core.Bool.{true}
-use lib.ListN.{length, take, drop}
-use Rattle.text.specs.DataTypes.{every}
-use Rattle.layout.specs.Packing.{lies_within, lines_from, sized_from}
+use Prim.Native.Nat.{ℕ, ◌+◌, ◌-◌, ◌≤◌}
+use mathlib.Core.Path.{◌≡◌, sym, ◌∙◌, ap}
+use native.Mathlib.Omega.{arith}
+use lib.ListN.{length, get_or, take, drop}
+use Rattle.layout.specs.Packing.{lines_from, sized_from, fields_in, parts_in, long_in}
 use Rattle.judge.specs.Alone.{judged}
 use borrow.Author.Rules.{rules}
-use Rattle.judge.proofs.Dispatch.{Whole, whole, own-nothing, not_none, few-lent, lines-within, own-judged}
+use Rattle.judge.proofs.Dispatch.{own-judged}
 use Rattle.judge.proofs.judge_by.Goals as goal
-
-pub returns-then-own-eq0 : goal.returns-then-own-eq0
-returns-then-own-eq0 c = own-nothing c.args.set c.args.own.now (search rules) c.args.body.now
-
-pub overflow_sub-parts : goal.overflow_sub-parts
-overflow_sub-parts c = let w : Whole c.args.own.now = whole c.args.own.now (not_none (length c.args.own.now) c.if-own-eq0.false) c.requires in search rules
-
-pub slice_bounds-judge_body-count : goal.slice_bounds-judge_body-count
-slice_bounds-judge_body-count c = let w : Whole c.args.own.now = whole c.args.own.now (not_none (length c.args.own.now) c.if-own-eq0.false) c.requires in search rules
-
-pub judge_body-requires : goal.judge_body-requires
-judge_body-requires c = (
-  few-lent c.args.set c.args.own.now (c.fields_in-end.result + 1 - c.parts_in.result) (c.fields_in-end.result + 1) (not_none (length c.args.own.now) c.if-own-eq0.false) c.requires (ap (λ (k : ℕ). k + 1) c.fields_in-end.ensures) (ap (λ (k : ℕ). c.fields_in-end.result + 1 - k) c.parts_in.ensures),
-  subst (λ (n : ℕ). every (lies_within n) (take ((c.fields_in-end.result + 1 - c.parts_in.result) - 1) (drop 1 c.args.own.now)) ≡ true) (sym c.length_in-fixed.ensures) (lines-within c.args.set c.args.own.now (c.fields_in-end.result + 1 - c.parts_in.result) (c.fields_in-end.result + 1) (not_none (length c.args.own.now) c.if-own-eq0.false) c.requires (ap (λ (k : ℕ). k + 1) c.fields_in-end.ensures) (ap (λ (k : ℕ). c.fields_in-end.result + 1 - k) c.parts_in.ensures)),
-)
 
 pub returns : goal.returns
 returns c =
+    let head : c.in-Some.field-0.now ≡ get_or c.args.own.now 0 0 = search rules in
+    let any : 1 ≤ length c.args.own.now = search rules in
+    let long : c.length_in-fixed.result ≡ long_in (get_or c.args.own.now 0 0) = cc in
+    let to : c.fields_in-end.result + 1 ≡ fields_in (get_or c.args.own.now 0 0) + 1 = cc in
+    let from : c.fields_in-end.result + 1 - c.parts_in.result ≡ c.fields_in-end.result + 1 - parts_in (get_or c.args.own.now 0 0) = cc in
     c.judge_body.ensures
-    ∙ ap (λ (n : ℕ). judged c.args.set n (lines_from 1 (take ((c.fields_in-end.result + 1 - c.parts_in.result) - 1) (drop 1 c.args.own.now))) (sized_from (length (take ((c.fields_in-end.result + 1 - c.parts_in.result) - 1) (drop 1 c.args.own.now)) + 1) (take ((c.fields_in-end.result + 1) - (c.fields_in-end.result + 1 - c.parts_in.result)) (drop (c.fields_in-end.result + 1 - c.parts_in.result) c.args.own.now))) c.args.body.now) c.length_in-fixed.ensures
-    ∙ own-judged c.args.set c.args.own.now (c.fields_in-end.result + 1 - c.parts_in.result) (c.fields_in-end.result + 1) (not_none (length c.args.own.now) c.if-own-eq0.false) c.requires (ap (λ (k : ℕ). k + 1) c.fields_in-end.ensures) (ap (λ (k : ℕ). c.fields_in-end.result + 1 - k) c.parts_in.ensures) c.args.body.now
+    ∙ ap (λ (n : ℕ). judged c.args.set n (lines_from 1 (take ((c.fields_in-end.result + 1 - c.parts_in.result) - 1) (drop 1 c.args.own.now))) (sized_from (length (take ((c.fields_in-end.result + 1 - c.parts_in.result) - 1) (drop 1 c.args.own.now)) + 1) (take ((c.fields_in-end.result + 1) - (c.fields_in-end.result + 1 - c.parts_in.result)) (drop (c.fields_in-end.result + 1 - c.parts_in.result) c.args.own.now))) c.args.body.now) long
+    ∙ own-judged c.args.set c.args.own.now (c.fields_in-end.result + 1 - c.parts_in.result) (c.fields_in-end.result + 1) any c.requires to from c.args.body.now

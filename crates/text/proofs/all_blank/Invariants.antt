@@ -1,12 +1,9 @@
-use Prim.Native.Nat.{◌≤◌, ◌-◌}
+use Prim.Native.Nat.{◌≤◌}
 use mathlib.Core.Path.{◌≡◌}
 use lib.ListN.{length, drop}
 use Rattle.text.specs.Characters.{is_blank}
 use Rattle.text.specs.DataTypes.{every}
 use Rattle.text.proofs.all_blank.Given as goal
 
-abbrev pub invariant-loop-i : goal.invariant-loop-i
-invariant-loop-i l = (l.i ≤ length l.s) × (every (is_blank l.set) (drop l.i l.s) ≡ every (is_blank l.set) l.s)
-
-abbrev pub decreases-loop-i : goal.decreases-loop-i
-decreases-loop-i l = length l.s - l.i
+abbrev pub invariant-loop-x : goal.invariant-loop-x
+invariant-loop-x l = (l.x-index ≤ length l.s) × (every (is_blank l.set) (drop l.x-index l.s) ≡ every (is_blank l.set) l.s)

@@ -1,18 +1,9 @@
-use Prim.Native.Nat.{◌-◌}
-use mathlib.Core.Path.{refl, sym, ◌∙◌}
-use Rattle.text.specs.DataTypes.{some, is_mark}
-use Rattle.text.proofs.Laws.{some-found, some-goes-on, some-ends}
+use Rattle.std.proofs.lemmas.Iterator.{YieldsList-from_slice}
+use Rattle.std.proofs.lemmas.Iterator.Search.{any_from_yields_List}
+use Rattle.text.specs.DataTypes.{is_mark}
+use Rattle.text.proofs.Laws.{some_from_any}
 use borrow.Author.Rules.{rules}
 use Rattle.text.proofs.has_mark.Goals as goal
 
-pub loop-i-init : goal.loop-i-init
-loop-i-init c = (search rules, refl)
-
-pub returns-then-is_mark : goal.returns-then-is_mark
-returns-then-is_mark c = sym (some-found (is_mark c.args.set c.args.t) c.args.s.now c.loop-i.i (search rules) (sym c.is_mark.ensures ∙ c.if-is_mark.true)) ∙ c.loop-i.invariant.1
-
-pub loop-i-preserved : goal.loop-i-preserved
-loop-i-preserved c = (search rules, sym (some-goes-on (is_mark c.args.set c.args.t) c.args.s.now c.loop-i.i (search rules) (sym c.is_mark.ensures ∙ c.if-is_mark.false)) ∙ c.loop-i.invariant.1)
-
 pub returns : goal.returns
-returns c = sym (some-ends (is_mark c.args.set c.args.t) c.args.s.now c.loop-i.i (search rules)) ∙ c.loop-i.invariant.1
+returns c = some_from_any (is_mark c.args.set c.args.t) c.any.result c.args.s.now (any_from_yields_List (is_mark c.args.set c.args.t) _ _ c.any.result c.any.ensures.ran (YieldsList-from_slice c.args.s.now cc) (λ x b q k. search rules))
