@@ -12,9 +12,9 @@ ghost use Rattle.book_model.specs.Entering.{Entered, Refused as NotEntered};
 ghost use Rattle.abi.specs.Filled.{set_numbered, entering_numbers};
 ghost use Rattle.abi.specs.Outcomes.{Reading, Writing, Drafting, Picturing, Judging, Tagging, Booking, LookingUp, Tallying, Withdrawing, Tidying};
 
-use book_model::{Entering, Tally};
+use book_model::Tally;
 use draft::Outcome;
-use passes::{Answer, Fault, Totals};
+use passes::{Answer, Fault, Refusal, Totals};
 pub use salvaging::x9_salvage;
 pub use slowly::x9_read_slowly;
 use text::CharacterSet;
@@ -239,11 +239,15 @@ pub extern "C" fn x9_book_enter(
 {
     let bytes = file.len() as u64;
     match book::enter(file, number, owner, table, book, list) {
-        Entering::Entered(first, totals) => {
+        Ok((first, totals)) => {
             fill_entered(bytes, totals, first, answer);
             0
         }
-        Entering::Refused(fault, place, offset) => fill_not_entered(fault, place, offset, answer),
+        Err(Refusal {
+            fault,
+            place,
+            offset,
+        }) => fill_not_entered(fault, place, offset, answer),
     }
 }
 
