@@ -10,10 +10,7 @@ use text::CharacterSet;
 pub fn behind(s: &[u8], place: usize) -> &[u8]
     ensures { result.now ≡ drop place s.now }
 {
-    if s.len() < place {
-        return &s[0..0];
-    }
-    &s[place..]
+    s.get(place..).unwrap_or(&[])
 }
 
 // The bytes from a place on, as many as the size says or as there are.
@@ -21,20 +18,14 @@ pub fn part_of(s: &[u8], start: usize, size: usize) -> &[u8]
     ensures { result.now ≡ take size (drop start s.now) }
 {
     let rest = behind(s, start);
-    if rest.len() < size {
-        return rest;
-    }
-    &rest[0..size]
+    rest.get(..size).unwrap_or(rest)
 }
 
 // The byte at a place; 0 past the end.
 pub fn byte_at(s: &[u8], place: usize) -> u8
     ensures { result ≡ get_or s.now place 0 }
 {
-    if place < s.len() {
-        return s[place];
-    }
-    0
+    s.get(place).copied().unwrap_or(0)
 }
 
 // A character of a run stands for as many past the first as it stands past the lowest; any other for the one that was found elsewhere.
@@ -42,16 +33,15 @@ fn stands_for(low: u8, high: u8, first: u8, x: u8, elsewhere: u8) -> u8
     requires { high + first ≤ low + 255 }
     ensures { result ≡ cond (within low high x) (x - low + first) elsewhere }
 {
-    if x < low {
-        return elsewhere;
+    if (low..=high).contains(&x) {
+        x - low + first
+    } else {
+        elsewhere
     }
-    if high < x {
-        return elsewhere;
-    }
-    x - low + first
 }
 
 // 5.1.1: the letter that a character is, as a capital, or the digit, by its ASCII code; 0 for any other
+#[tactic(auto, unfolding(text::specs::Capitals::capital))]
 pub fn capital_of(set: CharacterSet, x: u8) -> u8
     ensures { result ≡ capital set x }
 {
@@ -77,14 +67,10 @@ pub fn capital_of(set: CharacterSet, x: u8) -> u8
 fn digit_from(zero: u8, x: u8) -> u64
     ensures { (result ≡ cond (within zero (zero + 9) x) (x - zero) 0) × (result ≤ 9) }
 {
-    if x < zero {
-        return 0;
+    match x.checked_sub(zero) {
+        Some(past @ 0..=9) => u64::from(past),
+        _ => 0,
     }
-    let past = x - zero;
-    if past <= 9 {
-        return past as u64;
-    }
-    0
 }
 
 // 5.1.3: the number that a digit stands for
@@ -102,15 +88,14 @@ fn value_of(set: CharacterSet, s: &[u8]) -> u64
     ensures { result ≡ value_after set 0 s.now }
 {
     let mut value: u64 = 0;
-    let mut i = 0;
-    while i < s.len() {
-        value = value * 10 + digit_of(set, s[i]);
-        i += 1;
+    for x in s {
+        value = value * 10 + digit_of(set, *x);
     }
     value
 }
 
 // The number in a field, by its first 19 characters: no field that is read as a number has more than 16.
+#[tactic(auto, unfolding(text::specs::Number::number))]
 pub fn number_in(set: CharacterSet, s: &[u8]) -> u64
     ensures { result ≡ number set s.now }
 {
