@@ -2,7 +2,7 @@
 use Prim.Native.Nat.{ℕ}
 use mathlib.Core.List.{List}
 use mathlib.Core.Path.{◌≡◌, subst}
-use Rattle.draft.specs.declared.Outcome.{Outcome}
+use Rattle.draft.specs.Outcomes.{Outcome}
 use Rattle.draft.specs.Promises.{Promised}
 use Rattle.salvage_model.specs.Promises as salvage
 

@@ -1,22 +1,22 @@
 -- The numbers that the C calls fill in.
-use Rattle.std.specs.Prelude.{ℕ, cond, eqb, List, [], ◌∷◌, ◌++◌}
+use Rattle.std.specs.Prelude.{ℕ, cond, eqb, List, [], ◌∷◌, ◌++◌, Err}
 use Rattle.text.specs.declared.character_set.CharacterSet.{CharacterSet}
 use Rattle.text.specs.declared.character_set.CharacterSet.TheVariants.{Ascii, Ebcdic}
-use Rattle.judge.specs.declared.Judged.{Judged}
+use Rattle.judge.specs.Alone.{Judged}
 use Rattle.picture.specs.declared.Found.{Found}
 use Rattle.tiff.specs.declared.Tags.{Tags}
 use Rattle.passes.specs.Answers.{number_of, numbers_of}
-use Rattle.draft.specs.declared.Outcome.{Outcome}
-use Rattle.draft.specs.declared.Outcome.TheVariants.{Written, Refused}
+use Rattle.draft.specs.Outcomes.{Outcome}
+use Rattle.draft.specs.Outcomes.{Written, Refused}
 use Rattle.net.specs.Net.{bits_of}
-use Rattle.book_model.specs.declared.Entering.{Entering}
+use Rattle.book_model.specs.Entering.{Entering}
 use Rattle.book_model.specs.declared.Finding.{Finding}
 use Rattle.book_model.specs.declared.Tally.{Tally}
 use Rattle.book_model.specs.declared.Change.{Change}
 use Rattle.judge.specs.Alone as alone
-use Rattle.passes.specs.declared.Answer.TheVariants as answers
+use Rattle.passes.specs.Answers as answers
 use Rattle.picture.specs.Picture as picture
-use Rattle.book_model.specs.declared.Entering.TheVariants as entering
+use Rattle.book_model.specs.Entering as entering
 use Rattle.book_model.specs.declared.Finding.TheVariants as finding
 use Rattle.book_model.specs.declared.Tally.TheVariants as tally
 use Rattle.book_model.specs.declared.Change.TheVariants as change
@@ -42,20 +42,20 @@ tagging_of tags = tiff.number_of tags ∷ tiff.tag_of tags ∷ []
 -- x9_write: 0, records, 0, bytes written, then the totals as x9_read has them (reading 45), or number, record, field, offset
 abbrev pub outcome_number : Outcome → ℕ
 outcome_number (Written n t) = 0
-outcome_number (Refused fault place offset) = number_of fault
+outcome_number (Err r) = number_of r.fault
 
 abbrev pub outcome_numbers : Outcome → List ℕ
 outcome_numbers (Written n t) = numbers_of n (answers.Accepted t)
-outcome_numbers (Refused fault place offset) = numbers_of 0 (answers.Refused fault place offset)
+outcome_numbers (Err r) = numbers_of 0 (Err r)
 
 -- x9_book_enter: as x9_read, and behind these the first entry number given
 abbrev pub entering_number : Entering → ℕ
 entering_number (entering.Entered first t) = 0
-entering_number (entering.Refused fault place offset) = number_of fault
+entering_number (Err r) = number_of r.fault
 
 abbrev pub entering_numbers : ℕ → Entering → List ℕ
 entering_numbers n (entering.Entered first t) = numbers_of n (answers.Accepted t) ++ (first ∷ [])
-entering_numbers n (entering.Refused fault place offset) = numbers_of n (answers.Refused fault place offset) ++ (0 ∷ [])
+entering_numbers n (Err r) = numbers_of n (answers.Refused r.fault r.place r.offset) ++ (0 ∷ [])
 
 -- x9_book_find: number, entry number, file number, and the figures; "on the book's own refusals all behind the number is 0"
 abbrev pub finding_number : Finding → ℕ

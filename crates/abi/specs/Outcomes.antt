@@ -8,9 +8,9 @@ use Rattle.tiff.specs.Judged.{tags_of}
 use Rattle.tiff.specs.declared.Tags.{Tags}
 use Rattle.passes.specs.Answers.{answer_number, numbers_of}
 use Rattle.passes.specs.Reading.{answer_of, table_of}
-use Rattle.passes.specs.declared.Answer.{Answer}
+use Rattle.passes.specs.Answers.{Answer}
 use Rattle.arrangement.specs.Arranged.{Arranged}
-use Rattle.draft.specs.declared.Outcome.{Outcome}
+use Rattle.draft.specs.Outcomes.{Outcome}
 use Rattle.draft.specs.Values.{values_of_draft}
 use Rattle.draft.specs.Drafted.{outcome_of, buffer_of}
 use Rattle.draft.specs.Promises.{Promised}

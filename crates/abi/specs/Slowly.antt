@@ -4,7 +4,7 @@ use Rattle.std.proofs.Common.{sym, ap, ◌∙◌, subst, le-leb}
 use Rattle.std.proofs.lemmas.Bool.{lt-leb}
 use Rattle.passes.specs.Answers.{answer_number, numbers_of}
 use Rattle.passes.specs.Reading.{answer_of, table_of}
-use Rattle.passes.specs.declared.Answer.{Answer}
+use Rattle.passes.specs.Answers.{Answer}
 use Rattle.arrangement.specs.Arranged.{Arranged}
 use Rattle.slow_reader.specs.Slowly.{slow_answer, slow_table}
 use Rattle.abi.specs.Outcomes.{Reading}

@@ -7,8 +7,8 @@ mod slowly;
 ghost use Rattle.std.specs.Prelude.{◌≡◌, ℕ};
 ghost use Rattle.text.specs.declared.character_set.CharacterSet.TheVariants.{Ascii};
 ghost use Rattle.passes.specs.Answers.{number_of, numbers_of};
-ghost use Rattle.passes.specs.declared.Answer.TheVariants.{Accepted, Refused};
-ghost use Rattle.book_model.specs.declared.Entering.TheVariants.{Entered, Refused as NotEntered};
+ghost use Rattle.passes.specs.Answers.{Accepted, Refused};
+ghost use Rattle.book_model.specs.Entering.{Entered, Refused as NotEntered};
 ghost use Rattle.abi.specs.Filled.{set_numbered, entering_numbers};
 ghost use Rattle.abi.specs.Outcomes.{Reading, Writing, Drafting, Picturing, Judging, Tagging, Booking, LookingUp, Tallying, Withdrawing, Tidying};
 

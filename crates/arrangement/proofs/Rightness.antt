@@ -11,7 +11,7 @@ use Rattle.text.specs.declared.character_set.CharacterSet.{CharacterSet}
 use Rattle.text.specs.DataTypes.{of_type}
 use Rattle.layout.specs.Layout.{Line, Layout, Sized, sized_parts}
 use Rattle.layout.specs.Layouts.{credit_record, file_header, cash_letter_header, bundle_header, check_detail, check_detail_addendum_a, check_detail_addendum_b, check_detail_addendum_c, return_record, return_addendum_a, return_addendum_b, return_addendum_c, return_addendum_d, image_view_detail, image_view_data, image_view_analysis, bundle_control, cash_letter_control, file_control}
-use Rattle.judge.specs.declared.Judged.TheVariants.{Sound}
+use Rattle.judge.specs.Alone.{Sound}
 use Rattle.judge.specs.Alone.{type_of, line_holds, first_wrong, stated_size, stated_sizes, first_wrong_part, is_variable, judged, alone, judged_as}
 use Rattle.judge.proofs.Laws.{length-not-sound, field-not-sound, kept}
 use Rattle.file_as_records.specs.Framed.{Body}

@@ -7,14 +7,15 @@ use mathlib.Core.List.{List, [], ◌∷◌, ◌++◌}
 use lib.Dec.{leb}
 use lib.ListN.{length, drop}
 use borrow.Author.Tests.{leb-true, le-leb, lt-leb}
+use Rattle.std.specs.Prelude.{Err}
 use Rattle.text.specs.CharacterSet.{set_of}
 use Rattle.text.specs.declared.character_set.CharacterSet.{CharacterSet}
 use Rattle.judge.specs.Alone.{type_of}
 use Rattle.passes.specs.declared.Fault.{Fault}
 use Rattle.passes.specs.declared.Fault.TheVariants.{Room}
 use Rattle.passes.specs.declared.Totals.{Totals}
-use Rattle.passes.specs.declared.Answer.{Answer}
-use Rattle.passes.specs.declared.Answer.TheVariants.{Accepted, Refused}
+use Rattle.passes.specs.Answers.{Answer}
+use Rattle.passes.specs.Answers.{Accepted, Refused}
 use Rattle.passes.specs.Rows.{rows_of}
 use Rattle.passes.specs.Reading.{surveyed, in_room, answer_of, table_after, table_of}
 use Rattle.passes.proofs.Passes.{accepted-small}
@@ -62,7 +63,7 @@ in-room rows (Accepted u) t e =
       accepted = refl;
       room = leb-true u.records.0 rows (picked-room (leb u.records.0 rows) u t u.records.0 e);
     }
-in-room rows (Refused fault n o) t e = absurd (refused-not fault n o t e)
+in-room rows (Err r) t e = absurd (refused-not r.fault r.place r.offset t e)
 
 -- an arrangement makes the file accepted, with its totals and its rows
 pub record Read (file : List ℕ) (x : File) : Type 0 where

@@ -5,8 +5,8 @@ use Rattle.text.specs.CharacterSet.{set_of}
 use Rattle.layout.specs.Layouts.{file_control}
 use Rattle.passes.specs.declared.Fault.TheVariants.{Room}
 use Rattle.passes.specs.declared.Totals.{Totals}
-use Rattle.passes.specs.declared.Answer.{Answer}
-use Rattle.passes.specs.declared.Answer.TheVariants.{Accepted, Refused}
+use Rattle.passes.specs.Answers.{Answer}
+use Rattle.passes.specs.Answers.{Accepted, Refused}
 use Rattle.arrangement.specs.Tree.{File}
 use Rattle.arrangement.specs.Written.{records, written}
 use Rattle.arrangement.specs.Sound.{stated, Sound}

@@ -11,7 +11,7 @@ use lib.ListN.{length, get_or, take, drop, length-append, length-take, length-dr
 use lib.Seq.{length-take-le, take_at, drop_at, drop-drop, get_or-take, get_or-drop}
 use Rattle.text.specs.declared.character_set.CharacterSet.TheVariants.{Ascii, Ebcdic}
 use Rattle.text.specs.CharacterSet.{set_of}
-use Rattle.frame.specs.declared.Frame.TheVariants.{Cut, Whole}
+use Rattle.frame.specs.Frames.{Cut, Whole}
 use Rattle.frame.specs.Frames.{part, length_in, length_at, frame_at}
 use Rattle.frame.proofs.Laws.{cut-length, cut-body, whole, whole-within, whole-start}
 use Rattle.ascii_copy.specs.CodePage037.{counterpart}

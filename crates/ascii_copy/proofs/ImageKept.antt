@@ -9,13 +9,13 @@ use lib.Seq.{take-take, drop-drop}
 use Rattle.text.specs.declared.character_set.CharacterSet.TheVariants.{Ebcdic}
 use Rattle.text.specs.declared.data_types.DataType.{DataType}
 use Rattle.text.specs.declared.data_types.DataType.TheVariants.{Binary}
-use Rattle.frame.specs.declared.Frame.TheVariants.{Whole}
+use Rattle.frame.specs.Frames.{Whole}
 use Rattle.frame.specs.Frames.{part, frame_at}
 use Rattle.layout.specs.Layout.{Sized, sized_in, sized_parts}
 use Rattle.layout.specs.Layouts.{image_view_data}
 use Rattle.judge.specs.Alone.{type_of, stated_size, stated_sizes, alone}
 use Rattle.judge.specs.Image.{parts_before, image_start, image_size}
-use Rattle.judge.specs.declared.Judged.TheVariants.{Sound}
+use Rattle.judge.specs.Alone.{Sound}
 use Rattle.judge.proofs.Laws.{image-within}
 use Rattle.ascii_copy.specs.AsciiCopy.{copied_as, copied_parts, copied_body}
 use Rattle.ascii_copy.proofs.Records.{part-front, halves, apart}

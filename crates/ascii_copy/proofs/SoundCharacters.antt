@@ -15,7 +15,7 @@ use Rattle.text.specs.DataTypes.{every, admits}
 use Rattle.layout.specs.Layout.{Line, Layout, sized_parts}
 use Rattle.layout.specs.Layouts.{layouts}
 use Rattle.layout.specs.Laid.{end_to_end}
-use Rattle.judge.specs.declared.Judged.TheVariants.{Sound}
+use Rattle.judge.specs.Alone.{Sound}
 use Rattle.judge.specs.Alone.{characters_of, line_holds, first_wrong, is_variable, judged, alone, among_layouts, judged_as}
 use Rattle.judge.proofs.Laws.{both_true, kept, length-not-sound, field-not-sound}
 use Rattle.ascii_copy.proofs.Characters.{is_characters}

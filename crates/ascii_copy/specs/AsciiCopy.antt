@@ -1,12 +1,12 @@
 -- The ASCII copy of a file (request 5): "the copy changes character fields only". Lengths stay as they are.
-use Rattle.std.specs.Prelude.{ℕ, zero, suc, ◌+◌, Bool, true, false, cond, List, [], ◌∷◌, ◌++◌, map, ◌≡◌, eqb, length, take, drop}
+use Rattle.std.specs.Prelude.{ℕ, zero, suc, ◌+◌, Bool, true, false, cond, List, [], ◌∷◌, ◌++◌, map, ◌≡◌, eqb, length, take, drop, Some}
 use Rattle.text.specs.declared.character_set.CharacterSet.{CharacterSet}
 use Rattle.text.specs.declared.character_set.CharacterSet.TheVariants.{Ascii, Ebcdic}
 use Rattle.text.specs.declared.data_types.DataType.{DataType}
 use Rattle.text.specs.declared.data_types.DataType.TheVariants.{AB, A, AN, ANS, Binary, N, NB, NBD, NBQ, NBMc, NBMcd, NBMcdo, NBMU}
 use Rattle.text.specs.CharacterSet.{set_of}
-use Rattle.frame.specs.declared.Frame.{Frame}
-use Rattle.frame.specs.declared.Frame.TheVariants.{Cut, Whole}
+use Rattle.frame.specs.Frames.{Frame}
+use Rattle.frame.specs.Frames.{Cut, Whole}
 use Rattle.frame.specs.Frames.{part, frame_at}
 use Rattle.layout.specs.Layout.{Sized, sized_parts}
 use Rattle.layout.specs.Layouts.{image_view_data}
@@ -47,7 +47,7 @@ copied_body body =
 -- record by record as the lengths frame them, n at most; bytes that no length frames are kept
 abbrev pub copied_frame : List ℕ → Frame → (List ℕ → List ℕ) → List ℕ
 copied_frame bytes Cut others = bytes
-copied_frame bytes (Whole start size) others = take start bytes ++ (copied_body (part start size bytes) ++ others (drop (start + size) bytes))
+copied_frame bytes (Some x) others = take x.start bytes ++ (copied_body (part x.start x.size bytes) ++ others (drop (x.start + x.size) bytes))
 
 unfoldable pub copied_frames : ℕ → List ℕ → List ℕ
 copied_frames zero bytes = bytes

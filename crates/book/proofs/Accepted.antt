@@ -11,7 +11,7 @@ use borrow.Author.Tests.{leb-true, le-leb, lt-leb}
 use Rattle.passes.specs.declared.Fault.{Fault}
 use Rattle.passes.specs.declared.Fault.TheVariants.{Room, Duplicate, Full, NoEntry, Range, Book}
 use Rattle.passes.specs.declared.Totals.{Totals}
-use Rattle.passes.specs.declared.Answer.TheVariants.{Accepted}
+use Rattle.passes.specs.Answers.{Accepted}
 use Rattle.passes.specs.Reading.{surveyed, answer_of, table_of}
 use Rattle.figures.specs.declared.Figures.{Figures}
 use Rattle.figures.specs.Figures.{figures, plus, fits}
@@ -19,14 +19,14 @@ use Rattle.figures.proofs.Laws.{both}
 use Rattle.net.specs.Net.{within}
 use Rattle.letters.specs.Letters.{letters_of}
 use Rattle.letters.proofs.Theorem.{AcceptedLetters}
-use Rattle.book_model.specs.declared.Entering.TheVariants.{Entered, Refused}
+use Rattle.book_model.specs.Entering.{Entered, Refused}
 use Rattle.book_model.specs.PlainList.{totals_of, position_of, is_taken, entries_on, keeps_range, has_room, entering}
 use Rattle.book_model.specs.Table.{is_owner, block_of, rows_claimed, last_number, running_totals, rows_used, free_rows, gaps, free_places, taken_by, own_of, free_in, is_book, is_list, placed, block_with, with_entries}
 use Rattle.book_model.specs.Calls.{enter_answer}
 use Rattle.book_model.proofs.Laws.{sound}
 use Rattle.book_model.proofs.Steps.{head-totals, head-last, entries-count, entries-sum}
 use Rattle.book_gaps.proofs.Placing.{placed-before, placed-long}
-use Rattle.passes.specs.declared.Answer.TheVariants as answers
+use Rattle.passes.specs.Answers as answers
 use Rattle.passes.specs.Rows as rows
 
 -- what there is room for

@@ -8,7 +8,7 @@ use lib.Seq.{sets, length-sets}
 use Rattle.text.specs.CharacterSet.{set_of}
 use Rattle.text.specs.declared.character_set.CharacterSet.{CharacterSet}
 use Rattle.frame.specs.Frames.{part, frame_at}
-use Rattle.frame.specs.declared.Frame.TheVariants.{Cut, Whole}
+use Rattle.frame.specs.Frames.{Cut, Whole}
 use Rattle.frame.proofs.Laws.{whole-within, whole-start}
 use Rattle.judge.specs.Alone.{type_of}
 use Rattle.standing.specs.History.{entry as record_entry}

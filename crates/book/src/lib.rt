@@ -4,7 +4,7 @@
 ghost use Rattle.std.specs.Prelude.{true, ◌≡◌, ◌+◌, ◌-◌, ◌*◌, ◌≤◌, ◌<◌, length};
 ghost use Rattle.letters.specs.Letters.{letters_of};
 ghost use Rattle.letters.specs.OfArrangement.{LettersOwn};
-ghost use Rattle.passes.specs.declared.Answer.TheVariants.{Accepted};
+ghost use Rattle.passes.specs.Answers.{Accepted};
 ghost use Rattle.passes.specs.Reading.{surveyed};
 ghost use Rattle.passes.specs.Rows.{rows_of as rows_of_file};
 ghost use Rattle.book_model.specs.PlainList.{entries_on, finding, withdrawing};

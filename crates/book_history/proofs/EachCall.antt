@@ -8,7 +8,7 @@ use mathlib.Core.List.{List}
 use lib.ListN.{length}
 use Rattle.passes.specs.Reading.{answer_of}
 use Rattle.letters.specs.Letters.{letters_of}
-use Rattle.book_model.specs.declared.Entering.{Entering}
+use Rattle.book_model.specs.Entering.{Entering}
 use Rattle.book_model.specs.declared.Change.{Change}
 use Rattle.book_model.specs.declared.Change.TheVariants.{Done}
 use Rattle.book_model.specs.declared.Tally.TheVariants.{Totals}

@@ -7,19 +7,20 @@ use mathlib.Core.List.{List, [], ◌∷◌, ◌++◌, append-nil}
 use lib.Dec.{leb, eqb}
 use lib.ListN.{length, length-append}
 use borrow.Author.Tests.{leb-true, eq-eqb}
+use Rattle.std.specs.Prelude.{Err}
 use Rattle.frame.specs.Unless.{unless}
 use Rattle.passes.specs.declared.Fault.TheVariants.{Duplicate, Full, Range}
-use Rattle.passes.specs.declared.Answer.{Answer}
+use Rattle.passes.specs.Answers.{Answer}
 use Rattle.passes.specs.declared.Totals.{Totals}
-use Rattle.passes.specs.declared.Answer.TheVariants as answers
+use Rattle.passes.specs.Answers as answers
 use Rattle.figures.specs.declared.Figures.{Figures}
 use Rattle.figures.specs.Figures.{plus, all_of, fits}
 use Rattle.figures.proofs.Laws.{both}
 use Rattle.letters.specs.Letters.{letters_of}
 use Rattle.net.specs.Net.{within}
 use Rattle.book_model.specs.declared.Entry.{Entry}
-use Rattle.book_model.specs.declared.Entering.{Entering}
-use Rattle.book_model.specs.declared.Entering.TheVariants.{Entered, Refused}
+use Rattle.book_model.specs.Entering.{Entering}
+use Rattle.book_model.specs.Entering.{Entered, Refused}
 use Rattle.book_model.specs.PlainList.{Own, Free, totals_of, position_of, is_taken, entries_on, keeps_range, has_room, entering, after_entering}
 use Rattle.book_model.specs.Table.{is_owner, last_number, running_totals, entries_of, free_rows, free_places, taken_by, free_in, with_entries, with_taken}
 use Rattle.book_model.specs.Calls.{book_after, list_after}
@@ -37,7 +38,7 @@ pub entering-alike : (a b : Own) (free : Free) (m : ℕ) (letters : List Figures
     → totals_of a.entries ≡ totals_of b.entries → a.last ≡ b.last → a.taken ≡ b.taken
     → entering a free m letters answer ≡ entering b free m letters answer
 unfolding entering keeps_range has_room
-entering-alike a b free m letters (answers.Refused fault place offset) p q r = refl
+entering-alike a b free m letters (Err r') p q r = refl
 entering-alike a b free m letters (answers.Accepted t) p q r = rw (p, q, r)
 
 -- a file that is entered has room, and keeps the net position within its bound
@@ -49,7 +50,7 @@ record Fits (own : Own) (free : Free) (letters : List Figures) : Type 0 where
 entered-fits : (own : Own) (free : Free) (m : ℕ) (letters : List Figures) (answer : Answer) (first : ℕ) (t : Totals)
     → entering own free m letters answer ≡ Entered first t → Fits own free letters
 unfolding entering keeps_range has_room
-entered-fits own free m letters (answers.Refused fault place offset) first t e = absurd (let z : ◌≡◌ {A = ℕ} 0 1 = cc in omega arith)
+entered-fits own free m letters (Err r) first t e = absurd (let z : ◌≡◌ {A = ℕ} 0 1 = cc in omega arith)
 entered-fits own free m letters (answers.Accepted u) first t e =
     by_tests (is_taken m own.taken) (keeps_range own letters) refl (has_room own free letters) refl e
   where
@@ -133,6 +134,6 @@ module _ (o : ℕ) (who : is_owner o ≡ true) (l : Lent) (good : Good l) (own :
 
   pub after-answer : (file : List ℕ) (m : ℕ) (answer : Answer) (a : Entering) → entering own (free_in l.book l.list) m (letters_of file) answer ≡ a
       → Called o l (record { book = book_after file m o l.book a; list = list_after m o l.list a }) own (after_entering own m (letters_of file) a)
-  after-answer file m answer (Refused fault place offset) e = unchanged o l own good h
+  after-answer file m answer (Err r) e = unchanged o l own good h
   after-answer file m answer (Entered first t) e =
       enters m (letters_of file) (entered-fits own (free_in l.book l.list) m (letters_of file) answer first t e)

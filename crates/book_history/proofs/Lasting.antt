@@ -6,11 +6,12 @@ use mathlib.Core.Path.{◌≡◌, refl, sym, ◌∙◌}
 use mathlib.Core.List.{List, [], ◌∷◌, ◌++◌}
 use lib.Dec.{eqb}
 use borrow.Author.Tests.{eqb-true}
+use Rattle.std.specs.Prelude.{Err}
 use Rattle.figures.proofs.Laws.{both}
 use Rattle.letters.specs.Letters.{letters_of}
 use Rattle.book_model.specs.declared.Entry.{Entry}
-use Rattle.book_model.specs.declared.Entering.{Entering}
-use Rattle.book_model.specs.declared.Entering.TheVariants.{Entered, Refused}
+use Rattle.book_model.specs.Entering.{Entering}
+use Rattle.book_model.specs.Entering.{Entered, Refused}
 use Rattle.book_model.specs.declared.Finding.TheVariants.{Found}
 use Rattle.book_model.specs.declared.Change.{Change}
 use Rattle.book_model.specs.declared.Change.TheVariants as changes
@@ -68,7 +69,7 @@ module _ (m : ℕ) (e : Entry) where
   call-finds o p (enter file k table) kept mine own free h = by_answer (entering_on own free file k table)
     where
       by_answer : (a : Entering) → Finds (after_entering own k (letters_of file) a)
-      by_answer (Refused fault place offset) = h
+      by_answer (Err r) = h
       by_answer (Entered first t) = found-again own.entries (entries_on own.last k (letters_of file)) m e h
   call-finds o p (find k) kept mine own free h = h
   call-finds o p totals kept mine own free h = h
@@ -103,7 +104,7 @@ module _ (m : ℕ) where
   call-gone (enter file k table) own free h = by_answer (entering_on own free file k table)
     where
       by_answer : (a : Entering) → Gone (after_entering own k (letters_of file) a)
-      by_answer (Refused fault place offset) = h
+      by_answer (Err r) = h
       by_answer (Entered first t) =
           (omega arith, merged-found m (behind own.entries (entries_on own.last k (letters_of file))) h.1 ∙ none_below m k own.last (letters_of file) h.0)
   call-gone (find k) own free h = h
@@ -131,7 +132,7 @@ module _ (m : ℕ) where
   call-takes (enter file k table) own free h = by_answer (entering_on own free file k table)
     where
       by_answer : (a : Entering) → Takes (after_entering own k (letters_of file) a)
-      by_answer (Refused fault place offset) = h
+      by_answer (Err r) = h
       by_answer (Entered first t) = taken-again own.taken (k ∷ []) h
   call-takes (find k) own free h = h
   call-takes totals own free h = h

@@ -3,7 +3,7 @@ use Prim.Native.Nat.{ℕ}
 use mathlib.Core.List.{List}
 use mathlib.Core.Path.{◌≡◌, refl}
 use Rattle.passes.specs.declared.Fault.{Fault}
-use Rattle.book_model.specs.declared.Entering.TheVariants.{Refused}
+use Rattle.book_model.specs.Entering.{Refused}
 use Rattle.book_model.specs.Calls.{rows_after, book_after, list_after}
 
 pub rows_stay : (file table : List ℕ) (fault : Fault) (place offset : ℕ) → rows_after file table (Refused fault place offset) ≡ table

@@ -1,11 +1,11 @@
 -- What each call on a lent table answers, and what it leaves: on any table, grown from an empty one or not.
-use Rattle.std.specs.Prelude.{ℕ, ◌&&◌, List}
+use Rattle.std.specs.Prelude.{ℕ, ◌&&◌, List, Err}
 use Rattle.frame.specs.Unless.{unless}
 use Rattle.passes.specs.declared.Fault.TheVariants.{Book, NoEntry}
 use Rattle.passes.specs.Reading.{answer_of, table_of}
 use Rattle.letters.specs.Letters.{letters_of}
-use Rattle.book_model.specs.declared.Entering.{Entering}
-use Rattle.book_model.specs.declared.Entering.TheVariants.{Entered, Refused}
+use Rattle.book_model.specs.Entering.{Entering}
+use Rattle.book_model.specs.Entering.{Entered, Refused}
 use Rattle.book_model.specs.declared.Finding.{Finding}
 use Rattle.book_model.specs.declared.Tally.{Tally}
 use Rattle.book_model.specs.declared.Change.{Change}
@@ -26,15 +26,15 @@ enter_answer file m o table_length book list =
 -- "Refusals, all leaving book and row table unchanged"; else the rows of the file, the book with its letters, and the list with its number
 abbrev pub rows_after : List ℕ → List ℕ → Entering → List ℕ
 rows_after file table (Entered first t) = table_of file table
-rows_after file table (Refused fault place offset) = table
+rows_after file table (Err r) = table
 
 abbrev pub book_after : List ℕ → ℕ → ℕ → List ℕ → Entering → List ℕ
 book_after file m o book (Entered first t) = with_entries o book (entries_on (last_number o book) m (letters_of file))
-book_after file m o book (Refused fault place offset) = book
+book_after file m o book (Err r) = book
 
 abbrev pub list_after : ℕ → ℕ → List ℕ → Entering → List ℕ
 list_after m o list (Entered first t) = with_taken o list m
-list_after m o list (Refused fault place offset) = list
+list_after m o list (Err r) = list
 
 -- the entry numbers and the running totals of the owner alone: "an entry number of the other owner is NOENTRY"
 unfoldable pub find_answer : List ℕ → ℕ → ℕ → Finding

@@ -1,19 +1,19 @@
 -- The day book as a plain list of entries for each owner (requests 6, 8, 9 and 10), and what each call answers on the owner's own list.
-use Rattle.std.specs.Prelude.{ℕ, ◌+◌, Bool, false, ◌&&◌, ◌||◌, not, cond, List, [], ◌∷◌, ◌++◌, leb, eqb, ℤ, length}
+use Rattle.std.specs.Prelude.{ℕ, ◌+◌, Bool, false, ◌&&◌, ◌||◌, not, cond, List, [], ◌∷◌, ◌++◌, leb, eqb, ℤ, length, Err}
 use Rattle.frame.specs.Unless.{unless}
 use Rattle.figures.specs.declared.Figures.{Figures}
 use Rattle.figures.specs.Figures.{no_figures, plus, all_of, fits}
 use Rattle.net.specs.Net.{net_of, within}
 use Rattle.passes.specs.declared.Fault.TheVariants.{Duplicate, Full, NoEntry, Range}
-use Rattle.passes.specs.declared.Answer.{Answer}
+use Rattle.passes.specs.Answers.{Answer}
 use Rattle.book_model.specs.declared.Entry.{Entry}
-use Rattle.book_model.specs.declared.Entering.{Entering}
-use Rattle.book_model.specs.declared.Entering.TheVariants.{Entered, Refused}
+use Rattle.book_model.specs.Entering.{Entering}
+use Rattle.book_model.specs.Entering.{Entered, Refused}
 use Rattle.book_model.specs.declared.Finding.{Finding}
 use Rattle.book_model.specs.declared.Tally.{Tally}
 use Rattle.book_model.specs.declared.Change.{Change}
 use Rattle.book_model.specs.declared.Change.TheVariants.{Done}
-use Rattle.passes.specs.declared.Answer.TheVariants as answers
+use Rattle.passes.specs.Answers as answers
 use Rattle.book_model.specs.declared.Finding.TheVariants as findings
 use Rattle.book_model.specs.declared.Tally.TheVariants as tallies
 use Rattle.book_model.specs.declared.Change.TheVariants as changes
@@ -65,14 +65,14 @@ has_room own free letters =
 -- Entering a file where so much is free, by the reader's answer to it and its letters' figures: the reader's own refusals, DUPLICATE, RANGE, FULL; else the
 -- first number given and the totals of the file.
 unfoldable pub entering : Own → Free → ℕ → List Figures → Answer → Entering
-entering own free m letters (answers.Refused fault place offset) = Refused fault place offset
+entering own free m letters (Err r) = Refused r.fault r.place r.offset
 entering own free m letters (answers.Accepted t) =
     unless (not (is_taken m own.taken)) (Refused Duplicate 0 0)
     (unless (keeps_range own letters) (Refused Range 0 0) (unless (has_room own free letters) (Refused Full 0 0) (Entered (own.last + 1) t)))
 
 -- what it leaves: entries once made stand as they were
 abbrev pub after_entering : Own → ℕ → List Figures → Entering → Own
-after_entering own m letters (Refused fault place offset) = own
+after_entering own m letters (Err r) = own
 after_entering own m letters (Entered first t) =
     record { entries = own.entries ++ entries_on own.last m letters; last = own.last + length letters; taken = own.taken ++ (m ∷ []) }
 

@@ -26,7 +26,7 @@ use Rattle.layout.specs.declared.packing.Origin.TheVariants.{Given, TypeNumber, 
 use Rattle.layout.specs.Layout.{Line, Layout, Sized, sized_parts}
 use Rattle.layout.specs.Layouts.{layouts}
 use Rattle.layout.specs.Packing.{origin_of}
-use Rattle.judge.specs.declared.Judged.TheVariants.{Sound}
+use Rattle.judge.specs.Alone.{Sound}
 use Rattle.judge.specs.Alone.{line_holds, first_wrong, stated_size, stated_sizes, first_wrong_part, is_variable, unless_field, judged, alone, type_of, among_layouts, judged_as}
 use Rattle.judge.proofs.Laws.{both_true}
 use Rattle.order.specs.MayFollow.{is_one_of, is_carried}

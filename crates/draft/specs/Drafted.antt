@@ -1,5 +1,5 @@
 -- What becomes of a draft (request 4, reading 43): the answer, and the file.
-use Rattle.std.specs.Prelude.{ℕ, ◌+◌, min, Bool, true, false, cond, List, [], ◌∷◌, ◌++◌, leb, eqb, length, drop}
+use Rattle.std.specs.Prelude.{ℕ, ◌+◌, min, Bool, true, false, cond, List, [], ◌∷◌, ◌++◌, leb, eqb, length, drop, Err}
 use Rattle.text.specs.declared.character_set.CharacterSet.TheVariants.{Ascii}
 use Rattle.frame.specs.Unless.{unless}
 use Rattle.layout.specs.Layout.{sized_parts}
@@ -11,13 +11,13 @@ use Rattle.standing.specs.declared.Standing.{Standing}
 use Rattle.passes.specs.declared.Fault.{Fault}
 use Rattle.passes.specs.declared.Fault.TheVariants.{Size, Room, Place, Field}
 use Rattle.passes.specs.declared.Totals.{Totals}
-use Rattle.passes.specs.declared.Turn.{Turn}
-use Rattle.passes.specs.declared.Turn.TheVariants.{Faulty, Good}
+use Rattle.passes.specs.Answers.{Turn}
+use Rattle.passes.specs.Answers.{Faulty, Good}
 use Rattle.passes.specs.CheckOrder.{agreement}
 use Rattle.passes.specs.Reading.{totals_of}
 use Rattle.file_as_records.specs.Framed.{framed}
-use Rattle.draft.specs.declared.Outcome.{Outcome}
-use Rattle.draft.specs.declared.Outcome.TheVariants.{Written, Refused}
+use Rattle.draft.specs.Outcomes.{Outcome}
+use Rattle.draft.specs.Outcomes.{Written, Refused}
 use Rattle.draft.specs.Values.{Values, layout_of, values_of_draft}
 use Rattle.draft.specs.Completed.{addenda_behind, completed, first_unfit, first_unfit_part, lower}
 
@@ -79,7 +79,7 @@ answer_from (v ∷ vs) file past =
 -- then SIZE (0, 0, 0), where the file would pass 268,435,456 bytes; then ROOM, with the bytes needed as the record (reading 43)
 abbrev pub in_room : ℕ → Outcome → Outcome
 in_room room (Written n totals) = unless (leb n 268_435_456) (Refused Size 0 0) (unless (leb n room) (Refused Room n 0) (Written n totals))
-in_room room (Refused fault place offset) = Refused fault place offset
+in_room room (Err r) = Err r
 
 unfoldable pub outcome_of : List Values → ℕ → Outcome
 outcome_of vs room = in_room room (answer_from vs [] [])
@@ -87,7 +87,7 @@ outcome_of vs room = in_room room (answer_from vs [] [])
 -- on a refusal the buffer is as it was, and on success so are its bytes behind the file (reading 43)
 abbrev pub buffer_after : Outcome → List ℕ → List ℕ → List ℕ
 buffer_after (Written n totals) file out = file ++ drop n out
-buffer_after (Refused fault place offset) file out = out
+buffer_after (Err r) file out = out
 
 unfoldable pub buffer_of : List Values → List ℕ → List ℕ
 buffer_of vs out = buffer_after (outcome_of vs (length out)) (made vs) out

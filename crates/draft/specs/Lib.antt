@@ -1,3 +1,4 @@
+pub mod Outcomes
 pub mod Values
 pub mod Completed
 pub mod Drafted

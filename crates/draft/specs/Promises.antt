@@ -1,22 +1,22 @@
 -- What is promised of a draft that is made out (request 4, readings 43 and 44).
-use Rattle.std.specs.Prelude.{ℕ, ◌*◌, ◌≤◌, ◌<◌, Bool, true, ◌&&◌, List, [], ◌∷◌, ◌≡◌, eqb, length, take}
+use Rattle.std.specs.Prelude.{ℕ, ◌*◌, ◌≤◌, ◌<◌, Bool, true, ◌&&◌, List, [], ◌∷◌, ◌≡◌, eqb, length, take, Err}
 use Rattle.text.specs.CharacterSet.{set_of}
 use Rattle.text.specs.declared.character_set.CharacterSet.TheVariants.{Ascii}
 use Rattle.passes.specs.declared.Fault.{Fault}
 use Rattle.passes.specs.declared.Fault.TheVariants.{Size, Room, Cut, Length, UnknownType, Place, Field, Link, Total, Open, After, Duplicate, Full, NoEntry, Range, Nothing, Book}
 use Rattle.passes.specs.declared.Totals.{Totals}
-use Rattle.passes.specs.declared.Answer.{Answer}
+use Rattle.passes.specs.Answers.{Answer}
 use Rattle.passes.specs.Reading.{surveyed, answer_of}
 use Rattle.ascii_copy.specs.AsciiCopy.{ascii_copy}
 use Rattle.arrangement.specs.Tree.{File}
 use Rattle.arrangement.specs.Arranged.{Arranges}
 use Rattle.arrangement.specs.RowsAndTotals.{totals}
-use Rattle.draft.specs.declared.Outcome.{Outcome}
-use Rattle.draft.specs.declared.Outcome.TheVariants.{Written, Refused}
+use Rattle.draft.specs.Outcomes.{Outcome}
+use Rattle.draft.specs.Outcomes.{Written, Refused}
 use Rattle.draft.specs.Values.{Piece, Values, layout_of, values_of_draft, values_of}
 use Rattle.draft.specs.Completed.{addenda_behind, is_here, first_unfit}
 use Rattle.draft.specs.Drafted.{made, answer_from, in_room, outcome_of, buffer_of}
-use Rattle.passes.specs.declared.Answer.TheVariants as answers
+use Rattle.passes.specs.Answers as answers
 
 -- a file that is read, with rows enough, as what its maker was told it adds up to, and whose one arrangement (`Arranged`) has the given values
 pub record ReadBack (vs : List Values) (t : Totals) (file : List ℕ) : Type 0 where
@@ -60,7 +60,7 @@ as_place Book = Book
 
 abbrev pub as_drafted : ℕ → Answer → Outcome
 as_drafted n (answers.Accepted t) = Written n t
-as_drafted n (answers.Refused fault place offset) = Refused (as_place fault) place offset
+as_drafted n (Err r) = Refused (as_place r.fault) r.place r.offset
 
 pub record Promised (text draft out : List ℕ) (outcome : Outcome) (after : List ℕ) : Type 0 where
   -- "What it writes is accepted, and reading it gives back exactly the values it was given."

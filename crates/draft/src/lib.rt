@@ -1,12 +1,7 @@
 // What becomes of a draft.
 #![tactic(auto)]
 
-use passes::{Fault, Totals};
+use passes::{Refusal, Totals};
 
-#[derive(Clone, Copy)]
-pub enum Outcome {
-    // The bytes of the file, and what it adds up to.
-    Written(usize, Totals),
-    // The fault, the record (from 1), and the offset that its length field would have.
-    Refused(Fault, u64, usize),
-}
+// The bytes of the file and what it adds up to, or the fault, the record (from 1) and the offset that its length field would have.
+pub type Outcome = Result<(usize, Totals), Refusal>;

@@ -20,10 +20,10 @@ use Rattle.standing.proofs.Laws.{figures-stopped, roomy}
 use Rattle.passes.specs.declared.Fault.{Fault}
 use Rattle.passes.specs.declared.Fault.TheVariants.{Place, Field}
 use Rattle.passes.specs.declared.Totals.{Totals}
-use Rattle.passes.specs.declared.Turn.{Turn}
-use Rattle.passes.specs.declared.Turn.TheVariants.{Faulty, Good}
+use Rattle.passes.specs.Answers.{Turn}
+use Rattle.passes.specs.Answers.{Faulty, Good}
 use Rattle.alike.proofs.Figures.{placed}
-use Rattle.draft.specs.declared.Outcome.TheVariants.{Written, Refused}
+use Rattle.draft.specs.Outcomes.{Written, Refused}
 use Rattle.draft.specs.Owned.{Owned}
 use Rattle.draft.specs.Values.{Values, layout_of, values_at, values_of_row, values_of_rows, set_of_text, values_of_draft}
 use Rattle.draft.specs.Completed.{addenda_behind, all_sizes, first_unfit_part}

@@ -21,8 +21,8 @@ use Rattle.agree.specs.Links.{link_fault}
 use Rattle.agree.specs.Totals.{total_fault}
 use Rattle.passes.specs.declared.Fault.{Fault}
 use Rattle.passes.specs.declared.Fault.TheVariants.{Place, Field, Link, Total}
-use Rattle.passes.specs.declared.Turn.{Turn}
-use Rattle.passes.specs.declared.Turn.TheVariants.{Faulty, Good}
+use Rattle.passes.specs.Answers.{Turn}
+use Rattle.passes.specs.Answers.{Faulty, Good}
 use Rattle.passes.specs.CheckOrder.{agreement}
 use Rattle.draft.specs.Values.{Values, layout_of, values_at, values_of_row, values_of_rows}
 use Rattle.draft.specs.Completed.{addenda_behind, fixed_part, all_parts, completed, first_unfit, first_unfit_part, lower}

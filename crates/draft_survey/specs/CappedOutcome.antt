@@ -1,8 +1,9 @@
 -- The answer to a draft as 64 bits hold it: a file of more bytes than they count is refused all the same (SIZE). Nothing of this has to be believed.
-use Rattle.draft.specs.declared.Outcome.{Outcome}
-use Rattle.draft.specs.declared.Outcome.TheVariants.{Written, Refused}
+use Rattle.std.specs.Prelude.{Err}
+use Rattle.draft.specs.Outcomes.{Outcome}
+use Rattle.draft.specs.Outcomes.{Written, Refused}
 use Rattle.draft.specs.Drafted.{offset_of}
 
 abbrev pub capped_outcome : Outcome → Outcome
 capped_outcome (Written n totals) = Written (offset_of n) totals
-capped_outcome (Refused fault place offset) = Refused fault place offset
+capped_outcome (Err r) = Err r

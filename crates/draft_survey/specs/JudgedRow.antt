@@ -5,8 +5,8 @@ use Rattle.text.specs.declared.character_set.CharacterSet.TheVariants.{Ascii}
 use Rattle.standing.specs.History.{Entry}
 use Rattle.standing.specs.Standing.{standing, onward, capped_figures}
 use Rattle.standing.specs.declared.Standing.{Standing}
-use Rattle.passes.specs.declared.Turn.{Turn}
-use Rattle.passes.specs.declared.Turn.TheVariants.{Good}
+use Rattle.passes.specs.Answers.{Turn}
+use Rattle.passes.specs.Answers.{Good}
 use Rattle.draft.specs.Values.{Values}
 use Rattle.draft.specs.Drafted.{file_with, past_with, turn_of_row}
 use Rattle.sheet.specs.Sheet.{slot_of, OnSheet}

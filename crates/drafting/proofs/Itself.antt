@@ -17,7 +17,7 @@ use Rattle.text.specs.DataTypes.{every}
 use Rattle.frame.specs.Frames.{part}
 use Rattle.layout.specs.Layout.{Line, Sized, sized_parts}
 use Rattle.layout.specs.Layouts.{bundle_control}
-use Rattle.judge.specs.declared.Judged.TheVariants.{Sound}
+use Rattle.judge.specs.Alone.{Sound}
 use Rattle.judge.specs.Alone.{type_of, stated_size, stated_sizes, alone}
 use Rattle.judge.proofs.Laws.{both_true, sound-fills}
 use Rattle.standing.specs.History.{one}

@@ -9,13 +9,14 @@ use borrow.Author.Tests.{le-leb, lt-leb}
 use lib.Dec.{leb, eqb}
 use lib.ListN.{length, drop, length-append}
 use lib.Seq.{sets, length-sets}
+use Rattle.std.specs.Prelude.{Some}
 use Rattle.text.specs.CharacterSet.{set_of}
 use Rattle.text.specs.declared.character_set.CharacterSet.{CharacterSet}
 use Rattle.text.specs.Characters.{is_blank}
 use Rattle.text.specs.DataTypes.{every}
 use Rattle.frame.specs.Frames.{part, frame_at}
-use Rattle.frame.specs.declared.Frame.{Frame}
-use Rattle.frame.specs.declared.Frame.TheVariants.{Cut, Whole}
+use Rattle.frame.specs.Frames.{Frame}
+use Rattle.frame.specs.Frames.{Cut, Whole}
 use Rattle.frame.proofs.Laws.{whole-within, whole-start}
 use Rattle.layout.specs.Layout.{sized_parts}
 use Rattle.layout.specs.Layouts.{bundle_control}
@@ -74,14 +75,14 @@ counted-from set (suc n) file at past = by (leb (length file) at) (frame_at file
         ≡ 10 * length (cond ended [] (reader.row_and set file at past f (λ next newer. reader.rows_from set n file next newer)))
     by true f others = refl
     by false Cut others = refl
-    by false (Whole start size) others =
-        let body = part start size file in
-        let newer = entry (type_of set body) at size ∷ past in
+    by false (Some x) others =
+        let body = part x.start x.size file in
+        let newer = entry (type_of set body) at x.size ∷ past in
         omega (
           arith,
-          others (start + size) newer,
-          length-append (row_of set body start) (rows_from set n file (start + size)),
-          row-long set body start,
+          others (x.start + x.size) newer,
+          length-append (row_of set body x.start) (rows_from set n file (x.start + x.size)),
+          row-long set body x.start,
         )
 
 pub counted : (file : List ℕ) (records : ℕ) → length (reader.rows_of file) ≡ 7 * records → length (draft_rows_of file) ≡ 10 * records

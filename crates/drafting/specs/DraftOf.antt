@@ -1,19 +1,19 @@
 -- The draft of an accepted file, the file itself being the text (request 4, readings 41 and 45).
-use Rattle.std.specs.Prelude.{ℕ, zero, suc, ◌+◌, ◌*◌, ◌/◌, ◌&&◌, cond, List, [], ◌∷◌, ◌++◌, map, ◌≡◌, leb, eqb, length, take}
+use Rattle.std.specs.Prelude.{ℕ, zero, suc, ◌+◌, ◌*◌, ◌/◌, ◌&&◌, cond, List, [], ◌∷◌, ◌++◌, map, ◌≡◌, leb, eqb, length, take, Some}
 use Rattle.text.specs.CharacterSet.{set_of}
 use Rattle.text.specs.declared.character_set.CharacterSet.{CharacterSet}
 use Rattle.text.specs.Characters.{is_blank}
 use Rattle.text.specs.DataTypes.{every}
-use Rattle.frame.specs.declared.Frame.{Frame}
-use Rattle.frame.specs.declared.Frame.TheVariants.{Cut, Whole}
+use Rattle.frame.specs.Frames.{Frame}
+use Rattle.frame.specs.Frames.{Cut, Whole}
 use Rattle.frame.specs.Frames.{part, frame_at}
 use Rattle.layout.specs.Layout.{Sized, sized_parts}
 use Rattle.layout.specs.Layouts.{bundle_control}
 use Rattle.judge.specs.Alone.{type_of, stated_size}
 use Rattle.standing.specs.History.{one}
 use Rattle.passes.specs.declared.Totals.{Totals}
-use Rattle.passes.specs.declared.Answer.{Answer}
-use Rattle.passes.specs.declared.Answer.TheVariants.{Accepted}
+use Rattle.passes.specs.Answers.{Answer}
+use Rattle.passes.specs.Answers.{Accepted}
 use Rattle.passes.specs.Reading.{surveyed, in_room, table_after}
 use Rattle.file_as_records.specs.Framed.{field_of}
 use Rattle.arrangement.specs.Tree.{File}
@@ -32,7 +32,7 @@ row_of set body start =
 
 abbrev pub row_and : CharacterSet → List ℕ → Frame → (ℕ → List ℕ) → List ℕ
 row_and set file Cut others = []
-row_and set file (Whole start size) others = row_of set (part start size file) start ++ others (start + size)
+row_and set file (Some x) others = row_of set (part x.start x.size file) x.start ++ others (x.start + x.size)
 
 -- the rows of the records that the lengths frame from an offset on, n at most
 unfoldable pub rows_from : CharacterSet → ℕ → List ℕ → ℕ → List ℕ

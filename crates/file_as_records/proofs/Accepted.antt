@@ -11,16 +11,16 @@ use borrow.Author.Tests.{leb-true, leb-false, eqb-true}
 use Rattle.text.specs.CharacterSet.{set_of}
 use Rattle.text.specs.declared.character_set.CharacterSet.{CharacterSet}
 use Rattle.frame.specs.Frames.{part, frame_at}
-use Rattle.frame.specs.declared.Frame.TheVariants.{Whole}
+use Rattle.frame.specs.Frames.{Whole}
 use Rattle.frame.proofs.Laws.{whole-within, whole-start, whole-size}
 use Rattle.judge.specs.Alone.{type_of}
 use Rattle.standing.specs.Standing.{standing}
 use Rattle.passes.specs.declared.Fault.TheVariants.{Open, Size}
 use Rattle.passes.specs.declared.Totals.{Totals}
-use Rattle.passes.specs.declared.Step.{Step}
-use Rattle.passes.specs.declared.Step.TheVariants.{Stop, On}
-use Rattle.passes.specs.declared.Answer.{Answer}
-use Rattle.passes.specs.declared.Answer.TheVariants.{Accepted, Refused}
+use Rattle.passes.specs.Answers.{Step}
+use Rattle.passes.specs.Answers.{Stop, On}
+use Rattle.passes.specs.Answers.{Answer}
+use Rattle.passes.specs.Answers.{Accepted, Refused}
 use Rattle.passes.specs.Rows.{rows_of}
 use Rattle.passes.specs.Reading.{step_of, ended_with, run, surveyed}
 use Rattle.passes.proofs.Laws.{run_end, run-stop, run_on}

@@ -14,7 +14,7 @@ use Rattle.text.specs.Number.{number}
 use Rattle.frame.specs.Frames.{part}
 use Rattle.layout.specs.Layout.{Line, Layout, sized_parts}
 use Rattle.layout.specs.Layouts.{cash_letter_header, check_detail, return_record, image_view_detail, credit_record}
-use Rattle.judge.specs.declared.Judged.TheVariants.{Sound}
+use Rattle.judge.specs.Alone.{Sound}
 use Rattle.judge.specs.Alone.{type_of, judged_as, alone}
 use Rattle.judge.proofs.Laws.{sound-fills}
 use Rattle.measure.specs.Measures.{sums, no_sums, together, cents}

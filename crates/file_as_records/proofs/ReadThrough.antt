@@ -9,13 +9,13 @@ use borrow.Author.Tests.{le-leb, eq-eqb}
 use Rattle.text.specs.CharacterSet.{set_of}
 use Rattle.text.specs.declared.character_set.CharacterSet.{CharacterSet}
 use Rattle.frame.specs.Frames.{part, length_in, length_at, frame_at}
-use Rattle.frame.specs.declared.Frame.TheVariants.{Whole}
+use Rattle.frame.specs.Frames.{Whole}
 use Rattle.frame.proofs.Laws.{whole}
 use Rattle.judge.specs.Alone.{type_of}
 use Rattle.standing.specs.Standing.{standing}
 use Rattle.standing.specs.declared.Standing.{Standing}
-use Rattle.passes.specs.declared.Step.TheVariants.{On}
-use Rattle.passes.specs.declared.Answer.TheVariants.{Accepted}
+use Rattle.passes.specs.Answers.{On}
+use Rattle.passes.specs.Answers.{Accepted}
 use Rattle.passes.specs.Rows.{row_of, rows_from, rows_of}
 use Rattle.passes.specs.Reading.{of_turn, step_of, ended_with, run, surveyed}
 use Rattle.passes.proofs.Laws.{run_end, run_on, rows_end, rows_on}

@@ -31,7 +31,7 @@ use Rattle.file_as_records.proofs.LinksByName.{links-out, links-in}
 use Rattle.file_as_records.proofs.TotalsByName.{totals-out, totals-in}
 use Rattle.agree.specs.Links as links
 use Rattle.agree.specs.Totals as totals
-use Rattle.passes.specs.declared.Turn.TheVariants as turns
+use Rattle.passes.specs.Answers as turns
 
 -- the first failing check is none exactly where all of them hold: no check faults a field 0
 abbrev numbered : List Check → Bool

@@ -9,8 +9,8 @@ use lib.Dec.{leb}
 use mathlib.Core.Bool.{Bool, true, false}
 use lib.ListN.{length, take, drop, drop_of_length-le, length-drop}
 use lib.Seq.{take_all, take-nil}
-use Rattle.frame.specs.Frames.{part, length_in, length_at, frame_at}
-use Rattle.frame.specs.declared.Frame.TheVariants.{Cut, Whole}
+use Rattle.std.specs.Prelude.{Some, None}
+use Rattle.frame.specs.Frames.{Frame, part, length_at, frame_at, Cut, Whole}
 use Rattle.frame.specs.Unless.{unless}
 
 module _ (xs : List ℕ) (start size : ℕ) where
@@ -43,9 +43,22 @@ module _ (file : List ℕ) (offset : ℕ) where
   unfolding frame_at
   whole l = rw (le-leb (offset + 4) (length file) (omega arith), le-leb _ _ l)
 
+start_in : Frame → ℕ
+start_in (Some x) = x.start
+start_in None = 0
+
+size_in : Frame → ℕ
+size_in (Some x) = x.size
+size_in None = 0
+
+-- a frame has one start and one size
+pub whole-alike : {start size s n : ℕ} → Whole start size ≡ Whole s n → (start ≡ s) × (size ≡ n)
+unfolding start_in size_in
+whole-alike e = (ap start_in e, ap size_in e)
+
 both-tests : (t u : Bool) {start size s n : ℕ} → unless t Cut (unless u Cut (Whole start size)) ≡ Whole s n
     → (u ≡ true) × (start ≡ s) × (size ≡ n)
-both-tests true true e = (refl, (cc), (cc))
+both-tests true true e = let w = whole-alike e in (refl, w.0, w.1)
 both-tests true false e = ((cc), (cc), (cc))
 both-tests false u e = ((cc), (cc), (cc))
 

@@ -1,8 +1,18 @@
 -- Annex D: before each record stands a four-byte length, high byte first, which does not count itself.
-use Rattle.std.specs.Prelude.{ℕ, ◌+◌, ◌-◌, ◌*◌, Bool, true, false, List, leb, length, get_or, take, drop}
-use Rattle.frame.specs.declared.Frame.{Frame}
-use Rattle.frame.specs.declared.Frame.TheVariants.{Cut, Whole}
+use Rattle.std.specs.Prelude.{ℕ, ◌+◌, ◌*◌, List, leb, length, get_or, take, drop, Some, None}
+use Rattle.std.specs.declared.option.Option.{Option}
+use Rattle.frame.specs.declared.Extent.{Extent}
 use Rattle.frame.specs.Unless.{unless}
+
+-- what stands at an offset: a record whose body starts at a place and is so long, or none that is whole
+abbrev pub Frame : Type 0
+Frame = Option Extent
+
+pattern abbrev pub Cut : Frame
+Cut = None
+
+abbrev pub Whole : ℕ → ℕ → Frame
+Whole start size = Some (record { start = start; size = size })
 
 -- bytes of a list from a place on, as far as there are any
 abbrev pub part : ℕ → ℕ → List ℕ → List ℕ

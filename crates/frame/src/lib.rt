@@ -4,14 +4,15 @@
 ghost use Rattle.std.specs.Prelude.{◌≡◌, ◌+◌, ◌≤◌, length, get_or, drop};
 ghost use Rattle.frame.specs.Frames.{part, length_in, frame_at};
 
-// What stands at a length field's offset.
+// Where a record's body starts in the file, and how long it is.
 #[derive(Clone, Copy)]
-pub enum Frame {
-    // Fewer than four bytes are left, or fewer than the length says.
-    Cut,
-    // The record's body starts here and is this long.
-    Whole(usize, usize),
+pub struct Extent {
+    pub start: usize,
+    pub size: usize,
 }
+
+// What stands at a length field's offset: nothing where fewer than four bytes are left, or fewer than the length says.
+pub type Frame = Option<Extent>;
 
 // A place in a file where a length field is to stand.
 #[derive(Clone, Copy)]
@@ -72,16 +73,19 @@ impl Cursor {
     {
         let offset = self.offset;
         if file.len() < 4 {
-            return Frame::Cut;
+            return None;
         }
         if file.len() - 4 < offset {
-            return Frame::Cut;
+            return None;
         }
         let length = length_in(&file[offset..]);
         let start = offset + 4;
         if file.len() - start < length {
-            return Frame::Cut;
+            return None;
         }
-        Frame::Whole(start, length)
+        Some(Extent {
+            start,
+            size: length,
+        })
     }
 }

@@ -15,8 +15,8 @@ use Rattle.layout.specs.Layouts.{layouts}
 use Rattle.layout.specs.Packing.{Block, block_of, block_in, blocks_in, type_in, long_in, fields_in, parts_in, lines_in, lines_from, sized_from, is_whole, are_whole, own_in, lies_within, Packed}
 use Rattle.judge.specs.Alone.{judged, among_layouts, judged_as}
 use Rattle.judge.specs.ByNumbers.{by_block, by_own}
-use Rattle.judge.specs.declared.Judged.{Judged}
-use Rattle.judge.specs.declared.Judged.TheVariants.{UnknownType}
+use Rattle.judge.specs.Alone.{Judged}
+use Rattle.judge.specs.Alone.{UnknownType}
 use Rattle.judge.proofs.Laws.{both_true}
 
 -- a record judged by the first block of its type

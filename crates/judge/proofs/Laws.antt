@@ -21,8 +21,8 @@ use Rattle.layout.specs.Layout.{Sized, sized_parts, Line}
 use Rattle.judge.specs.Alone.{line_holds, first_wrong, stated_size, stated_sizes, first_wrong_part, is_variable, judged, alone}
 use Rattle.layout.specs.Layouts.{image_view_data}
 use Rattle.judge.specs.Image.{image_start, image_size}
-use Rattle.judge.specs.declared.Judged.{Judged}
-use Rattle.judge.specs.declared.Judged.TheVariants.{Sound, WrongLength, WrongField}
+use Rattle.judge.specs.Alone.{Judged}
+use Rattle.judge.specs.Alone.{Sound, WrongLength, WrongField}
 use Rattle.layout.specs.Packing.{line_of, lines_from, lies_within, sized_of, sized_from}
 use Rattle.frame.specs.Unless.{unless}
 

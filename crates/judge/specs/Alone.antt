@@ -1,5 +1,6 @@
 -- One record alone (document 01, "Order"): what is judged of a record's body without looking at any other record.
-use Rattle.std.specs.Prelude.{ℕ, ◌+◌, ◌-◌, Bool, true, false, cond, ◌&&◌, ◌||◌, List, [], ◌∷◌, leb, eqb, length, take, drop}
+use Rattle.std.specs.Prelude.{ℕ, ◌+◌, ◌-◌, Bool, true, false, cond, ◌&&◌, ◌||◌, List, [], ◌∷◌, leb, eqb, length, take, drop, ⊤, Ok, Err}
+use Rattle.std.specs.declared.result.Result.{Result}
 use Rattle.text.specs.declared.character_set.CharacterSet.{CharacterSet}
 use Rattle.text.specs.declared.data_types.DataType.{DataType}
 use Rattle.text.specs.Characters.{is_numeric}
@@ -9,9 +10,25 @@ use Rattle.field.specs.Rules.{holds}
 use Rattle.frame.specs.Frames.{part}
 use Rattle.layout.specs.Layout.{Line, Layout, Sized, sized_parts}
 use Rattle.layout.specs.Layouts.{layouts}
-use Rattle.judge.specs.declared.Judged.{Judged}
-use Rattle.judge.specs.declared.Judged.TheVariants.{Sound, WrongLength, UnknownType, WrongField}
+use Rattle.judge.specs.declared.Flaw.{Flaw}
+use Rattle.judge.specs.declared.Flaw.TheVariants as flaws
 use Rattle.frame.specs.Unless.{unless}
+
+-- what is found of a record alone: nothing wrong, or a flaw
+abbrev pub Judged : Type 0
+Judged = Result ⊤ Flaw
+
+pattern abbrev pub Sound : Judged
+Sound = Ok tt
+
+pattern abbrev pub WrongLength : Judged
+WrongLength = Err flaws.Length
+
+pattern abbrev pub UnknownType : Judged
+UnknownType = Err flaws.UnknownType
+
+pattern abbrev pub WrongField : ℕ → Judged
+WrongField n = Err (flaws.Field n)
 
 -- document 01's number of each answer, and its field
 abbrev pub number_of : Judged → ℕ

@@ -3,8 +3,8 @@ use Rattle.std.specs.Prelude.{List, [], ◌∷◌, ℕ}
 use Rattle.text.specs.declared.character_set.CharacterSet.{CharacterSet}
 use Rattle.layout.specs.Packing.{Block, block_in}
 use Rattle.judge.specs.Alone.{judged}
-use Rattle.judge.specs.declared.Judged.{Judged}
-use Rattle.judge.specs.declared.Judged.TheVariants.{UnknownType}
+use Rattle.judge.specs.Alone.{Judged}
+use Rattle.judge.specs.Alone.{UnknownType}
 
 abbrev pub by_block : CharacterSet → Block → List ℕ → Judged
 by_block set b body = judged set b.fixed_length b.lines b.parts body

@@ -1,50 +1,49 @@
 // One record alone: its length, its fixed fields, its stated sizes and its variable fields.
 #![tactic(auto)]
 
-ghost use Rattle.std.specs.Prelude.{◌≡◌, List, [], ℕ, ◌+◌, ◌-◌, ◌≤◌, min, eqb, length, take, drop, true};
+ghost use Rattle.std.specs.Prelude.{◌≡◌, List, [], ℕ, ◌+◌, ◌-◌, ◌≤◌, min, eqb, length, take, drop, true, Err};
 ghost use Rattle.judge.specs.Alone.{number_of, field_of, line_holds, first_wrong, stated_size, stated_sizes, first_wrong_part, judged, type_of, judged_as, judged_record, alone};
 ghost use Rattle.judge.specs.ByNumbers.{by_own};
 ghost use Rattle.judge.specs.Image.{image_start, image_size};
 ghost use Rattle.layout.specs.Layouts.{image_view_data};
-ghost use Rattle.judge.specs.declared.Judged.TheVariants.{Sound};
+ghost use Rattle.judge.specs.Alone.{Sound};
 ghost use Rattle.layout.specs.Packing.{Packed, is_whole, line_of, lines_from, sized_of, sized_from, lies_within};
 ghost use Rattle.text.specs.DataTypes.{every};
 
 use layout::ImageViewData;
 use text::CharacterSet;
 
-// What is found of a record alone.
+// What is wrong with a record alone.
 #[derive(Clone, Copy)]
-pub enum Judged {
-    Sound,
-    WrongLength,
+pub enum Flaw {
+    Length,
     UnknownType,
     // The number of the first field at fault.
-    WrongField(usize),
+    Field(usize),
 }
 
-impl Judged {
+// What is found of a record alone.
+pub type Judged = Result<(), Flaw>;
+
+impl Flaw {
     // Document 01's number for the answer.
     pub fn number(self) -> u64
-        ensures { result ≡ number_of self }
+        ensures { result ≡ number_of (Err self) }
     {
         match self {
-            Judged::Sound => 0,
-            Judged::WrongLength => 4,
-            Judged::UnknownType => 5,
-            Judged::WrongField(_) => 7,
+            Flaw::Length => 4,
+            Flaw::UnknownType => 5,
+            Flaw::Field(_) => 7,
         }
     }
 
     // The field at fault, 0 for the whole record.
     pub fn field(self) -> usize
-        ensures { result ≡ field_of self }
+        ensures { result ≡ field_of (Err self) }
     {
         match self {
-            Judged::Sound => 0,
-            Judged::WrongLength => 0,
-            Judged::UnknownType => 0,
-            Judged::WrongField(n) => n,
+            Flaw::Length | Flaw::UnknownType => 0,
+            Flaw::Field(n) => n,
         }
     }
 }
@@ -181,24 +180,24 @@ fn judge_body<'a>(
     ensures { result ≡ judged set fixed (lines_from 1 lines.now) (sized_from (length lines.now + 1) parts.now) body.now }
 {
     if body.len() < fixed {
-        return Judged::WrongLength;
+        return Err(Flaw::Length);
     }
     let left = body.len() - fixed;
     if (parts.len() == 0) & (fixed < body.len()) {
-        return Judged::WrongLength;
+        return Err(Flaw::Length);
     }
     let wrong = first_wrong(set, lines, body);
     if wrong != 0 {
-        return Judged::WrongField(wrong);
+        return Err(Flaw::Field(wrong));
     }
     if !sizes_fill(set, parts, body, left as u64) {
-        return Judged::WrongLength;
+        return Err(Flaw::Length);
     }
     let wrong_part = first_wrong_part(set, lines.len() + 1, parts, fixed, body);
     if wrong_part != 0 {
-        return Judged::WrongField(wrong_part);
+        return Err(Flaw::Field(wrong_part));
     }
-    Judged::Sound
+    Ok(())
 }
 
 // The type that a record's first two characters name, or 0.
@@ -221,7 +220,7 @@ fn judge_by<'a>(set: CharacterSet, own: &'a [u64], body: &'a [u8]) -> Judged
     ensures { result ≡ by_own set own.now body.now }
 {
     if own.len() == 0 {
-        return Judged::UnknownType;
+        return Err(Flaw::UnknownType);
     }
     let header = own[0];
     let end = layout::fields_in(header) + 1;
@@ -243,7 +242,7 @@ pub fn judge_record(set: CharacterSet, body: &[u8]) -> Judged
     ensures { result ≡ judged_record set body.now }
 {
     if body.len() < 2 {
-        return Judged::WrongLength;
+        return Err(Flaw::Length);
     }
     let layouts = layout::table();
     judge_as(set, &layouts, type_of(set, body), body)

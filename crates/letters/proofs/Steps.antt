@@ -10,7 +10,7 @@ use lib.ListN.{length}
 use borrow.Author.Tests.{le-leb, lt-leb, eq-eqb, ne_eqb}
 use Rattle.text.specs.declared.character_set.CharacterSet.{CharacterSet}
 use Rattle.frame.specs.Frames.{part, frame_at}
-use Rattle.frame.specs.declared.Frame.TheVariants.{Cut, Whole}
+use Rattle.frame.specs.Frames.{Cut, Whole}
 use Rattle.judge.specs.Alone.{type_of}
 use Rattle.measure.specs.Measures.{capped_sums}
 use Rattle.standing.specs.History.{Entry, entry}

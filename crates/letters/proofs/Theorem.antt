@@ -8,7 +8,7 @@ use Rattle.text.specs.CharacterSet.{set_of}
 use Rattle.text.specs.declared.character_set.CharacterSet.{CharacterSet}
 use Rattle.measure.specs.Measures.{sums}
 use Rattle.passes.specs.declared.Totals.{Totals}
-use Rattle.passes.specs.declared.Answer.TheVariants.{Accepted}
+use Rattle.passes.specs.Answers.{Accepted}
 use Rattle.passes.specs.Reading.{surveyed}
 use Rattle.figures.specs.Figures.{figures, plus, all_of}
 use Rattle.file_as_records.proofs.LengthFields.{Bytes}

@@ -13,7 +13,7 @@ use Rattle.decimal.specs.Digits.{digits, fits}
 use Rattle.frame.specs.Unless.{unless}
 use Rattle.layout.specs.Layout.{Layout, sized_parts}
 use Rattle.layout.specs.Layouts.{layouts}
-use Rattle.judge.specs.declared.Judged.TheVariants.{Sound, WrongField}
+use Rattle.judge.specs.Alone.{Sound, WrongField}
 use Rattle.judge.specs.Alone.{judged_as}
 use Rattle.order.specs.MayFollow.{outside, inside, table, in_table, follows, one_item_type, may_follow, is_one_of, is_carried}
 use Rattle.order.proofs.Pairs.{throughout, listed}
@@ -24,10 +24,10 @@ use Rattle.agree.specs.Links.{link_fault}
 use Rattle.agree.specs.Totals.{total_fault}
 use Rattle.passes.specs.declared.Fault.{Fault}
 use Rattle.passes.specs.declared.Fault.TheVariants.{UnknownType, Place, Field, Link, Total, After}
-use Rattle.passes.specs.declared.Turn.{Turn}
-use Rattle.passes.specs.declared.Turn.TheVariants.{Faulty, Good}
-use Rattle.passes.specs.declared.Step.{Step}
-use Rattle.passes.specs.declared.Step.TheVariants.{Stop, On}
+use Rattle.passes.specs.Answers.{Turn}
+use Rattle.passes.specs.Answers.{Faulty, Good}
+use Rattle.passes.specs.Answers.{Step}
+use Rattle.passes.specs.Answers.{Stop, On}
 use Rattle.passes.specs.CheckOrder.{unless_alone, agreement, turn_of}
 use Rattle.passes.specs.Reading.{of_turn, step_of}
 use Rattle.file_as_records.specs.Framed.{length_field, framed}

@@ -7,6 +7,7 @@ use mathlib.Core.Path.{◌≡◌, refl, sym, ap, ◌∙◌, subst}
 use lib.Dec.{eqb}
 use lib.ListN.{length, get_or, take, length-append}
 use borrow.Author.Tests.{le-leb, ne_eqb, eqb-true, eq-eqb}
+use Rattle.std.specs.Prelude.{Err}
 use Rattle.text.specs.CharacterSet.{set_of}
 use Rattle.text.specs.declared.character_set.CharacterSet.TheVariants.{Ascii}
 use Rattle.decimal.specs.Digits.{digits}
@@ -20,14 +21,14 @@ use Rattle.standing.proofs.Laws.{standing-records}
 use Rattle.passes.specs.declared.Fault.{Fault}
 use Rattle.passes.specs.declared.Fault.TheVariants.{Place, Field, Open}
 use Rattle.passes.specs.declared.Totals.{Totals}
-use Rattle.passes.specs.declared.Turn.{Turn}
-use Rattle.passes.specs.declared.Step.{Step}
-use Rattle.passes.specs.declared.Answer.{Answer}
+use Rattle.passes.specs.Answers.{Turn}
+use Rattle.passes.specs.Answers.{Step}
+use Rattle.passes.specs.Answers.{Answer}
 use Rattle.passes.specs.Reading.{totals_of, step_of, ended_with, ended, run, surveyed, answer_of}
 use Rattle.passes.proofs.Laws.{run_end, run-stop, run_on}
 use Rattle.file_as_records.specs.Framed.{framed}
 use Rattle.own_fault.proofs.SameReading.{ReadTo, start, on}
-use Rattle.draft.specs.declared.Outcome.TheVariants.{Written, Refused}
+use Rattle.draft.specs.Outcomes.{Written, Refused}
 use Rattle.draft.specs.Values.{Values, layout_of}
 use Rattle.draft.specs.Completed.{addenda_behind, first_unfit, first_unfit_part}
 use Rattle.draft.specs.Drafted.{body_of, file_with, past_with, completed_from, made, field_fault, turn_of_row, offset_of, after_turn, rows_ended, answer_from}
@@ -35,8 +36,8 @@ use Rattle.draft.specs.Promises.{every_here, all_fit, as_drafted}
 use Rattle.made_is_read.proofs.Record.{Likewise, stops, goes, step-likewise}
 use Rattle.draft.proofs.Shapes.{Shaped, AllShaped}
 use Rattle.draft.proofs.Judged.{completed-front, fit-lines, fit_parts}
-use Rattle.passes.specs.declared.Answer.TheVariants as answers
-use Rattle.passes.specs.declared.Turn.TheVariants as turns
+use Rattle.passes.specs.Answers as answers
+use Rattle.passes.specs.Answers as turns
 
 -- records more stand behind those of the file
 pub record Appended (vs : List Values) (file : List ℕ) (past : List Entry) : Type 0 where
@@ -90,7 +91,7 @@ through false fault next e = (cc, cc)
 
 written_as : (a : Answer) (m : ℕ) {n : ℕ} {t : Totals} → as_drafted m a ≡ Written n t → a ≡ answers.Accepted t
 written_as (answers.Accepted t) m e = cc
-written_as (answers.Refused fault place offset) m e = cc
+written_as (Err r) m e = cc
 
 written-some : (vs : List Values) {n : ℕ} {t : Totals} → answer_from vs [] [] ≡ Written n t → 1 ≤ length (made vs)
 unfolding made completed_from answer_from rows_ended standing

@@ -7,14 +7,15 @@ use mathlib.Core.Path.{◌≡◌, refl, ◌∙◌}
 use lib.Dec.{leb, eqb}
 use lib.ListN.{length}
 use borrow.Author.Tests.{le-leb, leb-true, leb-false}
+use Rattle.std.specs.Prelude.{Some}
 use Rattle.text.specs.declared.character_set.CharacterSet.{CharacterSet}
 use Rattle.text.specs.CharacterSet.{set_of}
-use Rattle.frame.specs.declared.Frame.{Frame}
-use Rattle.frame.specs.declared.Frame.TheVariants.{Whole}
+use Rattle.frame.specs.Frames.{Frame}
+use Rattle.frame.specs.Frames.{Whole}
 use Rattle.frame.specs.Frames.{part, frame_at}
 use Rattle.frame.specs.Unless.{unless}
-use Rattle.judge.specs.declared.Judged.{Judged}
-use Rattle.judge.specs.declared.Judged.TheVariants.{Sound, WrongLength, WrongField}
+use Rattle.judge.specs.Alone.{Judged}
+use Rattle.judge.specs.Alone.{Sound, WrongLength, WrongField}
 use Rattle.judge.specs.Alone.{type_of, judged_as}
 use Rattle.order.specs.MayFollow.{is_carried, may_follow, last_of}
 use Rattle.standing.specs.History.{Entry, entry}
@@ -25,20 +26,20 @@ use Rattle.agree.specs.Links.{link_fault}
 use Rattle.agree.specs.Totals.{total_fault}
 use Rattle.passes.specs.declared.Fault.{Fault}
 use Rattle.passes.specs.declared.Fault.TheVariants.{Size, Cut, Length, UnknownType, Place, Field, Link, Total, Open, After}
-use Rattle.passes.specs.declared.Turn.{Turn}
-use Rattle.passes.specs.declared.Turn.TheVariants.{Faulty, Good}
-use Rattle.passes.specs.declared.Step.{Step}
-use Rattle.passes.specs.declared.Step.TheVariants.{Stop, On}
-use Rattle.passes.specs.declared.Answer.{Answer}
-use Rattle.passes.specs.declared.Answer.TheVariants.{Accepted, Refused}
+use Rattle.passes.specs.Answers.{Turn}
+use Rattle.passes.specs.Answers.{Faulty, Good}
+use Rattle.passes.specs.Answers.{Step}
+use Rattle.passes.specs.Answers.{Stop, On}
+use Rattle.passes.specs.Answers.{Answer}
+use Rattle.passes.specs.Answers.{Accepted, Refused}
 use Rattle.passes.specs.CheckOrder.{unless_alone, agreement, turn_of}
 use Rattle.passes.specs.Reading.{totals_of, of_turn, of_frame, step_of, after_step, ended_with, ended, run, surveyed}
 use Rattle.passes.proofs.Laws.{run-stop, run_on}
 use Rattle.passes.proofs.Passes.{on-within}
 use Rattle.own_fault.specs.OwnFault.{is_own, NotBefore}
 use Rattle.own_fault.proofs.SameReading.{ReadTo, start, on}
-use Rattle.frame.specs.declared.Frame.TheVariants as frames
-use Rattle.judge.specs.declared.Judged.TheVariants as judgements
+use Rattle.frame.specs.Frames as frames
+use Rattle.judge.specs.Alone as judgements
 
 -- a turn's fault is the record's own
 own-unless : (c : Bool) (f : Fault) (next : Turn) {fault : Fault} → is_own f ≡ true → (next ≡ Faulty fault → is_own fault ≡ true)
@@ -117,8 +118,8 @@ module _ (set : CharacterSet) (file : List ℕ) where
           → Outcome set file (Refused fault (length past + 1) at)
       cases true l f w q = let is : fault ≡ After = cc in rw is (behind r h l)
       cases false l frames.Cut w q = let is : fault ≡ Cut = cc in rw is (cut r h)
-      cases false l (Whole from size) w q =
-          faulty r h l from size w step (turn-own set file s at (part from size file) (of-turn (turn_of set file s at (part from size file)) size q))
+      cases false l (Some x) w q =
+          faulty r h l x.start x.size w step (turn-own set file s at (part x.start x.size file) (of-turn (turn_of set file s at (part x.start x.size file)) x.size q))
 
   run-outcome : (n at : ℕ) (past : List Entry) → ReadTo set file past at → 1 ≤ length file → length file ≤ at + n → Outcome set file (run set n file at past)
   unfolding run

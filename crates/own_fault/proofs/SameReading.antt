@@ -9,10 +9,10 @@ use lib.ListN.{length, take, drop, get_or, length-take}
 use lib.Seq.{get_or-take, get_or-drop}
 use Rattle.text.specs.declared.character_set.CharacterSet.{CharacterSet}
 use Rattle.text.specs.CharacterSet.{set_of}
-use Rattle.frame.specs.declared.Frame.TheVariants.{Whole}
+use Rattle.frame.specs.Frames.{Whole}
 use Rattle.frame.specs.Frames.{part, length_at, frame_at}
 use Rattle.frame.proofs.Laws.{whole, whole-start, whole-size}
-use Rattle.judge.specs.declared.Judged.TheVariants.{Sound}
+use Rattle.judge.specs.Alone.{Sound}
 use Rattle.judge.specs.Alone.{type_of, judged_as}
 use Rattle.order.specs.MayFollow.{may_follow}
 use Rattle.order.proofs.Laws.{first-type}
@@ -20,7 +20,7 @@ use Rattle.standing.specs.History.{Entry, entry}
 use Rattle.standing.specs.Standing.{standing}
 use Rattle.standing.specs.declared.Standing.{Standing}
 use Rattle.passes.specs.declared.Fault.TheVariants.{After}
-use Rattle.passes.specs.declared.Step.TheVariants.{Stop, On}
+use Rattle.passes.specs.Answers.{Stop, On}
 use Rattle.passes.specs.CheckOrder.{turn_of}
 use Rattle.passes.specs.Reading.{of_turn, step_of}
 use Rattle.passes.proofs.Passed.{passed, turns-alike}

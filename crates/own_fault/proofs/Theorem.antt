@@ -8,9 +8,10 @@ use lib.Dec.{leb}
 use lib.ListN.{length, take, drop, length-append, length-take}
 use lib.Seq.{take-append-le}
 use borrow.Author.Tests.{le-leb, lt-leb, leb-true, leb-false}
+use Rattle.std.specs.Prelude.{Err}
 use Rattle.text.specs.declared.character_set.CharacterSet.{CharacterSet}
 use Rattle.text.specs.CharacterSet.{set_of}
-use Rattle.frame.specs.declared.Frame.TheVariants.{Whole}
+use Rattle.frame.specs.Frames.{Whole}
 use Rattle.frame.specs.Frames.{part, frame_at}
 use Rattle.frame.proofs.Laws.{whole-start, whole-within, whole-size}
 use Rattle.standing.specs.History.{Entry}
@@ -19,9 +20,9 @@ use Rattle.standing.proofs.Laws.{standing-records}
 use Rattle.passes.specs.declared.Fault.{Fault}
 use Rattle.passes.specs.declared.Fault.TheVariants.{Room, Length, After}
 use Rattle.passes.specs.declared.Totals.{Totals}
-use Rattle.passes.specs.declared.Step.TheVariants.{Stop}
-use Rattle.passes.specs.declared.Answer.{Answer}
-use Rattle.passes.specs.declared.Answer.TheVariants.{Accepted, Refused}
+use Rattle.passes.specs.Answers.{Stop}
+use Rattle.passes.specs.Answers.{Answer}
+use Rattle.passes.specs.Answers.{Accepted, Refused}
 use Rattle.passes.specs.CheckOrder.{turn_of}
 use Rattle.passes.specs.Reading.{totals_of, step_of, surveyed, in_room, answer_of}
 use Rattle.own_fault.specs.OwnFault.{is_own, wants_bytes, end_of, NotBefore, OwnFault}
@@ -142,7 +143,7 @@ data Roomed (a : Answer) (fault : Fault) (place offset : ℕ) : Type 0 where
 
 module _ (rows : ℕ) where
   roomed : (a : Answer) {fault : Fault} {place offset : ℕ} → in_room rows a ≡ Refused fault place offset → Roomed a fault place offset
-  roomed (Refused f n o) e = itself e
+  roomed (Err r) e = itself e
   roomed (Accepted t) {fault} {place} {offset} e = cases (leb t.records.0 rows) e
     where
       cases : (b : Bool) → cond b (Accepted t) (Refused Room t.records.0 0) ≡ Refused fault place offset → Roomed (Accepted t) fault place offset
@@ -150,7 +151,7 @@ module _ (rows : ℕ) where
       cases false q = full t refl (cc) (cc) (cc)
 
   accepted-in : (a : Answer) {t : Totals} → in_room rows a ≡ Accepted t → a ≡ Accepted t
-  accepted-in (Refused f n o) e = e
+  accepted-in (Err r) e = e
   accepted-in (Accepted u) {t} e = cases (leb u.records.0 rows) e
     where
       cases : (b : Bool) → cond b (Accepted u) (Refused Room u.records.0 0) ≡ Accepted t → Accepted u ≡ Accepted t
@@ -158,7 +159,7 @@ module _ (rows : ℕ) where
       cases false q = cc
 
   not-before-in : (place : ℕ) (a : Answer) → NotBefore place a → NotBefore place (in_room rows a)
-  not-before-in place (Refused f n o) h = h
+  not-before-in place (Err r) h = h
   not-before-in place (Accepted t) h = cases (leb t.records.0 rows)
     where
       cases : (b : Bool) → NotBefore place (cond b (Accepted t) (Refused Room t.records.0 0))

@@ -1,12 +1,12 @@
 -- Request 7: whether a fault would vanish had the rest arrived differently. `answer` is what a file gets; the statements say what other files get,
 -- each with any table.
-use Rattle.std.specs.Prelude.{ℕ, ◌+◌, ◌/◌, ◌≤◌, ◌<◌, Bool, true, false, List, ◌++◌, ◌≡◌, length, take}
+use Rattle.std.specs.Prelude.{ℕ, ◌+◌, ◌/◌, ◌≤◌, ◌<◌, Bool, true, false, List, ◌++◌, ◌≡◌, length, take, Err}
 use Rattle.frame.specs.Frames.{length_at}
 use Rattle.passes.specs.declared.Fault.{Fault}
 use Rattle.passes.specs.declared.Fault.TheVariants.{Size, Room, Cut, Length, UnknownType, Place, Field, Link, Total, Open, After, Duplicate, Full, NoEntry, Range, Nothing, Book}
 use Rattle.passes.specs.declared.Totals.{Totals}
-use Rattle.passes.specs.declared.Answer.{Answer}
-use Rattle.passes.specs.declared.Answer.TheVariants.{Accepted, Refused}
+use Rattle.passes.specs.Answers.{Answer}
+use Rattle.passes.specs.Answers.{Accepted, Refused}
 use Rattle.passes.specs.Reading.{answer_of}
 
 -- "For TYPE, PLACE, LENGTH, FIELD, LINK and TOTAL"
@@ -56,7 +56,7 @@ end_of file offset = offset + 4 + length_at file offset
 -- an answer at a record or behind it: an acceptance has that record, a refusal names it or a later one
 abbrev pub NotBefore : ℕ → Answer → Type 0
 NotBefore place (Accepted t) = place ≤ t.records.0
-NotBefore place (Refused fault n offset) = place ≤ n
+NotBefore place (Err r) = place ≤ r.place
 
 pub record OwnFault (file : List ℕ) (answer : Answer) : Type 0 where
   -- "two files within the size limit that agree on every byte up to the end of the named record get the same answer"

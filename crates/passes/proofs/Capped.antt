@@ -3,9 +3,10 @@
 use Prim.Native.Nat.{ℕ}
 use mathlib.Core.List.{List}
 use mathlib.Core.Path.{◌≡◌, refl, ap}
+use Rattle.std.specs.Prelude.{Some}
 use Rattle.text.specs.declared.character_set.CharacterSet.{CharacterSet}
-use Rattle.frame.specs.declared.Frame.{Frame}
-use Rattle.frame.specs.declared.Frame.TheVariants.{Cut, Whole}
+use Rattle.frame.specs.Frames.{Frame}
+use Rattle.frame.specs.Frames.{Cut}
 use Rattle.frame.specs.Frames.{part, frame_at}
 use Rattle.judge.specs.Alone.{type_of}
 use Rattle.measure.proofs.Capped.{capped-twice}
@@ -36,7 +37,7 @@ module _ (set : CharacterSet) (s : Standing) where
 
     frame-capped : (at : ℕ) (f : Frame) → of_frame set file (capped_figures s) at f ≡ of_frame set file s at f
     frame-capped at Cut = refl
-    frame-capped at (Whole start size) = ap (of_turn size) (turn-capped at (part start size file))
+    frame-capped at (Some x) = ap (of_turn x.size) (turn-capped at (part x.start x.size file))
 
     pub step-capped : (at : ℕ) → step_of set file (capped_figures s) at ≡ step_of set file s at
     unfolding step_of

@@ -10,20 +10,21 @@ use lib.Dec.{eqb}
 use lib.ListN.{length, take, drop, length-append, take-append-drop}
 use lib.Seq.{sets, sets-eq, take_at, drop-append-add, length-take-le, drop-drop}
 use borrow.Author.Tests.{le-leb, lt-leb}
+use Rattle.std.specs.Prelude.{Some}
 use Rattle.text.specs.declared.character_set.CharacterSet.{CharacterSet}
 use Rattle.frame.specs.Frames.{part, frame_at}
-use Rattle.frame.specs.declared.Frame.{Frame}
-use Rattle.frame.specs.declared.Frame.TheVariants.{Cut, Whole}
+use Rattle.frame.specs.Frames.{Frame}
+use Rattle.frame.specs.Frames.{Cut, Whole}
 use Rattle.judge.specs.Alone.{type_of}
 use Rattle.standing.specs.History.{Entry, entry}
 use Rattle.standing.specs.Standing.{standing}
 use Rattle.standing.specs.declared.Standing.{Standing}
 use Rattle.passes.specs.declared.Fault.{Fault}
 use Rattle.passes.specs.declared.Fault.TheVariants.{After}
-use Rattle.passes.specs.declared.Turn.{Turn}
-use Rattle.passes.specs.declared.Turn.TheVariants.{Faulty, Good}
-use Rattle.passes.specs.declared.Step.TheVariants.{Stop, On}
-use Rattle.passes.specs.declared.Answer.TheVariants.{Refused}
+use Rattle.passes.specs.Answers.{Turn, Step}
+use Rattle.passes.specs.Answers.{Faulty, Good}
+use Rattle.passes.specs.Answers.{Stop, On}
+use Rattle.passes.specs.Answers.{Refused}
 use Rattle.passes.specs.CheckOrder.{turn_of}
 use Rattle.passes.specs.Rows.{row_of, rows_from}
 use Rattle.passes.specs.Reading.{of_turn, of_frame, step_of, ended, run}
@@ -86,16 +87,25 @@ pub record Framed (set : CharacterSet) (file : List ℕ) (s : Standing) (at t si
   pub turn : turn_of set file s at (part start size file) ≡ Good t
   pub type : type_of set (part start size file) ≡ t
 
+found : Step → ℕ × ℕ
+found (On t size) = (t, size)
+found (Stop fault) = (0, 0)
+
+-- a record has one type and one length
+pub both : {t size u n : ℕ} → On t size ≡ On u n → (t ≡ u) × (size ≡ n)
+unfolding found
+both e = let p = ap found e in (ap (λ (q : ℕ × ℕ). q.0) p, ap (λ (q : ℕ × ℕ). q.1) p)
+
 on-turn : (turn : Turn) (n : ℕ) {t size : ℕ} → of_turn n turn ≡ On t size → (turn ≡ Good t) × (n ≡ size)
 on-turn (Faulty fault) n e = ((cc), (cc))
-on-turn (Good u) n e = ((cc), (cc))
+on-turn (Good u) n e = let p = both e in (ap Good p.0, p.1)
 
 on-frame : (set : CharacterSet) (file : List ℕ) (s : Standing) (at t size : ℕ) (f : Frame) → frame_at file at ≡ f → of_frame set file s at f ≡ On t size → Framed set file s at t size
 on-frame set file s at t size Cut q e = absurd (stop-on faults.Cut t size e)
-on-frame set file s at t size (Whole start n) q e =
-    let p = on-turn (turn_of set file s at (part start n file)) n e in
-    let turn : turn_of set file s at (part start size file) ≡ Good t = rw p.1 at p.0 in
-    record { start = start; whole = q ∙ ap (Whole start) p.1; turn = turn; type = (passed set turn).type }
+on-frame set file s at t size (Some x) q e =
+    let p = on-turn (turn_of set file s at (part x.start x.size file)) x.size e in
+    let turn : turn_of set file s at (part x.start size file) ≡ Good t = rw p.1 at p.0 in
+    record { start = x.start; whole = q ∙ ap (Whole x.start) p.1; turn = turn; type = (passed set turn).type }
 
 on_step : (set : CharacterSet) (file : List ℕ) (s : Standing) (at t size : ℕ) (b : Bool) → cond b (Stop After) (of_frame set file s at (frame_at file at)) ≡ On t size
     → Framed set file s at t size

@@ -9,16 +9,16 @@ use borrow.Author.Tests.{leb-true, eqb-true}
 use Rattle.text.specs.declared.character_set.CharacterSet.{CharacterSet}
 use Rattle.frame.specs.Unless.{unless}
 use Rattle.judge.specs.Alone.{type_of, judged_as}
-use Rattle.judge.specs.declared.Judged.{Judged}
-use Rattle.judge.specs.declared.Judged.TheVariants.{Sound, WrongLength, UnknownType, WrongField}
+use Rattle.judge.specs.Alone.{Judged}
+use Rattle.judge.specs.Alone.{Sound, WrongLength, UnknownType, WrongField}
 use Rattle.order.specs.MayFollow.{is_carried, may_follow}
 use Rattle.standing.specs.declared.Standing.{Standing}
 use Rattle.agree.specs.Links.{link_fault}
 use Rattle.agree.specs.Totals.{total_fault}
 use Rattle.passes.specs.declared.Fault.{Fault}
 use Rattle.passes.specs.declared.Fault.TheVariants.{Length, Place, Link, Total}
-use Rattle.passes.specs.declared.Turn.{Turn}
-use Rattle.passes.specs.declared.Turn.TheVariants.{Faulty, Good}
+use Rattle.passes.specs.Answers.{Turn}
+use Rattle.passes.specs.Answers.{Faulty, Good}
 use Rattle.passes.specs.CheckOrder.{unless_alone, agreement, turn_of}
 use Rattle.passes.specs.declared.Fault.TheVariants as faults
 

@@ -12,7 +12,7 @@ use lib.Seq.{sets, length-sets}
 use Rattle.text.specs.CharacterSet.{set_of}
 use Rattle.text.specs.declared.character_set.CharacterSet.{CharacterSet}
 use Rattle.frame.specs.Frames.{part, frame_at}
-use Rattle.frame.specs.declared.Frame.TheVariants.{Cut, Whole}
+use Rattle.frame.specs.Frames.{Cut, Whole}
 use Rattle.frame.proofs.Laws.{whole-within, whole-start}
 use Rattle.judge.specs.Alone.{type_of}
 use Rattle.standing.specs.History.{Entry, entry}
@@ -21,11 +21,11 @@ use Rattle.standing.specs.declared.Standing.{Standing}
 use Rattle.standing.proofs.Laws.{standing-records, figures-capped, moved_on, roomy}
 use Rattle.passes.specs.declared.Fault.{Fault}
 use Rattle.passes.specs.declared.Fault.TheVariants.{Size, Open}
-use Rattle.passes.specs.declared.Step.{Step}
-use Rattle.passes.specs.declared.Step.TheVariants.{Stop, On}
+use Rattle.passes.specs.Answers.{Step}
+use Rattle.passes.specs.Answers.{Stop, On}
 use Rattle.passes.specs.declared.Totals.{Totals}
-use Rattle.passes.specs.declared.Answer.{Answer}
-use Rattle.passes.specs.declared.Answer.TheVariants.{Accepted, Refused}
+use Rattle.passes.specs.Answers.{Answer}
+use Rattle.passes.specs.Answers.{Accepted, Refused}
 use Rattle.passes.specs.Rows.{row_of, rows_from, rows_of}
 use Rattle.passes.specs.Reading.{totals_of, step_of, ended_with, run, surveyed, Counted}
 use Rattle.passes.proofs.Capped.{ended-capped, row-capped, step-capped}

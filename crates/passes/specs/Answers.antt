@@ -1,11 +1,41 @@
 -- What comes back (document 01): the number, record, field, offset and totals of each answer. Document 02's numbers stand in the same table; those behind
 -- After belong to the day book (requests 6, 9) and to salvage (request 11), and a reading never gives one of them.
-use Rattle.std.specs.Prelude.{ℕ, List, [], ◌∷◌}
+use Rattle.std.specs.Prelude.{ℕ, List, [], ◌∷◌, Ok, Err}
+use Rattle.std.specs.declared.result.Result.{Result}
 use Rattle.passes.specs.declared.Fault.{Fault}
 use Rattle.passes.specs.declared.Fault.TheVariants.{Size, Room, Cut, Length, UnknownType, Place, Field, Link, Total, Open, After, Duplicate, Full, NoEntry, Range, Nothing, Book}
 use Rattle.passes.specs.declared.Totals.{Totals}
-use Rattle.passes.specs.declared.Answer.{Answer}
-use Rattle.passes.specs.declared.Answer.TheVariants.{Accepted, Refused}
+use Rattle.passes.specs.declared.Refusal.{Refusal}
+
+-- what is found of one record in its place: its type, or a fault
+abbrev pub Turn : Type 0
+Turn = Result ℕ Fault
+
+pattern abbrev pub Good : ℕ → Turn
+Good t = Ok t
+
+pattern abbrev pub Faulty : Fault → Turn
+Faulty fault = Err fault
+
+-- what stands where bytes follow: a good record's type and length, or a fault
+abbrev pub Step : Type 0
+Step = Result (ℕ × ℕ) Fault
+
+pattern abbrev pub On : ℕ → ℕ → Step
+On t size = Ok (t, size)
+
+pattern abbrev pub Stop : Fault → Step
+Stop fault = Err fault
+
+-- the answer to a whole file: what it adds up to, or the fault, the record and the offset
+abbrev pub Answer : Type 0
+Answer = Result Totals Refusal
+
+pattern abbrev pub Accepted : Totals → Answer
+Accepted t = Ok t
+
+abbrev pub Refused : Fault → ℕ → ℕ → Answer
+Refused fault place offset = Err (record { fault = fault; place = place; offset = offset })
 
 -- the table of numbers
 abbrev pub number_of : Fault → ℕ
@@ -53,9 +83,9 @@ abbrev pub numbers_of : ℕ → Answer → List ℕ
 numbers_of file_length (Accepted t) =
     0 ∷ t.records.0 ∷ 0 ∷ file_length ∷ t.records.0 ∷ t.letters ∷ t.bundles ∷ t.items.0 ∷ t.sums.views.0
     ∷ t.sums.debit.0 ∷ t.sums.credits.0 ∷ t.sums.credit.0 ∷ []
-numbers_of file_length (Refused fault place offset) =
-    number_of fault ∷ place ∷ field_of fault ∷ offset ∷ 0 ∷ 0 ∷ 0 ∷ 0 ∷ 0 ∷ 0 ∷ 0 ∷ 0 ∷ []
+numbers_of file_length (Err r) =
+    number_of r.fault ∷ r.place ∷ field_of r.fault ∷ r.offset ∷ 0 ∷ 0 ∷ 0 ∷ 0 ∷ 0 ∷ 0 ∷ 0 ∷ 0 ∷ []
 
 abbrev pub answer_number : Answer → ℕ
 answer_number (Accepted t) = 0
-answer_number (Refused fault place offset) = number_of fault
+answer_number (Err r) = number_of r.fault

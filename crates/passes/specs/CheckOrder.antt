@@ -1,27 +1,29 @@
 -- The order of the checks on one record (document 01, "Order"): each line has the condition, the fault where it fails, and what is asked
 -- next. `s` is what stands before the record, `at` the offset of its length field, `body` the bytes after it.
-use Rattle.std.specs.Prelude.{ℕ, Bool, true, false, List, leb, eqb, length}
+use Rattle.std.specs.Prelude.{ℕ, List, leb, eqb, length, Err}
 use Rattle.text.specs.declared.character_set.CharacterSet.{CharacterSet}
-use Rattle.judge.specs.declared.Judged.{Judged}
-use Rattle.judge.specs.declared.Judged.TheVariants.{Sound, WrongLength, WrongField}
-use Rattle.judge.specs.Alone.{type_of, judged_as}
+use Rattle.judge.specs.Alone.{Judged, Sound, type_of, judged_as}
 use Rattle.order.specs.MayFollow.{is_carried, may_follow}
 use Rattle.standing.specs.declared.Standing.{Standing}
 use Rattle.agree.specs.Links.{link_fault}
 use Rattle.agree.specs.Totals.{total_fault}
 use Rattle.passes.specs.declared.Fault.{Fault}
 use Rattle.passes.specs.declared.Fault.TheVariants.{Length, UnknownType, Place, Field, Link, Total}
-use Rattle.passes.specs.declared.Turn.{Turn}
-use Rattle.passes.specs.declared.Turn.TheVariants.{Faulty, Good}
+use Rattle.passes.specs.Answers.{Turn, Faulty, Good}
 use Rattle.frame.specs.Unless.{unless}
-use Rattle.judge.specs.declared.Judged.TheVariants as judgements
+use Rattle.judge.specs.declared.Flaw.{Flaw}
+use Rattle.judge.specs.declared.Flaw.TheVariants as flaws
+
+-- what a flaw of a record alone is as a fault
+abbrev pub fault_of : Flaw → Fault
+fault_of flaws.Length = Length
+fault_of flaws.UnknownType = UnknownType
+fault_of (flaws.Field n) = Field n
 
 -- a record alone: LENGTH, FIELD over the fixed fields, LENGTH, FIELD over the variable fields
 abbrev pub unless_alone : Judged → Turn → Turn
 unless_alone Sound next = next
-unless_alone WrongLength next = Faulty Length
-unless_alone judgements.UnknownType next = Faulty UnknownType
-unless_alone (WrongField n) next = Faulty (Field n)
+unless_alone (Err flaw) next = Faulty (fault_of flaw)
 
 -- LINK by lowest field, then TOTAL by lowest field
 unfoldable pub agreement : CharacterSet → List ℕ → Standing → ℕ → ℕ → Turn

@@ -1,25 +1,18 @@
 -- The reading of a whole file: for any bytes and any table the one answer and the one table.
-use Rattle.std.specs.Prelude.{ℕ, zero, suc, ◌+◌, ◌*◌, ◌/◌, Bool, true, false, ◌&&◌, cond, ◌≡◌, List, [], ◌∷◌, ◌++◌, leb, eqb, length, drop}
+use Rattle.std.specs.Prelude.{ℕ, zero, suc, ◌+◌, ◌*◌, ◌/◌, ◌&&◌, cond, ◌≡◌, List, [], ◌∷◌, ◌++◌, leb, eqb, length, drop, Some, Err}
 use Rattle.text.specs.CharacterSet.{set_of}
 use Rattle.text.specs.declared.character_set.CharacterSet.{CharacterSet}
 use Rattle.measure.specs.Measures.{capped_sums}
-use Rattle.frame.specs.declared.Frame.{Frame}
-use Rattle.frame.specs.declared.Frame.TheVariants.{Whole}
-use Rattle.frame.specs.Frames.{part, frame_at}
+use Rattle.frame.specs.Frames.{Frame, part, frame_at}
+use Rattle.frame.specs.Frames as frames
 use Rattle.standing.specs.History.{Entry, entry}
 use Rattle.standing.specs.Standing.{standing}
 use Rattle.standing.specs.declared.Standing.{Standing}
 use Rattle.passes.specs.declared.Fault.TheVariants.{Size, Room, Cut, Open, After}
 use Rattle.passes.specs.declared.Totals.{Totals}
-use Rattle.passes.specs.declared.Turn.{Turn}
-use Rattle.passes.specs.declared.Turn.TheVariants.{Faulty, Good}
-use Rattle.passes.specs.declared.Step.{Step}
-use Rattle.passes.specs.declared.Step.TheVariants.{Stop, On}
-use Rattle.passes.specs.declared.Answer.{Answer}
-use Rattle.passes.specs.declared.Answer.TheVariants.{Accepted, Refused}
+use Rattle.passes.specs.Answers.{Turn, Good, Faulty, Step, On, Stop, Answer, Accepted, Refused}
 use Rattle.passes.specs.CheckOrder.{turn_of}
 use Rattle.passes.specs.Rows.{rows_of}
-use Rattle.frame.specs.declared.Frame.TheVariants as frames
 
 -- "the totals are those of the whole file as added up from its records". They are asked for behind a 99 only, which states their cents, so
 -- that none of them is capped: `Arranged` says so.
@@ -34,7 +27,7 @@ of_turn size (Good t) = On t size
 -- CUT, and then the checks of the record that the length frames
 abbrev pub of_frame : CharacterSet → List ℕ → Standing → ℕ → Frame → Step
 of_frame set file s at frames.Cut = Stop Cut
-of_frame set file s at (Whole start size) = of_turn size (turn_of set file s at (part start size file))
+of_frame set file s at (Some x) = of_turn x.size (turn_of set file s at (part x.start x.size file))
 
 -- where bytes follow: AFTER, "any byte follows the 99", else the record that begins there
 unfoldable pub step_of : CharacterSet → List ℕ → Standing → ℕ → Step
@@ -67,12 +60,12 @@ surveyed file =
 -- an accepted file has a row for each of its records
 abbrev pub Counted : List ℕ → Answer → Type 0
 Counted file (Accepted t) = length (rows_of file) ≡ 7 * t.records.0
-Counted file (Refused fault place offset) = Unit
+Counted file (Err r) = Unit
 
 -- ROOM last: "all rules hold but there are more records than rows"
 abbrev pub in_room : ℕ → Answer → Answer
 in_room rows (Accepted t) = cond (leb t.records.0 rows) (Accepted t) (Refused Room t.records.0 0)
-in_room rows (Refused fault place offset) = Refused fault place offset
+in_room rows (Err r) = Err r
 
 -- "Rows available = whole sevens in the lent slice"
 unfoldable pub answer_of : List ℕ → ℕ → Answer
@@ -81,7 +74,7 @@ answer_of file table_length = in_room (table_length / 7) (surveyed file)
 -- the table afterwards: the rows and then the untouched rest; untouched where the file is refused
 abbrev pub table_after : Answer → List ℕ → List ℕ → List ℕ
 table_after (Accepted t) rows table = rows ++ drop (length rows) table
-table_after (Refused fault place offset) rows table = table
+table_after (Err r) rows table = table
 
 unfoldable pub table_of : List ℕ → List ℕ → List ℕ
 table_of file table = table_after (answer_of file (length table)) (rows_of file) table

@@ -1,10 +1,8 @@
 -- The rows (document 01, "Numbers that bind"): a row for each record that the lengths of the file frame.
-use Rattle.std.specs.Prelude.{ℕ, zero, suc, ◌+◌, Bool, true, false, ◌||◌, cond, List, [], ◌∷◌, ◌++◌, leb, eqb, length}
+use Rattle.std.specs.Prelude.{ℕ, zero, suc, ◌+◌, Bool, ◌||◌, cond, List, [], ◌∷◌, ◌++◌, leb, eqb, length, Some}
 use Rattle.text.specs.CharacterSet.{set_of}
 use Rattle.text.specs.declared.character_set.CharacterSet.{CharacterSet}
-use Rattle.frame.specs.declared.Frame.{Frame}
-use Rattle.frame.specs.declared.Frame.TheVariants.{Cut, Whole}
-use Rattle.frame.specs.Frames.{part, frame_at}
+use Rattle.frame.specs.Frames.{Frame, Cut, part, frame_at}
 use Rattle.judge.specs.Alone.{type_of}
 use Rattle.measure.specs.Measures.{capped}
 use Rattle.standing.specs.History.{Entry, entry, amount_of}
@@ -32,9 +30,9 @@ row_of set file s t offset size =
 
 abbrev pub row_and : CharacterSet → List ℕ → ℕ → List Entry → Frame → (ℕ → List Entry → List ℕ) → List ℕ
 row_and set file at past Cut others = []
-row_and set file at past (Whole start size) others =
-    row_of set file (standing set file (entry (type_of set (part start size file)) at size ∷ past)) (type_of set (part start size file)) at size
-    ++ others (start + size) (entry (type_of set (part start size file)) at size ∷ past)
+row_and set file at past (Some x) others =
+    row_of set file (standing set file (entry (type_of set (part x.start x.size file)) at x.size ∷ past)) (type_of set (part x.start x.size file)) at x.size
+    ++ others (x.start + x.size) (entry (type_of set (part x.start x.size file)) at x.size ∷ past)
 
 -- the rows from an offset on, of n records at most
 unfoldable pub rows_from : CharacterSet → ℕ → List ℕ → ℕ → List Entry → List ℕ

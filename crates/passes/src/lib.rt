@@ -1,17 +1,17 @@
 // The two passes of the reader over a file in lent memory: the first decides, the second writes the rows.
 #![tactic(auto)]
 
-ghost use Rattle.std.specs.Prelude.{cond, ◌≡◌, List, [], ◌∷◌, ◌++◌, ℕ, ◌+◌, ◌*◌, ◌<◌, ◌≤◌, length, drop};
+ghost use Rattle.std.specs.Prelude.{cond, ◌≡◌, List, [], ◌∷◌, ◌++◌, ℕ, ◌+◌, ◌*◌, ◌<◌, ◌≤◌, length, drop, Err};
 ghost use Rattle.std.proofs.lemmas.List.Edits.{sets};
 ghost use Rattle.layout.specs.Packing.{Packed};
 ghost use Rattle.standing.specs.Standing.{capped_figures, Roomy};
-ghost use Rattle.passes.specs.Answers.{number_of, field_of};
-ghost use Rattle.passes.specs.CheckOrder.{agreement, turn_of};
+ghost use Rattle.passes.specs.Answers.{Refused, number_of, field_of};
+ghost use Rattle.passes.specs.CheckOrder.{agreement, fault_of, turn_of};
 ghost use Rattle.passes.specs.Rows.{amount_in, row_of, rows_of};
 ghost use Rattle.passes.specs.Reading.{step_of, ended_with, surveyed, Counted};
 
-use frame::{Cursor, Frame};
-use judge::Judged;
+use frame::{Cursor, Extent};
+use judge::Flaw;
 use measure::{Items, Records, Sums};
 use standing::Standing;
 use text::CharacterSet;
@@ -40,19 +40,11 @@ pub enum Fault {
     Book,
 }
 
-// What is found of one record in its place: a fault, or its type.
-#[derive(Clone, Copy)]
-pub enum Turn {
-    Faulty(Fault),
-    Good(u64),
-}
+// What is found of one record in its place: its type, or a fault.
+pub type Turn = Result<u64, Fault>;
 
-// What stands at a record boundary that is not the end: a fault, or a good record's type and length.
-#[derive(Clone, Copy)]
-pub enum Step {
-    Stop(Fault),
-    On(u64, usize),
-}
+// What stands at a record boundary that is not the end: a good record's type and length, or a fault.
+pub type Step = Result<(u64, usize), Fault>;
 
 // What an accepted file adds up to.
 #[derive(Clone, Copy)]
@@ -64,11 +56,39 @@ pub struct Totals {
     pub sums: Sums,
 }
 
+// Why a file is refused and where: the fault, the record (from 1), and the offset of its length field.
 #[derive(Clone, Copy)]
-pub enum Answer {
-    Accepted(Totals),
-    // The fault, the record (from 1), and the offset of its length field.
-    Refused(Fault, u64, usize),
+pub struct Refusal {
+    pub fault: Fault,
+    pub place: u64,
+    pub offset: usize,
+}
+
+pub type Answer = Result<Totals, Refusal>;
+
+impl Refusal {
+    // Of the file as a whole: SIZE, or ROOM with what is needed as the record.
+    pub fn of_file(fault: Fault, place: u64) -> Self
+        ensures { Err result ≡ Refused fault place 0 }
+    {
+        Refusal {
+            fault,
+            place,
+            offset: 0,
+        }
+    }
+}
+
+impl From<Flaw> for Fault {
+    ghost from_gives = { λ flaw fault. fault ≡ fault_of flaw };
+
+    fn from(flaw: Flaw) -> Self {
+        match flaw {
+            Flaw::Length => Fault::Length,
+            Flaw::UnknownType => Fault::UnknownType,
+            Flaw::Field(n) => Fault::Field(n),
+        }
+    }
 }
 
 impl Fault {
@@ -130,13 +150,13 @@ pub fn agrees(set: CharacterSet, file: &[u8], s: Standing, at: usize, kind: u64)
 {
     let link = agree::link_fault(set, file, s, kind, at);
     if link != 0 {
-        return Turn::Faulty(Fault::Link(link));
+        return Err(Fault::Link(link));
     }
     let total = agree::total_fault(set, file, s, kind, at);
     if total != 0 {
-        return Turn::Faulty(Fault::Total(total));
+        return Err(Fault::Total(total));
     }
-    Turn::Good(kind)
+    Ok(kind)
 }
 
 // The checks of one record in its place, in document 01's order.
@@ -152,21 +172,17 @@ pub fn judge_next<'a>(
     ensures { result ≡ turn_of set file.now s at body.now }
 {
     if body.len() < 2 {
-        return Turn::Faulty(Fault::Length);
+        return Err(Fault::Length);
     }
     let kind = judge::type_of(set, body);
     if !order::is_carried(kind) {
-        return Turn::Faulty(Fault::UnknownType);
+        return Err(Fault::UnknownType);
     }
     if !order::may_follow(s.inside, s.last, s.present, kind) {
-        return Turn::Faulty(Fault::Place);
+        return Err(Fault::Place);
     }
-    match judge::judge_as(set, layouts, kind, body) {
-        Judged::Sound => agrees(set, file, s, at, kind),
-        Judged::WrongLength => Turn::Faulty(Fault::Length),
-        Judged::UnknownType => Turn::Faulty(Fault::UnknownType),
-        Judged::WrongField(n) => Turn::Faulty(Fault::Field(n)),
-    }
+    judge::judge_as(set, layouts, kind, body)?;
+    agrees(set, file, s, at, kind)
 }
 
 fn record_at<'a>(
@@ -180,22 +196,14 @@ fn record_at<'a>(
     ensures { result ≡ step_of set file.now s at }
 {
     if s.last == 99 {
-        return Step::Stop(Fault::After);
+        return Err(Fault::After);
     }
-    match Cursor::at(at).frame(file) {
-        Frame::Cut => Step::Stop(Fault::Cut),
-        Frame::Whole(start, size) => match judge_next(
-            set,
-            layouts,
-            file,
-            s,
-            at,
-            frame::part_of(file, start, size),
-        ) {
-            Turn::Faulty(fault) => Step::Stop(fault),
-            Turn::Good(kind) => Step::On(kind, size),
-        },
-    }
+    let Some(Extent { start, size }) = Cursor::at(at).frame(file) else {
+        return Err(Fault::Cut);
+    };
+    let body = frame::part_of(file, start, size);
+    let kind = judge_next(set, layouts, file, s, at, body)?;
+    Ok((kind, size))
 }
 
 // At the end of the bytes.
@@ -207,7 +215,7 @@ fn ended_at(s: Standing, at: usize) -> Answer
         let sums = s.whole;
         let records = s.records;
         let items = s.items;
-        return Answer::Accepted(Totals {
+        return Ok(Totals {
             records,
             letters: s.letters,
             bundles: s.bundles,
@@ -215,7 +223,11 @@ fn ended_at(s: Standing, at: usize) -> Answer
             sums,
         });
     }
-    Answer::Refused(Fault::Open, s.records.0 + 1, at)
+    Err(Refusal {
+        fault: Fault::Open,
+        place: s.records.0 + 1,
+        offset: at,
+    })
 }
 
 // The first pass, by the layouts that the caller lends.
@@ -224,20 +236,24 @@ fn survey_by<'a>(layouts: &'a [u64], file: &'a [u8]) -> Answer
     ensures { (result ≡ surveyed file.now) × Counted file.now result }
 {
     if file.len() < 1 {
-        return Answer::Refused(Fault::Size, 0, 0);
+        return Err(Refusal::of_file(Fault::Size, 0));
     }
     if 268_435_456 < file.len() {
-        return Answer::Refused(Fault::Size, 0, 0);
+        return Err(Refusal::of_file(Fault::Size, 0));
     }
     let set = text::set_of(file);
     let mut s = Standing::start();
     let mut at: usize = 0;
     while at < file.len() {
         match record_at(set, layouts, file, s, at) {
-            Step::Stop(fault) => {
-                return Answer::Refused(fault, s.records.0 + 1, at);
+            Err(fault) => {
+                return Err(Refusal {
+                    fault,
+                    place: s.records.0 + 1,
+                    offset: at,
+                });
             }
-            Step::On(kind, size) => {
+            Ok((kind, size)) => {
                 s = standing::moved(set, file, s, kind, at);
                 at = at + 4 + size;
             }
@@ -316,17 +332,13 @@ pub fn fill(file: &[u8], table: &mut [u64])
     let mut at: usize = 0;
     let mut base: usize = 0;
     while at < file.len() {
-        match Cursor::at(at).frame(file) {
-            Frame::Cut => {
-                return;
-            }
-            Frame::Whole(start, size) => {
-                let kind = judge::type_of(set, frame::part_of(file, start, size));
-                s = standing::moved(set, file, s, kind, at);
-                put_row(set, table, base, file, s, kind, at, size);
-                base += 7;
-                at = start + size;
-            }
-        }
+        let Some(Extent { start, size }) = Cursor::at(at).frame(file) else {
+            return;
+        };
+        let kind = judge::type_of(set, frame::part_of(file, start, size));
+        s = standing::moved(set, file, s, kind, at);
+        put_row(set, table, base, file, s, kind, at, size);
+        base += 7;
+        at = start + size;
     }
 }

@@ -6,15 +6,16 @@ use mathlib.Core.List.{List}
 use lib.Dec.{leb, eqb}
 use lib.ListN.{length}
 use borrow.Author.Tests.{eqb-true}
+use Rattle.std.specs.Prelude.{Some}
 use Rattle.text.specs.declared.character_set.CharacterSet.TheVariants.{Ebcdic}
 use Rattle.text.specs.CharacterSet.{set_of}
-use Rattle.frame.specs.declared.Frame.{Frame}
-use Rattle.frame.specs.declared.Frame.TheVariants.{Cut, Whole}
+use Rattle.frame.specs.Frames.{Frame}
+use Rattle.frame.specs.Frames.{Cut, Whole}
 use Rattle.frame.specs.Frames.{part, frame_at}
 use Rattle.frame.specs.Unless.{unless}
 use Rattle.layout.specs.Layouts.{image_view_data}
-use Rattle.judge.specs.declared.Judged.{Judged}
-use Rattle.judge.specs.declared.Judged.TheVariants.{Sound, WrongLength, UnknownType, WrongField}
+use Rattle.judge.specs.Alone.{Judged}
+use Rattle.judge.specs.Alone.{Sound, WrongLength, UnknownType, WrongField}
 use Rattle.judge.specs.Alone.{type_of, alone}
 use Rattle.judge.specs.Image.{image_start, image_size}
 use Rattle.ascii_copy.specs.AsciiCopy.{ascii_copy, Begins}
@@ -60,7 +61,7 @@ module _ (file copy : List ℕ) where
       where
         cases : (f : Frame) → frame_at file at ≡ f → Kept (in_frame Ebcdic file f)
         cases Cut e = refl
-        cases (Whole start size) e = body_kept start size e
+        cases (Some x) e = body_kept x.start x.size e
 
 pub bytes-of-copy : (file : List ℕ) (offset : ℕ) → Begins file offset
     → bytes_of (ascii_copy file) (picture_at (ascii_copy file) offset) ≡ bytes_of file (picture_at file offset)

@@ -5,7 +5,7 @@ use Prim.Native.Nat.{ℕ, ◌+◌, ◌≤◌}
 use native.Mathlib.Omega.{arith}
 use lib.ListN.{length, drop, length-take}
 use Rattle.frame.specs.Frames.{part, frame_at}
-use Rattle.frame.specs.declared.Frame.TheVariants.{Whole}
+use Rattle.frame.specs.Frames.{Whole}
 use Rattle.frame.proofs.Laws.{whole-within}
 use Rattle.picture.specs.Picture.{start_of, size_of, bytes_of}
 use Rattle.picture.specs.declared.Found.{Found}

@@ -6,10 +6,11 @@ use mathlib.Core.List.{List}
 use lib.Dec.{leb, eqb}
 use lib.ListN.{length}
 use borrow.Author.Tests.{eqb-true}
+use Rattle.std.specs.Prelude.{Some}
 use Rattle.text.specs.declared.character_set.CharacterSet.TheVariants.{Ascii, Ebcdic}
 use Rattle.text.specs.CharacterSet.{set_of}
-use Rattle.frame.specs.declared.Frame.{Frame}
-use Rattle.frame.specs.declared.Frame.TheVariants.{Cut, Whole}
+use Rattle.frame.specs.Frames.{Frame}
+use Rattle.frame.specs.Frames.{Cut, Whole}
 use Rattle.frame.specs.Frames.{part, frame_at}
 use Rattle.frame.specs.Unless.{unless}
 use Rattle.layout.specs.Layouts.{image_view_data}
@@ -43,7 +44,7 @@ module _ (file copy : List ℕ) (at : ℕ) (a : Ahead file copy at) where
     where
       cases : (f : Frame) → frame_at file at ≡ f → in_frame Ascii copy f ≡ in_frame Ebcdic file f
       cases Cut e = refl
-      cases (Whole start size) e = rw (ahead-body file copy at start size a e) (body-of-copy start (part start size file))
+      cases (Some x) e = rw (ahead-body file copy at x.start x.size a e) (body-of-copy x.start (part x.start x.size file))
 
   picture-alike : set_of file ≡ Ebcdic → set_of copy ≡ Ascii → picture_at copy at ≡ picture_at file at
   unfolding picture_at

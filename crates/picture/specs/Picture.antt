@@ -1,12 +1,12 @@
 -- The picture call (document 01): "Given a file and the offset of a length field, it hands back the Image Data part of the 52 there".
-use Rattle.std.specs.Prelude.{ℕ, ◌+◌, Bool, true, false, ◌&&◌, List, [], leb, eqb, length}
+use Rattle.std.specs.Prelude.{ℕ, ◌+◌, Bool, true, false, ◌&&◌, List, [], leb, eqb, length, Some}
 use Rattle.text.specs.CharacterSet.{set_of}
 use Rattle.text.specs.declared.character_set.CharacterSet.{CharacterSet}
-use Rattle.frame.specs.declared.Frame.{Frame}
-use Rattle.frame.specs.declared.Frame.TheVariants.{Cut, Whole}
+use Rattle.frame.specs.Frames.{Frame}
+use Rattle.frame.specs.Frames.{Cut, Whole}
 use Rattle.frame.specs.Frames.{part, frame_at}
-use Rattle.judge.specs.declared.Judged.{Judged}
-use Rattle.judge.specs.declared.Judged.TheVariants.{Sound, WrongLength, UnknownType, WrongField}
+use Rattle.judge.specs.Alone.{Judged}
+use Rattle.judge.specs.Alone.{Sound, WrongLength, UnknownType, WrongField}
 use Rattle.layout.specs.Layouts.{image_view_data}
 use Rattle.judge.specs.Alone.{type_of, alone}
 use Rattle.judge.specs.Image.{image_start, image_size}
@@ -77,7 +77,7 @@ in_body set start body =
 
 abbrev pub in_frame : CharacterSet → List ℕ → Frame → Found
 in_frame set file Cut = CutRefused
-in_frame set file (Whole start size) = in_body set start (part start size file)
+in_frame set file (Some x) = in_body set x.start (part x.start x.size file)
 
 -- SIZE, CUT, and the record's own faults
 unfoldable pub picture_at : List ℕ → ℕ → Found

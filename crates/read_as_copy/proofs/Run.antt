@@ -9,14 +9,15 @@ use lib.Dec.{leb, eqb}
 use lib.ListN.{length, take, drop, length-take}
 use lib.Seq.{take-take}
 use borrow.Author.Tests.{leb-true, leb-false}
+use Rattle.std.specs.Prelude.{Some}
 use Rattle.text.specs.declared.character_set.CharacterSet.TheVariants.{Ascii, Ebcdic}
-use Rattle.frame.specs.declared.Frame.{Frame}
-use Rattle.frame.specs.declared.Frame.TheVariants.{Cut, Whole}
+use Rattle.frame.specs.Frames.{Frame}
+use Rattle.frame.specs.Frames.{Cut, Whole}
 use Rattle.frame.specs.Frames.{part, frame_at}
 use Rattle.frame.proofs.Laws.{whole-start}
 use Rattle.layout.specs.Layout.{Layout}
 use Rattle.layout.specs.Layouts.{layouts}
-use Rattle.judge.specs.declared.Judged.TheVariants.{Sound}
+use Rattle.judge.specs.Alone.{Sound}
 use Rattle.judge.specs.Alone.{type_of, judged_as}
 use Rattle.judge.proofs.Laws.{both_true}
 use Rattle.order.specs.MayFollow.{may_follow}
@@ -26,10 +27,10 @@ use Rattle.standing.specs.Standing.{standing}
 use Rattle.standing.specs.declared.Standing.{Standing}
 use Rattle.ascii_copy.specs.AsciiCopy.{translated}
 use Rattle.passes.specs.declared.Fault.TheVariants.{After}
-use Rattle.passes.specs.declared.Step.{Step}
-use Rattle.passes.specs.declared.Step.TheVariants.{Stop, On}
+use Rattle.passes.specs.Answers.{Step}
+use Rattle.passes.specs.Answers.{Stop, On}
 use Rattle.passes.specs.declared.Totals.{Totals}
-use Rattle.passes.specs.declared.Answer.TheVariants.{Accepted}
+use Rattle.passes.specs.Answers.{Accepted}
 use Rattle.passes.specs.CheckOrder.{turn_of}
 use Rattle.passes.specs.Rows.{row_of, rows_from}
 use Rattle.passes.specs.Reading.{of_turn, of_frame, step_of, after_step, ended_with, ended, run}
@@ -117,7 +118,7 @@ module _ (file copy : List ℕ) (at : ℕ) (past : List Entry) (r : Reached file
     where
       cases : (f : Frame) → frame_at file at ≡ f → of_frame Ascii copy (standing Ebcdic file past) at f ≡ of_frame Ebcdic file (standing Ebcdic file past) at f
       cases Cut e = refl
-      cases (Whole start size) e = ap (of_turn size) (turn-alike start size e)
+      cases (Some x) e = ap (of_turn x.size) (turn-alike x.start x.size e)
 
   module _ (t size : ℕ) (step : step_of Ebcdic file (standing Ebcdic file past) at ≡ On t size) where
     -- behind a good record both readings are in step again

@@ -4,13 +4,14 @@ use mathlib.Core.Bool.{Bool, true, false, cond}
 use mathlib.Core.Path.{◌≡◌, refl, ap, ◌∙◌}
 use mathlib.Core.List.{List, []}
 use lib.ListN.{length}
+use Rattle.std.specs.Prelude.{Err}
 use Rattle.text.specs.declared.character_set.CharacterSet.TheVariants.{Ascii, Ebcdic}
 use Rattle.text.specs.CharacterSet.{set_of}
 use Rattle.ascii_copy.specs.AsciiCopy.{ascii_copy, first}
 use Rattle.passes.specs.declared.Fault.TheVariants.{Size}
 use Rattle.passes.specs.declared.Totals.{Totals}
-use Rattle.passes.specs.declared.Answer.{Answer}
-use Rattle.passes.specs.declared.Answer.TheVariants.{Accepted, Refused}
+use Rattle.passes.specs.Answers.{Answer}
+use Rattle.passes.specs.Answers.{Accepted, Refused}
 use Rattle.passes.specs.Rows.{rows_of}
 use Rattle.passes.specs.Reading.{surveyed, in_room, answer_of, table_after, table_of}
 use Rattle.ascii_copy.proofs.Copies.{allowed, CopyOf, itself, unread, translates, copy_of}
@@ -57,4 +58,4 @@ table-of-copy file table =
     cases : (a : Answer) → surveyed file ≡ a
         → table_after (in_room (length table / 7) a) (rows_of (ascii_copy file)) table ≡ table_after (in_room (length table / 7) a) (rows_of file) table
     cases (Accepted t) e = ap (λ (xs : List ℕ). table_after (in_room (length table / 7) (Accepted t)) xs table) ((read_alike file).rows e)
-    cases (Refused fault place offset) e = refl
+    cases (Err r) e = refl

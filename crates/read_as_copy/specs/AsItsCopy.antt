@@ -2,7 +2,7 @@
 -- ASCII copy gets".
 use Rattle.std.specs.Prelude.{ℕ, List, ◌≡◌, length}
 use Rattle.ascii_copy.specs.AsciiCopy.{ascii_copy}
-use Rattle.passes.specs.declared.Answer.{Answer}
+use Rattle.passes.specs.Answers.{Answer}
 use Rattle.passes.specs.Reading.{answer_of, table_of}
 
 pub record AsItsCopy (file table : List ℕ) (answer : Answer) (after : List ℕ) : Type 0 where

@@ -7,10 +7,11 @@ use mathlib.Core.Path.{◌≡◌, refl, sym, ap, ap₂, ◌∙◌, subst}
 use lib.Dec.{leb, eqb}
 use lib.ListN.{length, length-map}
 use borrow.Author.Tests.{leb-true, eqb-true, eq-eqb}
+use Rattle.std.specs.Prelude.{Some}
 use Rattle.text.specs.CharacterSet.{set_of}
 use Rattle.text.specs.declared.character_set.CharacterSet.{CharacterSet}
-use Rattle.frame.specs.declared.Frame.{Frame}
-use Rattle.frame.specs.declared.Frame.TheVariants.{Cut, Whole}
+use Rattle.frame.specs.Frames.{Frame}
+use Rattle.frame.specs.Frames.{Cut, Whole}
 use Rattle.frame.specs.Frames.{part, frame_at}
 use Rattle.judge.specs.Alone.{type_of, judged_record}
 use Rattle.file_as_records.specs.Framed.{Body}
@@ -56,7 +57,7 @@ only-last set (suc n) file at = by (frame_at file at) (λ next. only-last set n 
 
     by : (f : Frame) → ((next : ℕ) → OnlyLast set (walked_from set n file next)) → OnlyLast set (walked_on set file f (λ next. walked_from set n file next))
     by Cut others = tt
-    by (Whole start size) others = long start size others (leb 2 size)
+    by (Some x) others = long x.start x.size others (leb 2 x.size)
 
 walked-last : (set : CharacterSet) (file : List ℕ) → set ≡ set_of file → OnlyLast set (walked file)
 unfolding walked

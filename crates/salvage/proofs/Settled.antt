@@ -7,14 +7,15 @@ use mathlib.Core.Path.{◌≡◌, sym, ap, ◌∙◌, subst}
 use lib.Dec.{leb}
 use lib.ListN.{length, drop}
 use borrow.Author.Tests.{le-leb, lt-leb}
+use Rattle.std.specs.Prelude.{Err}
 use Rattle.text.specs.CharacterSet.{set_of}
 use Rattle.text.specs.declared.character_set.CharacterSet.{CharacterSet}
 use Rattle.passes.specs.declared.Fault.{Fault}
 use Rattle.passes.specs.declared.Fault.TheVariants.{Size, Room, Nothing}
 use Rattle.passes.specs.declared.Totals.{Totals}
 use Rattle.file_as_records.specs.Framed.{Body}
-use Rattle.draft.specs.declared.Outcome.{Outcome}
-use Rattle.draft.specs.declared.Outcome.TheVariants.{Written, Refused}
+use Rattle.draft.specs.Outcomes.{Outcome}
+use Rattle.draft.specs.Outcomes.{Written, Refused}
 use Rattle.draft.specs.Drafted.{made, offset_of, answer_from, in_room, outcome_of, buffer_after}
 use Rattle.draft_survey.specs.CappedOutcome.{capped_outcome}
 use Rattle.set_out.specs.SetOut.{Fits}
@@ -90,11 +91,11 @@ never e = let z : ◌≡◌ {A = ℕ} 0 1 = cc in absurd (omega arith)
 
 told : (answer : Outcome) {bytes : ℕ} {t : Totals} → Written bytes t ≡ capped_outcome answer → Told answer bytes t
 told (Written n u) e = record { size = n; is = cc; counts = cc }
-told (Refused fault place offset) e = never (sym e)
+told (Err r) e = never (sym e)
 
 told-refused : (answer : Outcome) {fault : Fault} {place offset : ℕ} → Refused fault place offset ≡ capped_outcome answer → answer ≡ Refused fault place offset
 told-refused (Written n u) e = never e
-told-refused (Refused fault place offset) e = sym e
+told-refused (Err r) e = sym e
 
 counted : (n m : ℕ) {b : ℕ} → b ≡ min n m → b < m → n ≡ b
 counted n m e h = omega arith

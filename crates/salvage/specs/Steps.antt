@@ -2,7 +2,7 @@
 use Rattle.std.specs.Prelude.{ℕ, ◌≤◌, List, ◌≡◌, length}
 use Rattle.text.specs.CharacterSet.{set_of}
 use Rattle.text.specs.declared.character_set.CharacterSet.{CharacterSet}
-use Rattle.draft.specs.declared.Outcome.{Outcome}
+use Rattle.draft.specs.Outcomes.{Outcome}
 use Rattle.salvage_model.specs.Walked.{walked}
 use Rattle.salvage_model.specs.Salvaged.{salvage_outcome, salvage_buffer, salvage_list}
 use Rattle.salvage_walk.specs.Spans.{Spans}

@@ -5,10 +5,11 @@ use mathlib.Core.List.{List, [], ◌∷◌, map}
 use mathlib.Core.Path.{◌≡◌, refl, ap, ◌∙◌}
 use lib.Dec.{leb, eqb}
 use lib.ListN.{length}
+use Rattle.std.specs.Prelude.{Some}
 use Rattle.text.specs.CharacterSet.{set_of}
 use Rattle.text.specs.declared.character_set.CharacterSet.TheVariants.{Ascii, Ebcdic}
-use Rattle.frame.specs.declared.Frame.{Frame}
-use Rattle.frame.specs.declared.Frame.TheVariants.{Cut, Whole}
+use Rattle.frame.specs.Frames.{Frame}
+use Rattle.frame.specs.Frames.{Cut, Whole}
 use Rattle.frame.specs.Frames.{part, frame_at}
 use Rattle.judge.specs.Alone.{type_of}
 use Rattle.ascii_copy.specs.AsciiCopy.{copied_body}
@@ -37,10 +38,10 @@ module _ (file copy : List ℕ) where
           → ((next : ℕ) → Ahead file copy next → walked_from Ascii n copy next ≡ copies (walked_from Ebcdic n file next))
           → walked_on Ascii copy f (λ next. walked_from Ascii n copy next) ≡ copies (walked_on Ebcdic file f (λ next. walked_from Ebcdic n file next))
       cases Cut e others = refl
-      cases (Whole start size) e others =
-          let b = part start size file in
-          rw (ahead-body file copy at start size a e, type-copied b)
-          (record-and (leb 2 size) (eqb (type_of Ebcdic b) 99) b _ _ (others (start + size) (ahead-next file copy at start size a e)))
+      cases (Some x) e others =
+          let b = part x.start x.size file in
+          rw (ahead-body file copy at x.start x.size a e, type-copied b)
+          (record-and (leb 2 x.size) (eqb (type_of Ebcdic b) 99) b _ _ (others (x.start + x.size) (ahead-next file copy at x.start x.size a e)))
 
   pub walked-copied : set_of file ≡ Ebcdic → set_of copy ≡ Ascii → Ahead file copy 0 → walked copy ≡ copies (walked file)
   unfolding walked

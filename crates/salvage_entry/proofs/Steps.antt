@@ -11,9 +11,9 @@ use Rattle.order.specs.MayFollow.{is_carried}
 use Rattle.standing.specs.Standing.{standing, onward, capped_figures, Roomy}
 use Rattle.standing.specs.declared.Standing.{Standing}
 use Rattle.passes.specs.declared.Fault.{Fault}
-use Rattle.passes.specs.declared.Turn.{Turn}
-use Rattle.passes.specs.declared.Turn.TheVariants.{Faulty, Good}
-use Rattle.draft.specs.declared.Outcome.TheVariants.{Refused}
+use Rattle.passes.specs.Answers.{Turn}
+use Rattle.passes.specs.Answers.{Faulty, Good}
+use Rattle.draft.specs.Outcomes.{Refused}
 use Rattle.draft.specs.Values.{Values, layout_of, values_at, values_of_row}
 use Rattle.draft.specs.Completed.{addenda_behind, all_sizes}
 use Rattle.draft.specs.Drafted.{body_of, offset_of, answer_from}

@@ -1,14 +1,14 @@
 -- One record more of a file that is made out record by record, without a draft. Nothing of this has to be believed.
-use Rattle.std.specs.Prelude.{ℕ, ◌≤◌, List, ◌∷◌, ◌≡◌, length}
+use Rattle.std.specs.Prelude.{ℕ, ◌≤◌, List, ◌∷◌, ◌≡◌, length, Err}
 use Rattle.standing.specs.History.{Entry}
-use Rattle.draft.specs.declared.Outcome.TheVariants as outcomes
+use Rattle.draft.specs.Outcomes as outcomes
 use Rattle.draft.specs.Values.{Values}
 use Rattle.draft.specs.Completed.{addenda_behind}
 use Rattle.draft.specs.Drafted.{file_with, past_with, offset_of, answer_from}
 use Rattle.sheet.specs.Sheet.{OnSheet}
 use Rattle.salvage_entry.specs.declared.Pen.{Pen}
-use Rattle.salvage_entry.specs.declared.Entered.{Entered}
-use Rattle.salvage_entry.specs.declared.Entered.TheVariants.{Refused, On}
+use Rattle.salvage_entry.specs.EnteredOn.{Entered}
+use Rattle.salvage_entry.specs.EnteredOn.{Refused, On}
 
 -- a file for which a sheet, figures and a number of bytes stand
 pub record Begun (sheet : List ℕ) (pen : Pen) : Type 0 where
@@ -31,5 +31,5 @@ pub record OneMore (v : Values) (vs : List Values) (file : List ℕ) (past : Lis
   pub answer : answer_from (v ∷ vs) file past ≡ answer_from vs (file_with v vs file past) (past_with v vs file past)
 
 abbrev pub EnteredAs : Values → List Values → List ℕ → List Entry → Entered → List ℕ → Type 0
-EnteredAs v vs file past (Refused fault place offset) sheet = answer_from (v ∷ vs) file past ≡ outcomes.Refused fault place offset
+EnteredAs v vs file past (Err r) sheet = answer_from (v ∷ vs) file past ≡ Err r
 EnteredAs v vs file past (On pen) sheet = OneMore v vs file past pen sheet

@@ -8,9 +8,10 @@ use mathlib.Core.Path.{◌≡◌, refl, sym, ◌∙◌}
 use lib.Dec.{leb, eqb}
 use lib.ListN.{length}
 use borrow.Author.Tests.{eqb-true, eq-eqb}
+use Rattle.std.specs.Prelude.{Some}
 use Rattle.text.specs.declared.character_set.CharacterSet.{CharacterSet}
-use Rattle.frame.specs.declared.Frame.{Frame}
-use Rattle.frame.specs.declared.Frame.TheVariants.{Cut, Whole}
+use Rattle.frame.specs.Frames.{Frame}
+use Rattle.frame.specs.Frames.{Cut, Whole}
 use Rattle.frame.specs.Frames.{part, frame_at}
 use Rattle.judge.specs.Alone.{type_of}
 use Rattle.file_as_records.specs.Framed.{Body}
@@ -40,7 +41,7 @@ walked-only-last set (suc n) file at = by (frame_at file at) (λ next. walked-on
 
     by : (f : Frame) → ((next : ℕ) → OnlyLast set (walked_from set n file next)) → OnlyLast set (walked_on set file f (λ next. walked_from set n file next))
     by Cut others = tt
-    by (Whole start size) others = long others start size (leb 2 size)
+    by (Some x) others = long others x.start x.size (leb 2 x.size)
 
 module _ (set : CharacterSet) where
   pub following-only-last : (test : Body → Bool) (bs : List Body) → OnlyLast set bs → OnlyLast set (following test bs)

@@ -16,8 +16,8 @@ use Rattle.arrangement.specs.Written.{content_then, records}
 use Rattle.arrangement.specs.Sound.{SoundContent}
 use Rattle.arrangement.specs.Arranged.{Arranges}
 use Rattle.arrangement.specs.RowsAndTotals.{totals}
-use Rattle.draft.specs.declared.Outcome.{Outcome}
-use Rattle.draft.specs.declared.Outcome.TheVariants.{Written, Refused}
+use Rattle.draft.specs.Outcomes.{Outcome}
+use Rattle.draft.specs.Outcomes.{Written, Refused}
 use Rattle.draft.specs.Promises.{ReadBack}
 use Rattle.salvage_model.specs.Walked.{walked}
 use Rattle.salvage_model.specs.Runs.{of, not_of, sound_alone, run_fault}

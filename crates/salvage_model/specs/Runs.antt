@@ -2,16 +2,16 @@
 use Rattle.std.specs.Prelude.{ℕ, zero, suc, ◌+◌, Bool, true, false, ◌&&◌, not, cond, List, [], ◌∷◌, ◌++◌, eqb, length}
 use Rattle.std.proofs.Math.Option.{Option, none, some}
 use Rattle.text.specs.declared.character_set.CharacterSet.{CharacterSet}
-use Rattle.judge.specs.declared.Judged.{Judged}
-use Rattle.judge.specs.declared.Judged.TheVariants.{Sound, WrongLength, UnknownType, WrongField}
+use Rattle.judge.specs.Alone.{Judged}
+use Rattle.judge.specs.Alone.{Sound, WrongLength, UnknownType, WrongField}
 use Rattle.judge.specs.Alone.{type_of, judged_record}
 use Rattle.order.specs.MayFollow.{is_one_of}
 use Rattle.standing.specs.History.{Entry, entry}
 use Rattle.standing.specs.Standing.{standing}
 use Rattle.passes.specs.declared.Fault.{Fault}
 use Rattle.passes.specs.declared.Fault.TheVariants.{Place}
-use Rattle.passes.specs.declared.Turn.{Turn}
-use Rattle.passes.specs.declared.Turn.TheVariants.{Faulty, Good}
+use Rattle.passes.specs.Answers.{Turn}
+use Rattle.passes.specs.Answers.{Faulty, Good}
 use Rattle.passes.specs.CheckOrder.{turn_of}
 use Rattle.file_as_records.specs.Framed.{Body, framed}
 

@@ -1,12 +1,12 @@
 -- What becomes of a torn file (request 11, reading 66): the answer, the buffer and the list.
-use Rattle.std.specs.Prelude.{ℕ, ◌+◌, ◌/◌, ◌&&◌, List, [], ◌∷◌, ◌++◌, leb, length, drop}
+use Rattle.std.specs.Prelude.{ℕ, ◌+◌, ◌/◌, ◌&&◌, List, [], ◌∷◌, ◌++◌, leb, length, drop, Err}
 use Rattle.text.specs.CharacterSet.{set_of}
 use Rattle.text.specs.declared.character_set.CharacterSet.{CharacterSet}
 use Rattle.frame.specs.Unless.{unless}
 use Rattle.judge.specs.Alone.{type_of}
 use Rattle.passes.specs.declared.Fault.TheVariants.{Size, Room, Nothing}
-use Rattle.draft.specs.declared.Outcome.{Outcome}
-use Rattle.draft.specs.declared.Outcome.TheVariants.{Written, Refused}
+use Rattle.draft.specs.Outcomes.{Outcome}
+use Rattle.draft.specs.Outcomes.{Written, Refused}
 use Rattle.draft.specs.Values.{Values}
 use Rattle.draft.specs.Drafted.{made, outcome_of, buffer_after}
 use Rattle.salvage_model.specs.Walked.{walked}
@@ -19,7 +19,7 @@ values_left file = salvaged_values (set_of file) (walked file)
 -- "then ROOM with the rows needed where the list is" short
 abbrev pub in_list : ℕ → ℕ → Outcome → Outcome
 in_list rows needed (Written n t) = unless (leb needed rows) (Refused Room needed 0) (Written n t)
-in_list rows needed (Refused fault place offset) = Refused fault place offset
+in_list rows needed (Err r) = Err r
 
 -- "Refusals ..: SIZE; NOTHING (17) ..; those of request 4, ROOM also for a short list". "Rows available are the whole fours."
 unfoldable pub salvage_outcome : List ℕ → ℕ → ℕ → Outcome
@@ -54,7 +54,7 @@ list_of file = listed (set_of file) 0 (marks_of (set_of file) (walked file))
 
 abbrev pub list_after : Outcome → List ℕ → List ℕ → List ℕ
 list_after (Written n t) rows list = rows ++ drop (length rows) list
-list_after (Refused fault place offset) rows list = list
+list_after (Err r) rows list = list
 
 unfoldable pub salvage_list : List ℕ → ℕ → List ℕ → List ℕ
 salvage_list file room list = list_after (salvage_outcome file room (length list)) (list_of file) list

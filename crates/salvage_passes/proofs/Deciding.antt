@@ -10,7 +10,7 @@ use Rattle.text.specs.declared.character_set.CharacterSet.TheVariants.{Ascii}
 use Rattle.standing.specs.Standing.{standing, capped_figures, Roomy}
 use Rattle.standing.specs.declared.Standing.{Standing}
 use Rattle.passes.specs.declared.Fault.{Fault}
-use Rattle.draft.specs.declared.Outcome.TheVariants as outcomes
+use Rattle.draft.specs.Outcomes as outcomes
 use Rattle.draft.specs.Values.{Values}
 use Rattle.draft.specs.Drafted.{file_with, past_with, rows_ended, answer_from}
 use Rattle.sheet.proofs.Laws.{sheet-starts}
@@ -20,8 +20,8 @@ use Rattle.salvage_next.specs.declared.Cue.{Cue}
 use Rattle.salvage_next.specs.declared.Entry.{Entry}
 use Rattle.salvage_next.specs.Cued.{Cued, turns, NextEntry}
 use Rattle.salvage_entry.specs.declared.Pen.{Pen}
-use Rattle.salvage_entry.specs.declared.Entered.{Entered}
-use Rattle.salvage_entry.specs.declared.Entered.TheVariants.{Refused, On}
+use Rattle.salvage_entry.specs.EnteredOn.{Entered}
+use Rattle.salvage_entry.specs.EnteredOn.{Refused, On}
 use Rattle.salvage_entry.specs.Entered.{Begun, OneMore, EnteredAs}
 use Rattle.salvage_passes.specs.Says.{Says, NextEntered}
 use Rattle.salvage_passes.proofs.Few.{turns-few}

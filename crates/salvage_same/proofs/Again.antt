@@ -23,7 +23,7 @@ use Rattle.arrangement.proofs.Shape.{Chain, shape_of}
 use Rattle.arrangement.proofs.Soundness.{good-sound}
 use Rattle.arrangement.proofs.Theorem.{arranged-accepted}
 use Rattle.same_bytes.proofs.Found.{accepted-good}
-use Rattle.draft.specs.declared.Outcome.TheVariants.{Written}
+use Rattle.draft.specs.Outcomes.{Written}
 use Rattle.draft.specs.Values.{Values}
 use Rattle.draft.specs.Drafted.{made, answer_from}
 use Rattle.draft.proofs.Shapes.{AllShaped}
@@ -33,7 +33,7 @@ use Rattle.salvage_model.specs.Salvaged.{values_left, salvage_outcome, salvage_b
 use Rattle.salvage_written.proofs.Values.{shaped-left}
 use Rattle.salvage_written.proofs.Accepted.{written-through, file-first}
 use Rattle.salvage_same.proofs.Lost.{answer-own, bytes-own}
-use Rattle.passes.specs.declared.Answer.TheVariants as answers
+use Rattle.passes.specs.Answers as answers
 
 good-chain : (set : CharacterSet) (past bs : List Body) → GoodAll set past bs → Chain set (inside_in set past) (last_in set past) bs
 good-chain set past [] g = g

@@ -20,8 +20,8 @@ use Rattle.arrangement.specs.Arranged.{Arranges}
 use Rattle.arrangement.specs.RowsAndTotals.{totals}
 use Rattle.arrangement.proofs.SoundTyped.{sound-typed}
 use Rattle.arrangement.proofs.Goodness.{sound-good}
-use Rattle.draft.specs.declared.Outcome.{Outcome}
-use Rattle.draft.specs.declared.Outcome.TheVariants.{Written}
+use Rattle.draft.specs.Outcomes.{Outcome}
+use Rattle.draft.specs.Outcomes.{Written}
 use Rattle.draft.specs.Values.{Values, values_of_body, values_of}
 use Rattle.draft.specs.Drafted.{made, buffer_after, buffer_of}
 use Rattle.same_bytes.proofs.Either.{made_again}

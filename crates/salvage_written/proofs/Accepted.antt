@@ -8,13 +8,14 @@ use lib.Dec.{leb}
 use lib.ListN.{length, take, drop}
 use lib.Seq.{take_at}
 use borrow.Author.Tests.{leb-true}
+use Rattle.std.specs.Prelude.{Err}
 use Rattle.text.specs.CharacterSet.{set_of}
 use Rattle.frame.specs.Unless.{unless}
 use Rattle.passes.specs.declared.Fault.{Fault}
 use Rattle.passes.specs.declared.Fault.TheVariants.{Size, Room, Nothing}
 use Rattle.passes.specs.declared.Totals.{Totals}
-use Rattle.draft.specs.declared.Outcome.{Outcome}
-use Rattle.draft.specs.declared.Outcome.TheVariants.{Written, Refused}
+use Rattle.draft.specs.Outcomes.{Outcome}
+use Rattle.draft.specs.Outcomes.{Written, Refused}
 use Rattle.draft.specs.Values.{Values}
 use Rattle.draft.specs.Drafted.{made, answer_from, in_room, outcome_of, buffer_after}
 use Rattle.draft.specs.Promises.{ReadBack}
@@ -42,7 +43,7 @@ in-room room n t vs (Written m u) a e = by (leb m 268_435_456) refl (leb m room)
     by true p true q = record { is = a ∙ q; small = let z : m ≡ n = cc in omega (arith, leb-true m 268_435_456 p) }
     by true p false q = never q
     by false p c q = never q
-in-room room n t vs (Refused fault place offset) a e = never e
+in-room room n t vs (Err r) a e = never e
 
 in_list_lem : (rows needed n : ℕ) (t : Totals) (answer : Outcome) → in_list rows needed answer ≡ Written n t → answer ≡ Written n t
 in_list_lem rows needed n t (Written m u) e = by (leb needed rows) e
@@ -50,7 +51,7 @@ in_list_lem rows needed n t (Written m u) e = by (leb needed rows) e
     by : (c : Bool) → unless c (Refused Room needed 0) (Written m u) ≡ Written n t → Written m u ≡ Written n t
     by true q = q
     by false q = never q
-in_list_lem rows needed n t (Refused fault place offset) e = never e
+in_list_lem rows needed n t (Err r) e = never e
 
 through : (c : Bool) (fault : Fault) (next : Outcome) {n : ℕ} {t : Totals} → unless c (Refused fault 0 0) next ≡ Written n t
     → (c ≡ true) × (next ≡ Written n t)

@@ -13,7 +13,7 @@ use Rattle.text.specs.declared.character_set.CharacterSet.{CharacterSet}
 use Rattle.text.specs.declared.character_set.CharacterSet.TheVariants.{Ascii, Ebcdic}
 use Rattle.layout.specs.Layout.{Layout}
 use Rattle.layout.specs.Layouts.{layouts}
-use Rattle.judge.specs.declared.Judged.TheVariants.{Sound}
+use Rattle.judge.specs.Alone.{Sound}
 use Rattle.judge.specs.Alone.{type_of, judged_as}
 use Rattle.judge.proofs.Laws.{both_true}
 use Rattle.ascii_copy.specs.AsciiCopy.{translated, copied_body}
@@ -23,7 +23,7 @@ use Rattle.standing.specs.History.{Entry, entry}
 use Rattle.standing.specs.Standing.{standing}
 use Rattle.standing.specs.declared.Standing.{Standing}
 use Rattle.passes.specs.declared.Fault.TheVariants.{Place}
-use Rattle.passes.specs.declared.Turn.{Turn}
+use Rattle.passes.specs.Answers.{Turn}
 use Rattle.passes.specs.CheckOrder.{turn_of}
 use Rattle.passes.proofs.Passed.{passed, turns-alike}
 use Rattle.file_as_records.specs.Framed.{Body, framed}
@@ -32,7 +32,7 @@ use Rattle.read_as_copy.proofs.Alike.{AlikeAt, AlikePast, standing-alike, agreem
 use Rattle.salvage_model.specs.Runs.{or_fault, read_on, run_fault}
 use Rattle.salvage_model.specs.Promises.{copied}
 use Rattle.salvage_written.proofs.ReadRun.{SoundAs}
-use Rattle.passes.specs.declared.Turn.TheVariants as turns
+use Rattle.passes.specs.Answers as turns
 
 -- no fixed part is longer than that of a 52
 abbrev narrow : List Layout → Bool

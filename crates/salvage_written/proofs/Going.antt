@@ -8,9 +8,10 @@ use lib.Dec.{eqb}
 use lib.ListN.{length}
 use lib.Seq.{drop_at}
 use borrow.Author.Tests.{eq-eqb}
+use Rattle.std.specs.Prelude.{Err}
 use Rattle.text.specs.declared.character_set.CharacterSet.TheVariants.{Ascii}
 use Rattle.frame.specs.Unless.{unless}
-use Rattle.judge.specs.declared.Judged.TheVariants.{Sound}
+use Rattle.judge.specs.Alone.{Sound}
 use Rattle.judge.specs.Alone.{type_of, judged_as}
 use Rattle.order.specs.MayFollow.{is_one_of, may_follow, is_carried}
 use Rattle.standing.specs.History.{entry}
@@ -20,7 +21,7 @@ use Rattle.agree.specs.Totals.{total_fault}
 use Rattle.passes.specs.declared.Fault.{Fault}
 use Rattle.passes.specs.declared.Fault.TheVariants.{Total}
 use Rattle.passes.specs.declared.Totals.{Totals}
-use Rattle.passes.specs.declared.Turn.{Turn}
+use Rattle.passes.specs.Answers.{Turn}
 use Rattle.passes.specs.CheckOrder.{agreement, turn_of}
 use Rattle.file_as_records.specs.Framed.{Body, framed}
 use Rattle.file_as_records.proofs.Figures.{last_in}
@@ -28,8 +29,8 @@ use Rattle.file_as_records.proofs.Good.{Good}
 use Rattle.file_as_records.proofs.Held.{Held, extent, entries, over, stands}
 use Rattle.file_as_records.proofs.Opened.{AllOpened, none-opened, all-opened}
 use Rattle.file_as_records.proofs.ReadThrough.{body_is}
-use Rattle.draft.specs.declared.Outcome.{Outcome}
-use Rattle.draft.specs.declared.Outcome.TheVariants.{Written, Refused}
+use Rattle.draft.specs.Outcomes.{Outcome}
+use Rattle.draft.specs.Outcomes.{Written, Refused}
 use Rattle.draft.specs.Values.{Values, values_at, values_of_body}
 use Rattle.draft.specs.Completed.{addenda_behind, completed}
 use Rattle.draft.specs.Drafted.{body_of, file_with, past_with, turn_of_row, offset_of, after_turn, rows_ended, answer_from}
@@ -43,11 +44,11 @@ use Rattle.salvage_written.proofs.ReadRun.{two-long}
 use Rattle.salvage_written.proofs.Control.{NewControl}
 use Rattle.file_as_records.proofs.Steps as steps
 use Rattle.same_bytes.proofs.Again as again
-use Rattle.passes.specs.declared.Turn.TheVariants as turns
+use Rattle.passes.specs.Answers as turns
 
 abbrev pub CanCome : Outcome → Type 0
 CanCome (Written n t) = Unit {0}
-CanCome (Refused fault place offset) = can_come fault ≡ true
+CanCome (Err r) = can_come r.fault ≡ true
 
 -- records that stand in the file that is being made
 pub record State (past : List Body) : Type 0 where

@@ -13,8 +13,8 @@ use Rattle.text.specs.Characters.{is_numeric}
 use Rattle.text.specs.DataTypes.{every}
 use Rattle.text.specs.Number.{number}
 use Rattle.frame.specs.Unless.{unless}
-use Rattle.judge.specs.declared.Judged.{Judged}
-use Rattle.judge.specs.declared.Judged.TheVariants.{Sound, WrongLength, UnknownType, WrongField}
+use Rattle.judge.specs.Alone.{Judged}
+use Rattle.judge.specs.Alone.{Sound, WrongLength, UnknownType, WrongField}
 use Rattle.judge.specs.Alone.{type_of, judged_as, judged_record}
 use Rattle.order.specs.MayFollow.{is_one_of, carried, is_carried}
 use Rattle.measure.specs.declared.Records.{Records}
@@ -25,7 +25,7 @@ use Rattle.standing.proofs.Laws.{standing-onward}
 use Rattle.agree.specs.Links.{link_fault}
 use Rattle.agree.specs.Totals.{total_fault}
 use Rattle.passes.specs.declared.Fault.TheVariants.{Place}
-use Rattle.passes.specs.declared.Turn.{Turn}
+use Rattle.passes.specs.Answers.{Turn}
 use Rattle.passes.specs.CheckOrder.{agreement, turn_of}
 use Rattle.file_as_records.specs.Framed.{Body, framed}
 use Rattle.file_as_records.proofs.Figures.{last_in, inside_in, stated_in, addenda_in}
@@ -40,7 +40,7 @@ use Rattle.salvage_model.specs.Runs.{is_right, sound_alone, or_fault, read_on, r
 use Rattle.same_bytes.proofs.Addenda.{GoodRun}
 use Rattle.salvage_written.proofs.Carried.{Base}
 use Rattle.salvage_written.proofs.Run.{Plain}
-use Rattle.passes.specs.declared.Turn.TheVariants as turns
+use Rattle.passes.specs.Answers as turns
 use Rattle.measure.specs.Measures as measures
 
 -- a carried record has its type in two characters

@@ -6,6 +6,7 @@ use mathlib.Core.List.{List, [], map}
 use mathlib.Core.Path.{◌≡◌, refl, ap, ◌∙◌, subst}
 use lib.Dec.{leb}
 use lib.ListN.{length, take}
+use Rattle.std.specs.Prelude.{Err}
 use Rattle.text.specs.CharacterSet.{set_of}
 use Rattle.frame.specs.Unless.{unless}
 use Rattle.passes.specs.declared.Fault.{Fault}
@@ -13,8 +14,8 @@ use Rattle.passes.specs.declared.Fault.TheVariants.{Size, Room, Nothing}
 use Rattle.passes.specs.declared.Totals.{Totals}
 use Rattle.file_as_records.specs.Framed.{Body, framed}
 use Rattle.file_as_records.proofs.LengthFields.{one-framing}
-use Rattle.draft.specs.declared.Outcome.{Outcome}
-use Rattle.draft.specs.declared.Outcome.TheVariants.{Written, Refused}
+use Rattle.draft.specs.Outcomes.{Outcome}
+use Rattle.draft.specs.Outcomes.{Written, Refused}
 use Rattle.draft.specs.Drafted.{made, answer_from, in_room, outcome_of}
 use Rattle.made_is_read.proofs.Whole.{accepted}
 use Rattle.values_back.proofs.Whole.{bodies_from, framed-from}
@@ -35,7 +36,7 @@ can-room room (Written n t) c = by (leb n 268_435_456) (leb n room)
     by true true = tt
     by true false = refl
     by false b = refl
-can-room room (Refused fault place offset) c = c
+can-room room (Err r) c = c
 
 can-list : (rows needed : ℕ) (o : Outcome) → CanCome o → CanCome (in_list rows needed o)
 can-list rows needed (Written n t) c = by (leb needed rows)
@@ -43,7 +44,7 @@ can-list rows needed (Written n t) c = by (leb needed rows)
     by : (a : Bool) → CanCome (unless a (Refused Room needed 0) (Written n t))
     by true = tt
     by false = refl
-can-list rows needed (Refused fault place offset) c = c
+can-list rows needed (Err r) c = c
 
 left-goes : (file : List ℕ) → is_anything (set_of file) (walked file) ≡ true
     → Going [] (values_left file) (map (copied (set_of file)) (kept_bodies (marks_of (set_of file) (walked file))))

@@ -17,7 +17,7 @@ use Rattle.standing.specs.History.{Entry, entry}
 use Rattle.standing.specs.Standing.{standing}
 use Rattle.standing.specs.declared.Standing.{Standing}
 use Rattle.passes.specs.CheckOrder.{agreement}
-use Rattle.passes.specs.declared.Turn.{Turn}
+use Rattle.passes.specs.Answers.{Turn}
 use Rattle.passes.proofs.Passed.{passed}
 use Rattle.file_as_records.specs.Framed.{Body, length_field, framed}
 use Rattle.file_as_records.proofs.Figures.{last_in}
@@ -34,12 +34,12 @@ use Rattle.arrangement.specs.RowsAndTotals.{totals}
 use Rattle.arrangement.proofs.TotalsAgree.{totals-of}
 use Rattle.arrangement.proofs.SoundTyped.{sound-typed}
 use Rattle.arrangement.proofs.Goodness.{sound-good}
-use Rattle.draft.specs.declared.Outcome.TheVariants.{Written}
+use Rattle.draft.specs.Outcomes.{Written}
 use Rattle.draft.specs.Values.{Values, layout_of, values_at, values_of_body, values_of}
 use Rattle.draft.specs.Completed.{addenda_behind, first_unfit, first_unfit_part}
 use Rattle.draft.specs.Drafted.{body_of, file_with, past_with, completed_from, made, field_fault, turn_of_row, after_turn, rows_ended, answer_from}
 use Rattle.same_bytes.proofs.Itself.{completed-itself}
-use Rattle.passes.specs.declared.Turn.TheVariants as turns
+use Rattle.passes.specs.Answers as turns
 
 -- the bytes of records, the newest first
 abbrev pub before : List Body → List ℕ

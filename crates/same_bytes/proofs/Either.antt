@@ -8,20 +8,21 @@ use lib.Dec.{leb}
 use lib.ListN.{length, take, drop, length-append}
 use lib.Seq.{take_at}
 use borrow.Author.Tests.{leb-true, le-leb, lt-leb, ne_eqb}
+use Rattle.std.specs.Prelude.{Err}
 use Rattle.text.specs.CharacterSet.{set_of}
 use Rattle.text.specs.declared.character_set.CharacterSet.{CharacterSet}
 use Rattle.text.specs.declared.character_set.CharacterSet.TheVariants.{Ascii, Ebcdic}
 use Rattle.text.specs.Characters.{is_numeric}
 use Rattle.text.specs.DataTypes.{every}
 use Rattle.text.specs.Number.{number}
-use Rattle.frame.specs.declared.Frame.{Frame}
+use Rattle.frame.specs.Frames.{Frame}
 use Rattle.frame.specs.Frames.{frame_at}
 use Rattle.judge.specs.Alone.{type_of}
 use Rattle.judge.proofs.Laws.{both_true}
 use Rattle.order.proofs.Laws.{first-type}
 use Rattle.passes.specs.declared.Fault.TheVariants.{Room}
 use Rattle.passes.specs.declared.Totals.{Totals}
-use Rattle.passes.specs.declared.Answer.{Answer}
+use Rattle.passes.specs.Answers.{Answer}
 use Rattle.passes.specs.Reading.{surveyed, answer_of}
 use Rattle.ascii_copy.specs.AsciiCopy.{copied_body, copied_frame, copied_frames, copied_from, ascii_copy}
 use Rattle.ascii_copy.proofs.Records.{length-copied, type-copied}
@@ -37,14 +38,14 @@ use Rattle.arrangement.specs.Arranged.{Arranges}
 use Rattle.arrangement.specs.RowsAndTotals.{totals}
 use Rattle.arrangement.proofs.Goodness.{sound-good}
 use Rattle.arrangement.proofs.Theorem.{arranged-accepted}
-use Rattle.draft.specs.declared.Outcome.TheVariants.{Written}
+use Rattle.draft.specs.Outcomes.{Written}
 use Rattle.draft.specs.Values.{Values, values_of_body, values_of}
 use Rattle.draft.specs.Drafted.{made, answer_from, outcome_of, buffer_of}
 use Rattle.draft.specs.Promises.{MadeAgain}
 use Rattle.same_bytes.proofs.Again.{all-again, same-in-ascii}
 use Rattle.same_bytes.proofs.Copied.{values-copied}
 use Rattle.same_bytes.proofs.Found.{accepted-good}
-use Rattle.passes.specs.declared.Answer.TheVariants as answers
+use Rattle.passes.specs.Answers as answers
 use Rattle.passes.specs.Reading as reading
 
 -- records behind their lengths are copied one by one
@@ -90,7 +91,7 @@ in-room rows (answers.Accepted u) t e = by (leb u.records.0 rows) e
     by : (c : Bool) → cond c (answers.Accepted u) (answers.Refused Room u.records.0 0) ≡ answers.Accepted t → answers.Accepted u ≡ answers.Accepted t
     by true e = e
     by false e = cc
-in-room rows (answers.Refused fault place offset) t e = cc
+in-room rows (Err r) t e = cc
 
 copy-accepted : (file : List ℕ) (t : Totals) → surveyed file ≡ answers.Accepted t → surveyed (ascii_copy file) ≡ answers.Accepted t
 unfolding answer_of

@@ -16,7 +16,7 @@ use Rattle.frame.specs.Frames.{part}
 use Rattle.layout.specs.Layout.{Layout, sized_parts}
 use Rattle.layout.specs.Layouts.{layouts}
 use Rattle.layout.specs.Laid.{end_to_end}
-use Rattle.judge.specs.declared.Judged.TheVariants.{Sound, UnknownType}
+use Rattle.judge.specs.Alone.{Sound, UnknownType}
 use Rattle.judge.specs.Alone.{first_wrong, first_wrong_part, is_variable, stated_sizes, judged, alone, type_of, among_layouts, judged_as}
 use Rattle.judge.proofs.Laws.{both_true, kept, length-not-sound, field-not-sound}
 use Rattle.order.specs.MayFollow.{is_one_of, carried, is_carried}

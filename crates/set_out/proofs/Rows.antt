@@ -22,12 +22,12 @@ use Rattle.standing.proofs.Laws.{figures-capped, roomy}
 use Rattle.passes.specs.declared.Fault.{Fault}
 use Rattle.passes.specs.declared.Fault.TheVariants.{Place}
 use Rattle.passes.specs.declared.Totals.{Totals}
-use Rattle.passes.specs.declared.Turn.{Turn}
-use Rattle.passes.specs.declared.Turn.TheVariants.{Faulty, Good}
+use Rattle.passes.specs.Answers.{Turn}
+use Rattle.passes.specs.Answers.{Faulty, Good}
 use Rattle.passes.specs.Reading.{totals_of}
 use Rattle.file_as_records.specs.Framed.{framed}
 use Rattle.alike.proofs.Figures.{placed}
-use Rattle.draft.specs.declared.Outcome.TheVariants.{Written, Refused}
+use Rattle.draft.specs.Outcomes.{Written, Refused}
 use Rattle.draft.specs.Owned.{Owned}
 use Rattle.draft.specs.Values.{Values, layout_of, values_at, values_of_row, values_of_rows}
 use Rattle.draft.specs.Completed.{addenda_behind, fixed_part, all_parts, all_sizes, completed}

@@ -4,7 +4,7 @@ use Rattle.text.specs.declared.character_set.CharacterSet.{CharacterSet}
 use Rattle.standing.specs.History.{Entry}
 use Rattle.standing.specs.declared.Standing.{Standing}
 use Rattle.passes.specs.declared.Totals.{Totals}
-use Rattle.draft.specs.declared.Outcome.TheVariants.{Written}
+use Rattle.draft.specs.Outcomes.{Written}
 use Rattle.draft.specs.Values.{Values, values_of_rows}
 use Rattle.draft.specs.Completed.{addenda_behind}
 use Rattle.draft.specs.Drafted.{completed_from, answer_from}

@@ -10,8 +10,8 @@ use Rattle.text.specs.declared.character_set.CharacterSet.{CharacterSet}
 use Rattle.passes.specs.declared.Fault.{Fault}
 use Rattle.passes.specs.declared.Fault.TheVariants.{Size, Room}
 use Rattle.passes.specs.declared.Totals.{Totals}
-use Rattle.passes.specs.declared.Answer.{Answer}
-use Rattle.passes.specs.declared.Answer.TheVariants.{Accepted, Refused}
+use Rattle.passes.specs.Answers.{Answer}
+use Rattle.passes.specs.Answers.{Accepted, Refused}
 use Rattle.passes.specs.Rows.{rows_of}
 use Rattle.passes.specs.Reading.{surveyed, answer_of, table_of}
 use Rattle.file_as_records.proofs.LengthFields.{Bytes}

@@ -1,8 +1,8 @@
 -- The slow reader (request 12): "SIZE from 65,537 bytes in the slow reader only"; up to there the answer and the table of the first reader.
 use Rattle.std.specs.Prelude.{ℕ, cond, List, leb, length}
 use Rattle.passes.specs.declared.Fault.TheVariants.{Size}
-use Rattle.passes.specs.declared.Answer.{Answer}
-use Rattle.passes.specs.declared.Answer.TheVariants.{Refused}
+use Rattle.passes.specs.Answers.{Answer}
+use Rattle.passes.specs.Answers.{Refused}
 use Rattle.passes.specs.Reading.{answer_of, table_of}
 
 unfoldable pub slow_answer : List ℕ → ℕ → Answer

@@ -14,7 +14,7 @@ use Rattle.layout.specs.Layouts.{layouts}
 use Rattle.layout.specs.Packing.{usage_of}
 use Rattle.judge.specs.Alone.{alone, among_layouts, judged_as, line_holds, first_wrong, stated_size, stated_sizes, first_wrong_part, judged}
 use Rattle.judge.specs.Alone as alone
-use Rattle.judge.specs.declared.Judged.TheVariants.{UnknownType}
+use Rattle.judge.specs.Alone.{UnknownType}
 use Rattle.slow_record.specs.Rows.{Entry, role_of, of_line, of_part, entries_of, field_holds, fields_of, parts_of, length_of, wrong_field, stated, wrong_part, is_variable, judged_by}
 
 usage-kept : (u : Usage) → usage_of (role_of u) ≡ u

@@ -19,8 +19,8 @@ use Rattle.layout.specs.Layout.{Line, Sized, Layout, sized_parts}
 use Rattle.layout.specs.Layouts.{layouts}
 use Rattle.layout.specs.Packing.{usage_of, data_type_of, forms_in}
 use Rattle.judge.specs.Alone.{unless_field}
-use Rattle.judge.specs.declared.Judged.{Judged}
-use Rattle.judge.specs.declared.Judged.TheVariants.{Sound, WrongLength, UnknownType}
+use Rattle.judge.specs.Alone.{Judged}
+use Rattle.judge.specs.Alone.{Sound, WrongLength, UnknownType}
 
 -- the lists of codes, and the rules of clauses 6.7 and 6.8, by their numbers in the table
 abbrev pub list_of : ℕ → CodeList

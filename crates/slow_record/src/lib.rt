@@ -9,7 +9,7 @@ ghost use Rattle.std.specs.Prelude.{◌≡◌, ◌&&◌, not, cond, map, ◌≤�
 ghost use Rattle.text.specs.DataTypes.{of_type};
 ghost use Rattle.frame.specs.Frames.{part, length_in, frame_at};
 ghost use Rattle.judge.specs.Alone.{unless_field, type_of, judged_as};
-ghost use Rattle.judge.specs.declared.Judged.TheVariants.{Sound};
+ghost use Rattle.judge.specs.Alone.{Sound};
 ghost use Rattle.slow_record.specs.Rows.{entry_of, is_field, is_part, field_holds, stated_in, fields_of, parts_of, length_of, wrong_field, stated, wrong_part, judged_by};
 
 use crate::lines::{

@@ -9,9 +9,9 @@ use lib.ListN.{length}
 use Rattle.text.specs.declared.character_set.CharacterSet.{CharacterSet}
 use Rattle.order.specs.MayFollow.{table, in_table, follows}
 use Rattle.standing.specs.declared.Standing.{Standing}
-use Rattle.passes.specs.declared.Answer.{Answer}
-use Rattle.slow_step.specs.declared.Entered.{Entered}
-use Rattle.slow_step.specs.declared.Entered.TheVariants.{Stop, On}
+use Rattle.passes.specs.Answers.{Answer}
+use Rattle.slow_step.specs.Entered.{Entered}
+use Rattle.slow_step.specs.Entered.{Stop, On}
 use Rattle.slow_step.specs.Places.{type_at, IsAnswer, Reached, Called, GoesOn, Enters}
 
 -- in a bundle or outside, behind a record of a type

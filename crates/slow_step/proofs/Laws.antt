@@ -11,7 +11,7 @@ use borrow.Author.Tests.{eqb-true, lt-leb, le-leb, leb-false}
 use Rattle.text.specs.declared.character_set.CharacterSet.{CharacterSet}
 use Rattle.frame.specs.Unless.{unless}
 use Rattle.frame.specs.Frames.{part, frame_at}
-use Rattle.frame.specs.declared.Frame.TheVariants.{Cut, Whole}
+use Rattle.frame.specs.Frames.{Cut, Whole}
 use Rattle.frame.proofs.Laws.{cut-length, whole-start, whole-within}
 use Rattle.judge.specs.Alone.{type_of, judged_as}
 use Rattle.order.specs.MayFollow.{is_carried, follows, one_item_type, may_follow}
@@ -19,11 +19,11 @@ use Rattle.standing.specs.Standing.{onward, capped_figures, Roomy}
 use Rattle.standing.specs.declared.Standing.{Standing}
 use Rattle.passes.specs.declared.Fault.{Fault}
 use Rattle.passes.specs.declared.Fault.TheVariants.{Length, UnknownType, Place}
-use Rattle.passes.specs.declared.Turn.{Turn}
-use Rattle.passes.specs.declared.Turn.TheVariants.{Faulty}
-use Rattle.passes.specs.declared.Step.TheVariants.{Stop, On}
-use Rattle.passes.specs.declared.Answer.{Answer}
-use Rattle.passes.specs.declared.Answer.TheVariants.{Refused}
+use Rattle.passes.specs.Answers.{Turn}
+use Rattle.passes.specs.Answers.{Faulty}
+use Rattle.passes.specs.Answers.{Stop, On}
+use Rattle.passes.specs.Answers.{Answer}
+use Rattle.passes.specs.Answers.{Refused}
 use Rattle.passes.specs.CheckOrder.{unless_alone, agreement, turn_of}
 use Rattle.passes.specs.Reading.{of_turn, step_of, ended_with, Counted}
 use Rattle.passes.proofs.Passed.{passed}

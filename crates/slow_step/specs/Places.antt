@@ -1,19 +1,19 @@
 -- What the slow reader's functions promise each other. Each stands at an offset of the file and gives the answer to the whole file.
-use Rattle.std.specs.Prelude.{ℕ, ◌+◌, ◌*◌, ◌≤◌, ◌<◌, Bool, true, false, ◌&&◌, cond, ◌≡◌, List, [], leb, eqb, length}
+use Rattle.std.specs.Prelude.{ℕ, ◌+◌, ◌*◌, ◌≤◌, ◌<◌, Bool, true, false, ◌&&◌, cond, ◌≡◌, List, [], leb, eqb, length, Some}
 use Rattle.text.specs.declared.character_set.CharacterSet.{CharacterSet}
-use Rattle.frame.specs.declared.Frame.{Frame}
-use Rattle.frame.specs.declared.Frame.TheVariants.{Cut, Whole}
+use Rattle.frame.specs.Frames.{Frame}
+use Rattle.frame.specs.Frames.{Cut, Whole}
 use Rattle.frame.specs.Frames.{part, frame_at}
 use Rattle.judge.specs.Alone.{type_of}
 use Rattle.order.specs.MayFollow.{is_carried, follows}
 use Rattle.standing.specs.History.{Entry}
 use Rattle.standing.specs.Standing.{standing, capped_figures}
 use Rattle.standing.specs.declared.Standing.{Standing}
-use Rattle.passes.specs.declared.Answer.{Answer}
+use Rattle.passes.specs.Answers.{Answer}
 use Rattle.passes.specs.Rows.{rows_of, rows_from}
 use Rattle.passes.specs.Reading.{run, Counted}
-use Rattle.slow_step.specs.declared.Entered.{Entered}
-use Rattle.slow_step.specs.declared.Entered.TheVariants.{Stop, On}
+use Rattle.slow_step.specs.Entered.{Entered}
+use Rattle.slow_step.specs.Entered.{Stop, On}
 
 -- the type of a record, where it can be told: 0 where LENGTH or UNKNOWN TYPE comes first
 abbrev pub type_in : CharacterSet → List ℕ → ℕ
@@ -21,7 +21,7 @@ type_in set body = cond (leb 2 (length body) && is_carried (type_of set body)) (
 
 abbrev pub framed_type : CharacterSet → List ℕ → Frame → ℕ
 framed_type set file Cut = 0
-framed_type set file (Whole start size) = type_in set (part start size file)
+framed_type set file (Some x) = type_in set (part x.start x.size file)
 
 -- the same of the record at an offset, 0 too where the bytes end there or are cut
 unfoldable pub type_at : CharacterSet → List ℕ → ℕ → ℕ

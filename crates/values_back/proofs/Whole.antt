@@ -18,7 +18,7 @@ use Rattle.file_as_records.proofs.LengthFields.{one-framing}
 use Rattle.arrangement.specs.Tree.{File}
 use Rattle.arrangement.specs.Written.{records}
 use Rattle.arrangement.specs.Arranged.{Arranges}
-use Rattle.draft.specs.declared.Outcome.TheVariants.{Written}
+use Rattle.draft.specs.Outcomes.{Written}
 use Rattle.draft.specs.Values.{Values, layout_of, values_at, values_of_row, values_of_rows, set_of_text, values_of_draft, values_of_body, values_of}
 use Rattle.draft.specs.Completed.{addenda_behind, first_unfit}
 use Rattle.draft.specs.Drafted.{body_of, file_with, past_with, completed_from, made, answer_from}

@@ -8,13 +8,14 @@ use lib.Dec.{leb}
 use lib.ListN.{length, take, drop}
 use lib.Seq.{take_at}
 use borrow.Author.Tests.{leb-true, lt-leb, le-leb}
+use Rattle.std.specs.Prelude.{Err}
 use Rattle.text.specs.declared.character_set.CharacterSet.{CharacterSet}
 use Rattle.frame.specs.Unless.{unless}
 use Rattle.passes.specs.declared.Fault.{Fault}
 use Rattle.passes.specs.declared.Fault.TheVariants.{Size, Room}
 use Rattle.passes.specs.declared.Totals.{Totals}
-use Rattle.draft.specs.declared.Outcome.{Outcome}
-use Rattle.draft.specs.declared.Outcome.TheVariants.{Written, Refused}
+use Rattle.draft.specs.Outcomes.{Outcome}
+use Rattle.draft.specs.Outcomes.{Written, Refused}
 use Rattle.draft.specs.Values.{Values, set_of_text, values_of_rows, values_of_draft}
 use Rattle.draft.specs.Drafted.{made, offset_of, answer_from, in_room, outcome_of, buffer_after, buffer_of}
 use Rattle.draft.specs.Promises.{ReadBack, Promised}
@@ -41,7 +42,7 @@ kept room n t (Written m u) e = by (leb m 268_435_456) refl (leb m room) e
     by true p true q = record { is = q; small = let z : m ≡ n = cc in omega (arith, leb-true m 268_435_456 p) }
     by true p false q = never q
     by false p c q = never q
-kept room n t (Refused fault place offset) e = never e
+kept room n t (Err r) e = never e
 
 module _ (text draft out : List ℕ) where
   abbrev vs : List Values
@@ -147,11 +148,11 @@ record Told (answer : Outcome) (bytes : ℕ) (t : Totals) : Type 0 where
 
 told : (answer : Outcome) {bytes : ℕ} {t : Totals} → Written bytes t ≡ capped_outcome answer → Told answer bytes t
 told (Written n u) e = record { size = n; is = cc; counts = cc }
-told (Refused fault place offset) e = never (sym e)
+told (Err r) e = never (sym e)
 
 told-refused : (answer : Outcome) {fault : Fault} {place offset : ℕ} → Refused fault place offset ≡ capped_outcome answer → answer ≡ Refused fault place offset
 told-refused (Written n u) e = never e
-told-refused (Refused fault place offset) e = sym e
+told-refused (Err r) e = sym e
 
 -- what is promised of the call, in each way that it ends
 module _ (text draft out : List ℕ) where

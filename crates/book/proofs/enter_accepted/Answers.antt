@@ -9,7 +9,7 @@ use Rattle.figures.specs.Figures.{figures, plus, fits}
 use Rattle.net.specs.Net.{within}
 use Rattle.letters.specs.Letters.{letters_of}
 use Rattle.letters.proofs.Theorem.{AcceptedLetters, accepted-letters}
-use Rattle.book_model.specs.declared.Entering.TheVariants.{Entered}
+use Rattle.book_model.specs.Entering.{Entered}
 use Rattle.book_model.specs.PlainList.{position_of, entries_on, keeps_range, has_room}
 use Rattle.book_model.specs.Table.{last_number, running_totals, rows_used, free_rows, gaps, entries_of, own_of, free_in, placed}
 use Rattle.book_model.proofs.Laws.{sound}

@@ -1,7 +1,7 @@
 use mathlib.Core.Path.{◌≡◌, sym, ap, ◌∙◌}
 use native.Mathlib.Omega.{arith}
 use Rattle.frame.specs.Frames.{part, frame_at}
-use Rattle.frame.specs.declared.Frame.TheVariants.{Whole}
+use Rattle.frame.specs.Frames.{Whole}
 use Rattle.frame.proofs.Laws.{whole-start, whole-within}
 use Rattle.judge.specs.Alone.{type_of}
 use Rattle.passes.proofs.Passes.{place-moves}

@@ -1,6 +1,5 @@
 use mathlib.Core.Path.{sym}
 use native.Mathlib.Omega.{arith}
-use Rattle.frame.specs.Frames.{part}
 use Rattle.frame.proofs.Laws.{part-outside, part-tail}
 use Rattle.frame.proofs.part_of.Goals as goal
 

@@ -1,5 +1,6 @@
 use mathlib.Core.Path.{sym, ◌∙◌}
 use borrow.Author.Tests.{lt-leb, le-leb}
+use Rattle.std.proofs.result.Match.{err_is}
 use Rattle.passes.specs.CheckOrder.{turn_of}
 use Rattle.passes.proofs.judge_next.Goals as goal
 
@@ -18,18 +19,10 @@ returns-then-not-may_follow c = rw (le-leb _ _ c.if-body-lt2.false, sym c.type_o
 pub judge_as-requires : goal.judge_as-requires
 judge_as-requires c = c.requires.0
 
-pub returns-in-Sound : goal.returns-in-Sound
+pub returns-in_err-judge_as : goal.returns-in_err-judge_as
 unfolding turn_of
-returns-in-Sound c = rw (le-leb _ _ c.if-body-lt2.false, sym c.type_of-kind.ensures, sym c.is_carried.ensures ∙ c.if-not-is_carried.false, sym c.may_follow.ensures ∙ c.if-not-may_follow.false, sym c.judge_as.ensures ∙ c.in-Sound.is) c.agrees.ensures
+returns-in_err-judge_as c = rw (le-leb _ _ c.if-body-lt2.false, sym c.type_of-kind.ensures, sym c.is_carried.ensures ∙ c.if-not-is_carried.false, sym c.may_follow.ensures ∙ c.if-not-may_follow.false, sym c.judge_as.ensures ∙ c.in_err-judge_as.was) (err_is _ _ c.from_residual.ensures.1)
 
-pub returns-in-WrongLength : goal.returns-in-WrongLength
+pub returns : goal.returns
 unfolding turn_of
-returns-in-WrongLength c = rw (le-leb _ _ c.if-body-lt2.false, sym c.type_of-kind.ensures, sym c.is_carried.ensures ∙ c.if-not-is_carried.false, sym c.may_follow.ensures ∙ c.if-not-may_follow.false, sym c.judge_as.ensures ∙ c.in-WrongLength.is)
-
-pub returns-in-UnknownType : goal.returns-in-UnknownType
-unfolding turn_of
-returns-in-UnknownType c = rw (le-leb _ _ c.if-body-lt2.false, sym c.type_of-kind.ensures, sym c.is_carried.ensures ∙ c.if-not-is_carried.false, sym c.may_follow.ensures ∙ c.if-not-may_follow.false, sym c.judge_as.ensures ∙ c.in-UnknownType.is)
-
-pub returns-in-WrongField : goal.returns-in-WrongField
-unfolding turn_of
-returns-in-WrongField c = rw (le-leb _ _ c.if-body-lt2.false, sym c.type_of-kind.ensures, sym c.is_carried.ensures ∙ c.if-not-is_carried.false, sym c.may_follow.ensures ∙ c.if-not-may_follow.false, sym c.judge_as.ensures ∙ c.in-WrongField.is)
+returns c = rw (le-leb _ _ c.if-body-lt2.false, sym c.type_of-kind.ensures, sym c.is_carried.ensures ∙ c.if-not-is_carried.false, sym c.may_follow.ensures ∙ c.if-not-may_follow.false, sym c.judge_as.ensures ∙ c.in_ok-judge_as.was) c.agrees.ensures

@@ -1,6 +1,6 @@
 use Rattle.slow_step.proofs.Laws.{misfits}
 use Rattle.passes.specs.Reading.{step_of}
-use Rattle.passes.specs.declared.Step.TheVariants.{Stop}
+use Rattle.passes.specs.Answers.{Stop}
 use borrow.Author.Tests.{eq-eqb, ne_eqb}
 use mathlib.Core.Path.{sym, ap, ◌∙◌}
 use Rattle.slow_step.proofs.unfit.Goals as goal

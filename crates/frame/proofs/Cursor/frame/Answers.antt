@@ -1,6 +1,5 @@
 use mathlib.Core.Path.{◌≡◌, sym, ◌∙◌, ap}
 use native.Mathlib.Omega.{arith}
-use lib.ListN.{length}
 use Prim.Native.Nat.{ℕ}
 use Rattle.frame.specs.Frames.{length_in, length_at}
 use Rattle.frame.proofs.Laws.{rest-whole, cut-length, cut-body, whole}
