@@ -1,7 +1,7 @@
 -- The three types of item, sums that have stopped, and amounts. Assumes nothing.
-use Prim.Native.Nat.{ℕ, ◌+◌, ◌<◌, ◌≤◌}
+use Prim.Native.Nat.{ℕ, ◌≤◌}
 use native.Mathlib.Omega.{arith}
-use mathlib.Core.Bool.{Bool, true, false, ◌&&◌, ◌||◌, not, cond}
+use mathlib.Core.Bool.{Bool, true, false}
 use mathlib.Core.Path.{◌≡◌, refl, sym, ap, ◌∙◌, subst}
 use mathlib.Core.List.{List}
 use lib.Dec.{leb, eqb}
@@ -10,7 +10,8 @@ use Rattle.text.specs.declared.character_set.CharacterSet.{CharacterSet}
 use Rattle.measure.specs.Measures.{sums, unstatable, capped, Small}
 use Rattle.measure.proofs.Capped.{capped_small}
 use Rattle.order.specs.MayFollow.{is_item}
-use Rattle.standing.specs.History.{is_debit, amount_of, adds}
+use mir.Val.{bool_byte}
+use Rattle.standing.specs.History.{is_debit, amount_of, adds, one}
 use Rattle.standing.specs.Standing.{capped_figures}
 use Rattle.standing.specs.declared.Standing.{Standing}
 
@@ -84,3 +85,8 @@ stopped s e =
 
 pub one-view-small : Small (sums 0 0 0 0 1)
 one-view-small = record { debits = omega arith; debit = omega arith; credits = omega arith; credit = omega arith; views = omega arith }
+
+-- a test, as the library turns it into a number
+pub counted : (n : ℕ) (b : Bool) → n ≡ bool_byte b → n ≡ one b
+counted n true e = e
+counted n false e = e
