@@ -39,6 +39,7 @@ impl Flaw {
     }
 
     // The field at fault, 0 for the whole record.
+    // Stays: document 01 and the C interface number fields so, and `field_of` of specs/Alone.antt does.
     pub fn field(self) -> usize
         ensures { result ≡ field_of (Err self) }
     {
@@ -178,6 +179,7 @@ fn judge_body(set: CharacterSet, fixed: usize, lines: &[u64], parts: &[u64], bod
 }
 
 // The type that a record's first two characters name, or 0.
+// Stays: `type_of` and `judged_as` of specs/Alone.antt say that 0 is no type, and `judge_as` takes it like any other number.
 pub fn type_of(set: CharacterSet, body: &[u8]) -> u64
     ensures { result ≡ type_of set body.now }
 {

@@ -1,10 +1,9 @@
 -- Numbers of fields are small, and so are sums over few records; how one record more moves a figure, and all figures, on. Assumes nothing.
 use mathlib.Core.Path.{◌≡◌, refl, sym, ap, ◌∙◌}
 use mathlib.Core.List.{List, [], ◌∷◌}
-use mathlib.Core.Bool.{Bool, true, false, ◌&&◌, not, cond}
+use mathlib.Core.Bool.{Bool, true, false, cond}
 use native.Mathlib.Numerals.{add-one}
 use lib.Dec.{eqb}
-use borrow.Author.Tests.{eqb-true}
 use Rattle.text.specs.declared.character_set.CharacterSet.{CharacterSet}
 use Rattle.measure.specs.Measures.{cents, no_sums, together, capped, capped_sums, Small}
 use Rattle.measure.proofs.Capped.{capped_small, capped-twice, capped-since, capped-sums-twice, capped-sums-since}

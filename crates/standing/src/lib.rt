@@ -12,6 +12,7 @@ ghost use Rattle.standing.specs.Standing.{standing, onward, capped_figures, Room
 use measure::{Cents, Items, Records, Sums, Views};
 use text::CharacterSet;
 
+// Stays: a type is document 01's number, and 0 is none, since `standing` of specs/Standing.antt and the theorems on it say so.
 #[derive(Clone, Copy)]
 pub struct Standing {
     // The type of the last record, 0 at the start; whether a bundle is open; the type of the checks or returns in the open bundle, and that of
@@ -82,6 +83,7 @@ impl Standing {
 }
 
 // The characters of a record from a position on, counted from 1; its length field stands at an offset of the file.
+// Stays: set, file and offset are three arguments here and below, as they are of the definitions (specs/History.antt) and of the public `moved` and `agree::link_fault`.
 pub fn characters_at(file: &[u8], offset: usize, first: usize, size: usize) -> &[u8]
     ensures { result.now ≡ characters file.now offset first size }
 {

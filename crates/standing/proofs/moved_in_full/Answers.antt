@@ -4,7 +4,6 @@ use mathlib.Core.Path.{◌≡◌, refl, ◌∙◌, ap}
 use lib.Dec.{eqb}
 use borrow.Author.Tests.{ne_eqb}
 use Rattle.measure.specs.Measures.{items, cents, capped}
-use Rattle.order.specs.MayFollow.{is_item}
 use Rattle.standing.specs.History.{one, stated_by}
 use Rattle.standing.specs.Standing.{onward}
 use Rattle.standing.proofs.Laws.{since-moves, sums-move, assembled}
