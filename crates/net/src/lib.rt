@@ -44,10 +44,10 @@ pub fn stays_within(net: i64, credit: u64, debit: u64) -> bool
     } else {
         net.checked_sub_unsigned(debit - credit)
     };
-    match after {
-        Some(net) => is_within(net),
-        None => false,
-    }
+    let Some(after) = after else {
+        return false;
+    };
+    is_within(after)
 }
 
 // Credit minus debit, where it is within the bound.
