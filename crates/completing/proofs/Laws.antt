@@ -7,7 +7,7 @@ use mathlib.Core.List.{List, [], ◌∷◌, ◌++◌, map}
 use mathlib.Core.Path.{◌≡◌, refl, ap, sym, ◌∙◌}
 use borrow.Author.Tests.{ne_eqb, leb-true}
 use lib.Dec.{leb, eqb}
-use lib.ListN.{length, get_or, take, drop, set, length-append}
+use lib.ListN.{length, get_or, take, drop, set, length-append, drop_of_length-le}
 use lib.Seq.{sets, length-sets}
 use Rattle.text.specs.declared.character_set.CharacterSet.{CharacterSet}
 use Rattle.text.specs.declared.character_set.CharacterSet.TheVariants.{Ascii, Ebcdic}
@@ -26,7 +26,6 @@ use Rattle.draft.specs.Owned.{Owned}
 use Rattle.draft.specs.Values.{Piece, is_given, in_ascii, piece, fields_given, layout_of, values_at, values_of_row}
 use Rattle.draft.specs.Completed.{size_of, characters_of, statement, leaves_blank, worked_out, fixed_part}
 use Rattle.draft.proofs.Shapes.{given_sizes, shaped_row, piece-long, worked-out-long, fixed-long}
-use Rattle.draft_rows.proofs.Parts.{parts-in-fields, left-first}
 
 -- nothing is given in no characters
 nothing : (xs : List ℕ) → length xs ≡ 0 → xs ≡ []
@@ -135,74 +134,65 @@ module _ (set : CharacterSet) (text rows : List ℕ) (addenda : ℕ) (s : Standi
   unfolding values_of_row values_at
   all-long = fixed-long (values_of_row set text rows) addenda s (shaped_row set text rows)
 
-  module _ (own : List ℕ) (end : ℕ) where
+  module _ (ps : List ℕ) where
     -- the lines from a place on among the numbers
     abbrev pub lines_at : ℕ → List Line
-    lines_at i = lines_from i (take (end - i) (drop i own))
+    lines_at k = lines_from (k + 1) (drop k ps)
 
-    pub next : (i : ℕ) → end ≤ length own → i < end → lines_at i ≡ line_of i (get_or own i 0) ∷ lines_at (i + 1)
-    next i long h = let e : end - i ≡ suc (end - (i + 1)) = omega arith in rw (rest own i (omega arith), e)
+    pub next : (k : ℕ) → k < length ps → lines_at k ≡ line_of (k + 1) (get_or ps k 0) ∷ lines_at (k + 1)
+    next k h = rw (rest ps k h)
 
     -- they are all the lines to begin with
-    module _ (owned : Owned (layout_of (get_or rows 0 0)) own) (to : end ≡ fields_in (get_or own 0 0) + 1 - parts_in (get_or own 0 0)) where
-      pub first-lines : lines_at 1 ≡ (layout_of (get_or rows 0 0)).lines
-      first-lines =
-          let count : end - 1 ≡ lines_in (get_or own 0 0) = omega (arith, parts-in-fields own rows owned) in
-          rw count (ap (λ (b : Block). b.lines) owned.means)
-
-      pub first-whole : together (lines_at 1) ≡ whole_of
-      first-whole = ap together first-lines ∙ all
+    pub first-whole : lines_from 1 ps ≡ (layout_of (get_or rows 0 0)).lines → together (lines_at 0) ≡ whole_of
+    first-whole are = ap together are ∙ all
 
     -- what is left of them behind what has been set down gives the whole
-    pub record Left (out₀ : List ℕ) (at : ℕ) (out : List ℕ) (place i : ℕ) : Type 0 where
-      pub numbers : end ≤ length own
+    pub record Left (out₀ : List ℕ) (at : ℕ) (out : List ℕ) (place k : ℕ) : Type 0 where
       pub long : length out ≡ length out₀
-      pub room : place + length (together (lines_at i)) ≤ length out₀
-      pub shape : InShape (lines_at i)
-      pub onward : sets out place (together (lines_at i)) ≡ sets out₀ at whole_of
+      pub room : place + length (together (lines_at k)) ≤ length out₀
+      pub shape : InShape (lines_at k)
+      pub onward : sets out place (together (lines_at k)) ≡ sets out₀ at whole_of
 
-    pub left-all : Owned (layout_of (get_or rows 0 0)) own → end ≡ fields_in (get_or own 0 0) + 1 - parts_in (get_or own 0 0)
-        → (out : List ℕ) (at : ℕ) → at + (layout_of (get_or rows 0 0)).fixed_length ≤ length out → Left out at out at 1
-    left-all owned to out at h =
+    pub left-all : lines_from 1 ps ≡ (layout_of (get_or rows 0 0)).lines → (out : List ℕ) (at : ℕ) → at + (layout_of (get_or rows 0 0)).fixed_length ≤ length out
+        → Left out at out at 0
+    left-all are out at h =
         record {
-          numbers = omega (arith, (left-first own rows owned _ _ refl refl 0).long);
           long = refl;
-          room = rw (first-whole owned to, all-long) h;
-          shape = rw (first-lines owned to) all-in-shape;
-          onward = ap (sets out at) (first-whole owned to);
+          room = rw (first-whole are, all-long) h;
+          shape = rw are all-in-shape;
+          onward = ap (sets out at) (first-whole are);
         }
 
-    module _ {out₀ out : List ℕ} {at place i : ℕ} (left : Left out₀ at out place i) where
-      pub left-none : end ≤ i → out ≡ sets out₀ at whole_of
+    module _ {out₀ out : List ℕ} {at place k : ℕ} (left : Left out₀ at out place k) where
+      pub left-none : length ps ≤ k → out ≡ sets out₀ at whole_of
       unfolding fixed_part
-      left-none h = let e : end - i ≡ 0 = omega arith in rw e at left.onward
+      left-none h = rw (drop_of_length-le ps h) at left.onward
 
-      module _ (inside : i < end) where
+      module _ (inside : k < length ps) where
         abbrev pub this : Line
-        this = line_of i (get_or own i 0)
+        this = line_of (k + 1) (get_or ps k 0)
 
-        pub one : Turn this (lines_at (i + 1))
-        one = turn this (lines_at (i + 1)) (rw (next i left.numbers inside) at left.shape)
+        pub one : Turn this (lines_at (k + 1))
+        one = turn this (lines_at (k + 1)) (rw (next k inside) at left.shape)
 
-        pub both : together (lines_at i) ≡ own_of this ++ together (lines_at (i + 1))
-        both = rw (next i left.numbers inside) one.is
+        pub both : together (lines_at k) ≡ own_of this ++ together (lines_at (k + 1))
+        both = rw (next k inside) one.is
 
-        roomy : place + (this.size + length (together (lines_at (i + 1)))) ≤ length out₀
+        roomy : place + (this.size + length (together (lines_at (k + 1)))) ≤ length out₀
         roomy = rw (both, length-append, one.long) at left.room
 
         pub left-room : place + this.size ≤ length out
         left-room = omega (arith, roomy, left.long)
 
-        pub left-on : (out' : List ℕ) → out' ≡ sets out place (own_of this) → Left out₀ at out' (place + this.size) (i + 1)
+        pub left-on : (out' : List ℕ) → out' ≡ sets out place (own_of this) → Left out₀ at out' (place + this.size) (k + 1)
         left-on out' e =
             record {
-              numbers = left.numbers;
               long = ap length e ∙ length-sets out place (own_of this) ∙ left.long;
               room = omega (arith, roomy);
               shape = one.shape;
               onward =
-                  ap (λ (l : List ℕ). sets l (place + this.size) (together (lines_at (i + 1)))) e
-                  ∙ ap (λ (n : ℕ). sets (sets out place (own_of this)) (place + n) (together (lines_at (i + 1)))) (sym one.long)
-                  ∙ sym (ap (sets out place) both ∙ sets_behind out place (own_of this) (together (lines_at (i + 1))))
+                  ap (λ (l : List ℕ). sets l (place + this.size) (together (lines_at (k + 1)))) e
+                  ∙ ap (λ (n : ℕ). sets (sets out place (own_of this)) (place + n) (together (lines_at (k + 1)))) (sym one.long)
+                  ∙ sym (ap (sets out place) both ∙ sets_behind out place (own_of this) (together (lines_at (k + 1))))
                   ∙ left.onward;
             }

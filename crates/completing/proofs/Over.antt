@@ -15,18 +15,17 @@ use Rattle.text.specs.declared.data_types.DataType.{DataType}
 use Rattle.text.specs.declared.data_types.DataType.TheVariants.{N}
 use Rattle.frame.specs.Frames.{part}
 use Rattle.layout.specs.Layout.{Line}
-use Rattle.layout.specs.Packing.{Block, origin_of, line_of, fields_in, parts_in, long_in}
+use Rattle.layout.specs.Packing.{origin_of, line_of, lines_from}
 use Rattle.standing.specs.declared.Standing.{Standing}
 use Rattle.ascii_copy.specs.CodePage037.{counterpart}
 use Rattle.ascii_copy.proofs.Characters.{is_characters, copied-as, and_left, and_right}
 use Rattle.copying.proofs.Laws.{part_at, translated-at}
-use Rattle.draft.specs.Owned.{Owned}
 use Rattle.draft.specs.Values.{is_given, in_ascii, here, piece, layout_of}
 use Rattle.draft.specs.Completed.{characters_of}
 use Rattle.draft.proofs.Own.{every-layout}
 use Rattle.draft.proofs.Shapes.{piece-long}
 use Rattle.draft_rows.proofs.Parts.{piece-size}
-use Rattle.completing.proofs.Laws.{own_of, together, whole_of, all-long, lines_at, next, first-lines, first-whole, Left, left-all, left-none, this, one, both, left-on}
+use Rattle.completing.proofs.Laws.{own_of, together, whole_of, all-long, lines_at, next, first-whole, Left, left-all, left-none, this, one, both, left-on}
 
 -- what stands in a list after another is set down in it
 get_d-behind : (xs l : List ℕ) (at k : ℕ) → at + length xs ≤ k → get_or (sets l at xs) k 0 ≡ get_or l k 0
@@ -106,38 +105,35 @@ module _ (set : CharacterSet) (text rows : List ℕ) (addenda : ℕ) (s : Standi
   abbrev start : ℕ
   start = get_or rows 1 0
 
-  module _ (own : List ℕ) (end : ℕ) where
+  module _ (ps : List ℕ) where
     abbrev left : ℕ → ℕ
-    left i = length (together set text rows addenda s (lines_at set text rows addenda s own end i))
+    left k = length (together set text rows addenda s (lines_at set text rows addenda s ps k))
 
     -- the lines that are left, before which so many bytes of the record lie, stand as the text has them
-    pub record Over (out₀ : List ℕ) (at : ℕ) (out : List ℕ) (place i : ℕ) : Type 0 where
-      pub lines : Left set text rows addenda s own end out₀ at out place i
+    pub record Over (out₀ : List ℕ) (at : ℕ) (out : List ℕ) (place k : ℕ) : Type 0 where
+      pub lines : Left set text rows addenda s ps out₀ at out place k
       pub far : ℕ
-      pub follow : laid far (lines_at set text rows addenda s own end i) ≡ true
-      pub lies : start + far + left i ≤ length text
-      pub stands : (j : ℕ) → j < left i → get_or out (place + j) 0 ≡ shown set (get_or text (start + far + j) 0)
+      pub follow : laid far (lines_at set text rows addenda s ps k) ≡ true
+      pub lies : start + far + left k ≤ length text
+      pub stands : (j : ℕ) → j < left k → get_or out (place + j) 0 ≡ shown set (get_or text (start + far + j) 0)
 
     -- the whole of it set down
-    module _ (owned : Owned (layout_of (get_or rows 0 0)) own) (to : end ≡ fields_in (get_or own 0 0) + 1 - parts_in (get_or own 0 0)) (size : ℕ)
-        (sized : size ≡ long_in (get_or own 0 0)) (out : List ℕ) (at : ℕ) (room : at + (layout_of (get_or rows 0 0)).fixed_length ≤ length out) (out₀ : List ℕ)
+    module _ (are : lines_from 1 ps ≡ (layout_of (get_or rows 0 0)).lines) (size : ℕ) (fixed : size ≡ (layout_of (get_or rows 0 0)).fixed_length)
+        (out : List ℕ) (at : ℕ) (room : at + (layout_of (get_or rows 0 0)).fixed_length ≤ length out) (out₀ : List ℕ)
         (is : out₀ ≡ sets out at (characters_of (piece set text N (start + 0) size))) where
-      fixed : size ≡ (layout_of (get_or rows 0 0)).fixed_length
-      fixed = sized ∙ ap (λ (b : Block). b.fixed_length) owned.means
-
       whole_long : length (characters_of (piece set text N (start + 0) size)) ≡ size
       whole_long = piece-long (piece set text N (start + 0) size) ∙ piece-size set text N (start + 0) size
 
       pub over-long : length out₀ ≡ length out
       over-long = ap length is ∙ length-sets out at (characters_of (piece set text N (start + 0) size))
 
-      pub over_first : start + (layout_of (get_or rows 0 0)).fixed_length ≤ length text → Over out₀ at out₀ at 1
+      pub over_first : start + (layout_of (get_or rows 0 0)).fixed_length ≤ length text → Over out₀ at out₀ at 0
       over_first lies =
-          let same : left 1 ≡ size = ap length (first-whole set text rows addenda s own end owned to) ∙ all-long set text rows addenda s ∙ sym fixed in
+          let same : left 0 ≡ size = ap length (first-whole set text rows addenda s ps are) ∙ all-long set text rows addenda s ∙ sym fixed in
           record {
-            lines = left-all set text rows addenda s own end owned to out₀ at (omega (arith, over-long));
+            lines = left-all set text rows addenda s ps are out₀ at (omega (arith, over-long));
             far = 0;
-            follow = rw (first-lines set text rows addenda s own end owned to) (all_laid_lem (get_or rows 0 0));
+            follow = rw are (all_laid_lem (get_or rows 0 0));
             lies = omega (arith, same, fixed);
             stands =
                 λ j h. ap (λ (l : List ℕ). get_or l (at + j) 0) is
@@ -145,37 +141,37 @@ module _ (set : CharacterSet) (text rows : List ℕ) (addenda : ℕ) (s : Standi
                 ∙ sym (piece-at text N refl (start + 0) size (omega (arith, fixed)) set j (omega (arith, same)));
           }
 
-      pub over_last : {out' : List ℕ} {place i : ℕ} → Over out₀ at out' place i → end ≤ i → out' ≡ sets out at (whole_of set text rows addenda s)
+      pub over_last : {out' : List ℕ} {place k : ℕ} → Over out₀ at out' place k → length ps ≤ k → out' ≡ sets out at (whole_of set text rows addenda s)
       over_last over h =
-          left-none set text rows addenda s own end over.lines h
+          left-none set text rows addenda s ps over.lines h
           ∙ ap (λ (l : List ℕ). sets l at (whole_of set text rows addenda s)) is
           ∙ sets_over (characters_of (piece set text N (start + 0) size)) out at (omega (arith, whole_long, fixed)) (whole_of set text rows addenda s)
           (all-long set text rows addenda s ∙ sym (whole_long ∙ fixed))
 
-    module _ {out₀ out : List ℕ} {at place i : ℕ} (over : Over out₀ at out place i) (inside : i < end) where
+    module _ {out₀ out : List ℕ} {at place k : ℕ} (over : Over out₀ at out place k) (inside : k < length ps) where
       abbrev line : Line
-      line = this set text rows addenda s own end over.lines inside
+      line = this set text rows addenda s ps over.lines inside
 
       long : length (own_of set text rows addenda s line) ≡ line.size
-      long = (one set text rows addenda s own end over.lines inside).long
+      long = (one set text rows addenda s ps over.lines inside).long
 
-      count : left i ≡ line.size + left (i + 1)
+      count : left k ≡ line.size + left (k + 1)
       count =
-          ap length (both set text rows addenda s own end over.lines inside)
-          ∙ length-append (own_of set text rows addenda s line) (together set text rows addenda s (lines_at set text rows addenda s own end (i + 1)))
-          ∙ ap (λ (n : ℕ). n + left (i + 1)) long
+          ap length (both set text rows addenda s ps over.lines inside)
+          ∙ length-append (own_of set text rows addenda s line) (together set text rows addenda s (lines_at set text rows addenda s ps (k + 1)))
+          ∙ ap (λ (n : ℕ). n + left (k + 1)) long
 
-      follows : laid over.far (line ∷ lines_at set text rows addenda s own end (i + 1)) ≡ true
-      follows = rw (next set text rows addenda s own end i over.lines.numbers inside) at over.follow
+      follows : laid over.far (line ∷ lines_at set text rows addenda s ps (k + 1)) ≡ true
+      follows = rw (next set text rows addenda s ps k inside) at over.follow
 
       place-told : line.first - 1 ≡ over.far
       place-told = eqb-true (line.first - 1) over.far (and_left (eqb (line.first - 1) over.far) _ follows)
 
-      kinds : is_characters line.data_type && laid (over.far + line.size) (lines_at set text rows addenda s own end (i + 1)) ≡ true
+      kinds : is_characters line.data_type && laid (over.far + line.size) (lines_at set text rows addenda s ps (k + 1)) ≡ true
       kinds = and_right (eqb (line.first - 1) over.far) _ follows
 
       -- a line that is given is set down in vain
-      pub over-given : get_or own i 0 / 0x2_0000_0000 % 0x80 ≡ 0 → out ≡ sets out place (own_of set text rows addenda s line)
+      pub over-given : get_or ps k 0 / 0x2_0000_0000 % 0x80 ≡ 0 → out ≡ sets out place (own_of set text rows addenda s line)
       over-given e =
           let given : is_given line.origin ≡ true = ap (λ (n : ℕ). is_given (origin_of n)) e in
           let own_is : own_of set text rows addenda s line ≡ characters_of (piece set text line.data_type (start + over.far) line.size) = rw (given, place-told) in
@@ -185,10 +181,10 @@ module _ (set : CharacterSet) (text rows : List ℕ) (addenda : ℕ) (s : Standi
           ∙ piece-at text line.data_type (and_left (is_characters line.data_type) _ kinds) (start + over.far) line.size (omega (arith, over.lies, count)) set j
           (omega (arith, ap length own_is, long))))
 
-      pub over-on : (out' : List ℕ) → out' ≡ sets out place (own_of set text rows addenda s line) → Over out₀ at out' (place + line.size) (i + 1)
+      pub over-on : (out' : List ℕ) → out' ≡ sets out place (own_of set text rows addenda s line) → Over out₀ at out' (place + line.size) (k + 1)
       over-on out' e =
           record {
-            lines = left-on set text rows addenda s own end over.lines inside out' e;
+            lines = left-on set text rows addenda s ps over.lines inside out' e;
             far = over.far + line.size;
             follow = and_right (is_characters line.data_type) _ kinds;
             lies = omega (arith, over.lies, count);

@@ -1,5 +1,4 @@
-// One record of a draft made out: its fixed part, with what is worked out filled in. `rows` are the draft's numbers from the record's row on, `own`
-// the numbers of its layout.
+// One record of a draft made out: its fixed part, with what is worked out filled in.
 #![tactic(auto)]
 
 ghost use Rattle.std.specs.Prelude.{cond, List, ◌≡◌, ℕ, ◌+◌, ◌-◌, ◌/◌, ◌%◌, ◌≤◌, length, get_or};
@@ -9,10 +8,10 @@ ghost use Rattle.layout.specs.Packing.{line_of};
 ghost use Rattle.standing.specs.History.{is_bofd_addendum};
 ghost use Rattle.standing.specs.Standing.{Roomy};
 ghost use Rattle.ascii_copy.specs.AsciiCopy.{copied_as, translated};
-ghost use Rattle.draft.specs.Owned.{Owned};
 ghost use Rattle.draft.specs.Values.{is_given, in_ascii, layout_of, piece, values_of_row};
 ghost use Rattle.draft.specs.Completed.{characters_of, sums_for, statement, worked_out, fixed_part};
 
+use draft_rows::Row;
 use layout::Origin;
 use measure::Sums;
 use standing::Standing;
@@ -22,10 +21,7 @@ use text::{CharacterSet, DataType};
 fn is_binary(data_type: DataType) -> bool
     ensures { (xs : List ℕ) → copied_as data_type xs ≡ cond result xs (translated xs) }
 {
-    match data_type {
-        DataType::Binary => true,
-        _ => false,
-    }
+    matches!(data_type, DataType::Binary)
 }
 
 // Whether characters that are given are set down as they are.
@@ -82,27 +78,21 @@ fn record_number(kind: u64, s: Standing) -> u64
     requires { Roomy s }
     ensures { result ≡ cond (is_bofd_addendum kind) s.bofd s.endorser + 1 }
 {
-    if (kind == 26) | (kind == 32) {
-        return s.bofd + 1;
+    match kind {
+        26 | 32 => s.bofd + 1,
+        _ => s.endorser + 1,
     }
-    s.endorser + 1
 }
 
 // What a field states that is worked out from the records before it too.
-fn statement<'a>(
-    own: &'a [u64],
-    rows: &'a [u64],
-    addenda: u64,
-    s: Standing,
-    first: u64,
-    origin: Origin,
-) -> u64
-    requires { Owned (layout_of (get_or rows.now 0 0)) own.now × (10 ≤ length rows.now) × Roomy s }
-    ensures { (set : CharacterSet) (text : List ℕ) → result ≡ statement (values_of_row set text rows.now) addenda s first origin }
+fn statement<'a>(row: Row<'a>, addenda: u64, s: Standing, first: u64, origin: Origin) -> u64
+    requires { Roomy s }
+    ensures { (set : CharacterSet) (text : List ℕ) → result ≡ statement (values_of_row set text row.entry.rows.now) addenda s first origin }
 {
-    let sums = sums_for(rows[0], s);
+    let kind = row.rows[0];
+    let sums = sums_for(kind, s);
     match origin {
-        Origin::RecordNumber => record_number(rows[0], s),
+        Origin::RecordNumber => record_number(kind, s),
         Origin::DebitCount => sums.debits.0,
         Origin::DebitCents => sums.debit.0,
         Origin::MicrCents => s.micr.0,
@@ -113,31 +103,30 @@ fn statement<'a>(
         Origin::LetterCount => s.letters,
         Origin::RecordCount => s.records.0 + 1,
         Origin::ItemCount => s.items.0,
-        _ => draft_rows::own_statement(own, rows, addenda, first, origin),
+        _ => draft_rows::own_statement(row, addenda, first, origin),
     }
 }
 
 // One field of the fixed part.
 fn put_line<'a>(
     set: CharacterSet,
-    own: &'a [u64],
     packed: u64,
     text: &[u8],
-    rows: &'a [u64],
+    row: Row<'a>,
     addenda: u64,
     s: Standing,
     out: &mut [u8],
     at: usize,
 )
-    requires { Owned (layout_of (get_or rows.now 0 0)) own.now × (10 ≤ length rows.now) × Roomy s × (at + packed / 0x100_0000_0000 % 0x100 ≤ length out.old) }
-    ensures { (n : ℕ) → out.new ≡ sets out.old at (cond (is_given (line_of n packed).origin) (characters_of (piece set text.now (line_of n packed).data_type (get_or rows.now 1 0 + ((line_of n packed).first - 1)) (line_of n packed).size)) (worked_out (values_of_row set text.now rows.now) addenda s (line_of n packed))) }
+    requires { Roomy s × (at + packed / 0x100_0000_0000 % 0x100 ≤ length out.old) }
+    ensures { (n : ℕ) → out.new ≡ sets out.old at (cond (is_given (line_of n packed).origin) (characters_of (piece set text.now (line_of n packed).data_type (get_or row.entry.rows.now 1 0 + ((line_of n packed).first - 1)) (line_of n packed).size)) (worked_out (values_of_row set text.now row.entry.rows.now) addenda s (line_of n packed))) }
 {
     let origin = layout::origin_of(packed / 0x2_0000_0000 % 0x80);
     let first = packed / 0x1_0000_0000_0000;
     let size = (packed / 0x100_0000_0000 % 0x100) as usize;
     if draft_rows::is_given(origin) {
         let data_type = layout::data_type_of(packed / 0x100_0000 % 0x100);
-        let start = rows[1] as usize;
+        let start = row.rows[1] as usize;
         put_piece(
             set,
             data_type,
@@ -150,41 +139,30 @@ fn put_line<'a>(
         );
         return;
     }
-    if draft_rows::leaves_blank(rows, origin) {
+    if draft_rows::leaves_blank(row.rows, origin) {
         copying::put_times(out, at, size, 32);
         return;
     }
-    decimal::put_digits(
-        out,
-        at,
-        size,
-        statement(own, rows, addenda, s, first, origin),
-    )
+    decimal::put_digits(out, at, size, statement(row, addenda, s, first, origin))
 }
 
 // The fixed part, field by field: the way that serves every text.
 fn put_lines<'a>(
     set: CharacterSet,
-    own: &'a [u64],
     text: &[u8],
-    rows: &'a [u64],
+    row: Row<'a>,
     addenda: u64,
     s: Standing,
     out: &mut [u8],
     at: usize,
 )
-    requires { Owned (layout_of (get_or rows.now 0 0)) own.now × (10 ≤ length rows.now) × Roomy s × (at + (layout_of (get_or rows.now 0 0)).fixed_length ≤ length out.old) }
-    ensures { out.new ≡ sets out.old at (fixed_part (values_of_row set text.now rows.now) addenda s (layout_of (get_or rows.now 0 0)).lines (values_of_row set text.now rows.now).fields) }
+    requires { Roomy s × (at + (layout_of (get_or row.rows.now 0 0)).fixed_length ≤ length out.old) }
+    ensures { out.new ≡ sets out.old at (fixed_part (values_of_row set text.now row.entry.rows.now) addenda s (layout_of (get_or row.entry.rows.now 0 0)).lines (values_of_row set text.now row.entry.rows.now).fields) }
 {
-    let header = own[0];
-    let end = layout::fields_in(header) + 1 - layout::parts_in(header);
     let mut place = at;
-    let mut i = 1;
-    while i < end {
-        let packed = own[i];
-        put_line(set, own, packed, text, rows, addenda, s, out, place);
-        place += (packed / 0x100_0000_0000 % 0x100) as usize;
-        i += 1;
+    for packed in row.lines() {
+        put_line(set, *packed, text, row, addenda, s, out, place);
+        place += (*packed / 0x100_0000_0000 % 0x100) as usize;
     }
 }
 
@@ -192,54 +170,47 @@ fn put_lines<'a>(
 // worked out. What is given stands then, and its field is told by one test and passed over.
 fn put_over<'a>(
     set: CharacterSet,
-    own: &'a [u64],
     text: &[u8],
-    rows: &'a [u64],
+    row: Row<'a>,
     addenda: u64,
     s: Standing,
     out: &mut [u8],
     at: usize,
 )
-    requires { Owned (layout_of (get_or rows.now 0 0)) own.now × (10 ≤ length rows.now) × Roomy s × (at + (layout_of (get_or rows.now 0 0)).fixed_length ≤ length out.old) × (get_or rows.now 1 0 + (layout_of (get_or rows.now 0 0)).fixed_length ≤ length text.now) }
-    ensures { out.new ≡ sets out.old at (fixed_part (values_of_row set text.now rows.now) addenda s (layout_of (get_or rows.now 0 0)).lines (values_of_row set text.now rows.now).fields) }
+    requires { Roomy s × (at + (layout_of (get_or row.rows.now 0 0)).fixed_length ≤ length out.old) × (get_or row.rows.now 1 0 + (layout_of (get_or row.rows.now 0 0)).fixed_length ≤ length text.now) }
+    ensures { out.new ≡ sets out.old at (fixed_part (values_of_row set text.now row.entry.rows.now) addenda s (layout_of (get_or row.entry.rows.now 0 0)).lines (values_of_row set text.now row.entry.rows.now).fields) }
 {
-    let header = own[0];
-    let end = layout::fields_in(header) + 1 - layout::parts_in(header);
-    let start = rows[1] as usize;
-    let fixed = layout::length_in(header);
+    let start = row.rows[1] as usize;
+    let fixed = row.fixed_length();
     put_piece(set, DataType::N, text, start, 0, fixed, out, at);
     let mut place = at;
-    let mut i = 1;
-    while i < end {
-        let packed = own[i];
-        if packed / 0x2_0000_0000 % 0x80 != 0 {
-            put_line(set, own, packed, text, rows, addenda, s, out, place);
+    for packed in row.lines() {
+        if *packed / 0x2_0000_0000 % 0x80 != 0 {
+            put_line(set, *packed, text, row, addenda, s, out, place);
         }
-        place += (packed / 0x100_0000_0000 % 0x100) as usize;
-        i += 1;
+        place += (*packed / 0x100_0000_0000 % 0x100) as usize;
     }
 }
 
 // The fixed part, from a place on, and how long it is.
 pub fn complete<'a>(
     set: CharacterSet,
-    own: &'a [u64],
     text: &[u8],
-    rows: &'a [u64],
+    row: Row<'a>,
     addenda: u64,
     s: Standing,
     out: &mut [u8],
     at: usize,
 ) -> usize
-    requires { Owned (layout_of (get_or rows.now 0 0)) own.now × (10 ≤ length rows.now) × Roomy s × (at + (layout_of (get_or rows.now 0 0)).fixed_length ≤ length out.old) }
-    ensures { (out.new ≡ sets out.old at (fixed_part (values_of_row set text.now rows.now) addenda s (layout_of (get_or rows.now 0 0)).lines (values_of_row set text.now rows.now).fields)) × (result ≡ (layout_of (get_or rows.now 0 0)).fixed_length) }
+    requires { Roomy s × (at + (layout_of (get_or row.rows.now 0 0)).fixed_length ≤ length out.old) }
+    ensures { (out.new ≡ sets out.old at (fixed_part (values_of_row set text.now row.entry.rows.now) addenda s (layout_of (get_or row.entry.rows.now 0 0)).lines (values_of_row set text.now row.entry.rows.now).fields)) × (result ≡ (layout_of (get_or row.entry.rows.now 0 0)).fixed_length) }
 {
-    let fixed = layout::length_in(own[0]);
-    let start = rows[1] as usize;
+    let fixed = row.fixed_length();
+    let start = row.rows[1] as usize;
     if draft_rows::lies_within(text, start, 0, fixed) {
-        put_over(set, own, text, rows, addenda, s, out, at);
+        put_over(set, text, row, addenda, s, out, at);
         return fixed;
     }
-    put_lines(set, own, text, rows, addenda, s, out, at);
+    put_lines(set, text, row, addenda, s, out, at);
     fixed
 }

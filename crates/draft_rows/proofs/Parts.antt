@@ -7,7 +7,7 @@ use native.Mathlib.Nat.{add-zero, not-suc-le-zero, le_of_suc-le-suc}
 use native.Mathlib.Omega.{arith}
 use borrow.Author.Tests.{eq-eqb, ne_eqb, eqb-true, leb-true}
 use lib.Dec.{leb, eqb}
-use lib.ListN.{length, get_or, take, drop, length-take, length-drop, length-map}
+use lib.ListN.{length, get_or, take, drop, length-take, length-drop, length-map, drop_of_length-le}
 use lib.Seq.{drop-drop, take-nil, get_or-take, get_or-drop}
 use Rattle.text.specs.declared.character_set.CharacterSet.{CharacterSet}
 use Rattle.text.specs.declared.character_set.CharacterSet.TheVariants.{Ascii, Ebcdic}
@@ -16,7 +16,8 @@ use Rattle.text.specs.declared.data_types.DataType.TheVariants.{AB, A, AN, ANS, 
 use Rattle.text.proofs.Laws.{rest}
 use Rattle.layout.specs.Layout.{Layout, Sized, sized_parts}
 use Rattle.layout.specs.Layouts.{layouts}
-use Rattle.layout.specs.Packing.{Block, fields_in, parts_in, lines_in, sized_of, sized_from}
+use Rattle.text.specs.DataTypes.{every}
+use Rattle.layout.specs.Packing.{Block, fields_in, parts_in, lines_in, lines_from, lies_within, sized_of, sized_from}
 use Rattle.judge.proofs.Laws.{both_true}
 use Rattle.judge.proofs.Dispatch.{whole}
 use Rattle.draft.specs.Owned.{Owned}
@@ -102,84 +103,74 @@ length-sized : (n : ℕ) (ps : List ℕ) → length (sized_from n ps) ≡ length
 length-sized n [] = refl
 length-sized n (p ∷ ps) = ap suc (length-sized (n + 1) ps)
 
--- the size that is looked for
-abbrev pub asked : List ℕ → ℕ → CharacterSet → List ℕ → ℕ
-asked rows first set text = part_sized_at first (sized_parts (layout_of (get_or rows 0 0))) (values_of_row set text rows).parts
+length-lines : (n : ℕ) (ps : List ℕ) → length (lines_from n ps) ≡ length ps
+length-lines n [] = refl
+length-lines n (p ∷ ps) = ap suc (length-lines (n + 1) ps)
 
--- It stands from the place i on among the numbers of the parts, with the row's sizes beside them.
-pub record Left (own rows : List ℕ) (first parts end i : ℕ) : Type 0 where
-  pub from : parts ≤ i
-  pub long : end ≤ length own
-  pub few : end ≤ parts + 7
-  pub gives : (set : CharacterSet) (text : List ℕ)
-      → size_at first (take (end - i) (drop i own)) (drop (3 + (i - parts)) rows)
-      ≡ asked rows first set text
-
--- all of them to begin with
+-- the numbers of a row's layout, taken apart
 module _ (own rows : List ℕ) (owned : Owned (layout_of (get_or rows 0 0)) own) where
-  pub parts-in-fields : parts_in (get_or own 0 0) ≤ fields_in (get_or own 0 0)
-  parts-in-fields = (whole own owned.some owned.whole).parts
+  fields-there : (parts_in (get_or own 0 0) ≤ fields_in (get_or own 0 0)) × (fields_in (get_or own 0 0) + 1 ≤ length own)
+  fields-there = let w = whole own owned.some owned.whole in (w.parts, w.fields)
 
   module _ (parts end : ℕ) (to : end ≡ fields_in (get_or own 0 0) + 1) (from : parts ≡ end - parts_in (get_or own 0 0)) where
-    abbrev lent : List ℕ
-    lent = take (end - parts) (drop parts own)
-
-    same : sized_from (lines_in (get_or own 0 0) + 1) lent ≡ sized_parts (layout_of (get_or rows 0 0))
-    same = rw (sizes, behind) (ap (λ (b : Block). b.parts) owned.means)
+    pub parts-own : sized_from (length (layout_of (get_or rows 0 0)).lines + 1) (take (end - parts) (drop parts own)) ≡ sized_parts (layout_of (get_or rows 0 0))
+    parts-own = rw (first, sizes, behind) (ap (λ (b : Block). b.parts) owned.means)
       where
+        first : length (layout_of (get_or rows 0 0)).lines ≡ lines_in (get_or own 0 0)
+        first =
+            let lent = take (lines_in (get_or own 0 0)) (drop 1 own) in
+            omega (arith, fields-there, ap (λ (b : Block). length b.lines) owned.means, length-lines 1 lent, length-take (lines_in (get_or own 0 0)) (drop 1 own), length-drop 1 own)
+
         sizes : end - parts ≡ parts_in (get_or own 0 0)
-        sizes = omega (arith, parts-in-fields)
+        sizes = omega (arith, fields-there)
 
         at : 1 + lines_in (get_or own 0 0) ≡ parts
-        at = omega (arith, parts-in-fields)
+        at = omega (arith, fields-there)
 
         behind : drop parts own ≡ drop (lines_in (get_or own 0 0)) (drop 1 own)
         behind = ap (λ (k : ℕ). drop k own) (sym at) ∙ sym (drop-drop (lines_in (get_or own 0 0)) 1 own)
 
-    few-lent : length lent ≤ 7
-    few-lent = omega (arith, few-parts (get_or rows 0 0), length-sized (lines_in (get_or own 0 0) + 1) lent, ap length same)
+-- the size that is looked for
+abbrev pub asked : List ℕ → ℕ → CharacterSet → List ℕ → ℕ
+asked rows first set text = part_sized_at first (sized_parts (layout_of (get_or rows 0 0))) (values_of_row set text rows).parts
 
-    told : (first : ℕ) (set : CharacterSet) (text : List ℕ)
-        → size_at first lent (drop 3 rows) ≡ asked rows first set text
-    unfolding values_of_row values_at
-    told first set text =
-        let at = get_or rows 1 0 + (layout_of (get_or rows 0 0)).fixed_length in
-        sizes-given set text first (lines_in (get_or own 0 0) + 1) at 7 lent (drop 3 rows) few-lent
-        ∙ ap (λ (ss : List Sized). part_sized_at first ss (parts_given set text at ss (take 7 (drop 3 rows)))) same
+-- It stands from the place k on among the numbers of the parts, with the row's sizes beside them.
+pub record Left (rows ps : List ℕ) (first k : ℕ) : Type 0 where
+  pub few : length ps ≤ 7
+  pub gives : (set : CharacterSet) (text : List ℕ) → size_at first (drop k ps) (drop (3 + k) rows) ≡ asked rows first set text
 
-    pub left-first : (first : ℕ) → Left own rows first parts end parts
-    left-first first =
-        let w = whole own owned.some owned.whole in
-        let z : 3 + (parts - parts) ≡ 3 = omega arith in
-        record {
-          from = omega arith;
-          long = omega arith;
-          few = omega (arith, few-lent, length-take (end - parts) (drop parts own), length-drop parts own);
-          gives = λ set text. ap (λ (k : ℕ). size_at first lent (drop k rows)) z ∙ told first set text;
-        }
+-- all of them to begin with
+module _ (rows ps : List ℕ) (n : ℕ) (are : sized_from n ps ≡ sized_parts (layout_of (get_or rows 0 0))) where
+  pub few-own : length ps ≤ 7
+  few-own = omega (arith, few-parts (get_or rows 0 0), length-sized n ps, ap length are)
+
+  told : (first : ℕ) (set : CharacterSet) (text : List ℕ) → size_at first ps (drop 3 rows) ≡ asked rows first set text
+  unfolding values_of_row values_at
+  told first set text =
+      let at = get_or rows 1 0 + (layout_of (get_or rows 0 0)).fixed_length in
+      sizes-given set text first n at 7 ps (drop 3 rows) few-own
+      ∙ ap (λ (ss : List Sized). part_sized_at first ss (parts_given set text at ss (take 7 (drop 3 rows)))) are
+
+  pub left-first : (first : ℕ) → Left rows ps first 0
+  left-first first = record { few = few-own; gives = told first }
 
 -- one turn of the loop
-module _ {own rows : List ℕ} {first parts end i : ℕ} (l : Left own rows first parts end i) where
-  pub left-none : end ≤ i → (set : CharacterSet) (text : List ℕ) → 0 ≡ asked rows first set text
-  left-none h set text = let e : 0 ≡ end - i = omega arith in ap (λ (k : ℕ). size_at first (take k (drop i own)) (drop (3 + (i - parts)) rows)) e ∙ l.gives set text
+module _ {rows ps : List ℕ} {first k : ℕ} (l : Left rows ps first k) where
+  pub left-none : length ps ≤ k → (set : CharacterSet) (text : List ℕ) → 0 ≡ asked rows first set text
+  left-none h set text = ap (λ (xs : List ℕ). size_at first xs (drop (3 + k) rows)) (sym (drop_of_length-le ps h)) ∙ l.gives set text
 
-  module _ (inside : i < end) where
-    next : take (end - i) (drop i own) ≡ get_or own i 0 ∷ take (end - (i + 1)) (drop (i + 1) own)
-    next = let e : end - i ≡ suc (end - (i + 1)) = omega arith in rw (rest own i (omega arith), e)
-
-    pub left_here : get_or own i 0 / 0x1_0000_0000_0000 ≡ first → (set : CharacterSet) (text : List ℕ)
-        → get_or rows (3 + (i - parts)) 0 ≡ asked rows first set text
+  module _ (inside : k < length ps) where
+    pub left_here : get_or ps k 0 / 0x1_0000_0000_0000 ≡ first → (set : CharacterSet) (text : List ℕ) → get_or rows (3 + k) 0 ≡ asked rows first set text
     left_here h set text = sym found ∙ l.gives set text
       where
-        found : size_at first (take (end - i) (drop i own)) (drop (3 + (i - parts)) rows) ≡ get_or rows (3 + (i - parts)) 0
-        found = rw (next, eq-eqb (get_or own i 0 / 0x1_0000_0000_0000) first h, get_or-drop (3 + (i - parts)) rows 0 0, add-zero (3 + (i - parts)))
+        found : size_at first (drop k ps) (drop (3 + k) rows) ≡ get_or rows (3 + k) 0
+        found = rw (rest ps k inside, eq-eqb (get_or ps k 0 / 0x1_0000_0000_0000) first h, get_or-drop (3 + k) rows 0 0, add-zero (3 + k))
 
-    pub left-on : (get_or own i 0 / 0x1_0000_0000_0000 ≡ first → ⊥) → Left own rows first parts end (i + 1)
-    left-on h = record { from = omega arith; long = l.long; few = l.few; gives = λ set text. sym later ∙ l.gives set text }
+    pub left-on : (get_or ps k 0 / 0x1_0000_0000_0000 ≡ first → ⊥) → Left rows ps first (k + 1)
+    left-on h = record { few = l.few; gives = λ set text. sym later ∙ l.gives set text }
       where
-        at : 3 + (i - parts) + 1 ≡ 3 + (i + 1 - parts)
+        at : 3 + k + 1 ≡ 3 + (k + 1)
         at = omega arith
 
-        later : size_at first (take (end - i) (drop i own)) (drop (3 + (i - parts)) rows)
-            ≡ size_at first (take (end - (i + 1)) (drop (i + 1) own)) (drop (3 + (i + 1 - parts)) rows)
-        later = rw (next, ne_eqb (get_or own i 0 / 0x1_0000_0000_0000) first h, drop-drop 1 (3 + (i - parts)) rows, at)
+        later : size_at first (drop k ps) (drop (3 + k) rows) ≡ size_at first (drop (k + 1) ps) (drop (3 + (k + 1)) rows)
+        later = rw (rest ps k inside, ne_eqb (get_or ps k 0 / 0x1_0000_0000_0000) first h, drop-drop 1 (3 + k) rows, at)

@@ -1,15 +1,15 @@
 -- The rows of a draft one by one, on plain values: one turn of the loop, where the rows end, and the set of the text. Assumes nothing.
 use Prim.Native.Nat.{ℕ, suc, ◌+◌, ◌-◌, ◌*◌, ◌/◌, ◌≤◌, ◌<◌, min}
 use native.Mathlib.Omega.{arith}
-use mathlib.Core.Bool.{Bool, true, false, ◌&&◌, cond}
+use mathlib.Core.Bool.{Bool, true, false}
 use mathlib.Core.List.{List, [], ◌∷◌}
 use mathlib.Core.Path.{◌≡◌, refl, sym, ap, ◌∙◌, subst}
 use borrow.Author.Tests.{eq-eqb, ne_eqb, leb-true, leb-false}
 use lib.Dec.{eqb, leb}
-use lib.ListN.{length, get_or, take, drop, length-drop, get_or-eq_default}
+use lib.ListN.{length, get_or, take, drop, length-drop}
 use lib.Seq.{take_all, drop-drop}
 use Rattle.text.specs.declared.character_set.CharacterSet.{CharacterSet}
-use Rattle.text.specs.declared.character_set.CharacterSet.TheVariants.{Ascii, Ebcdic}
+use Rattle.text.specs.declared.character_set.CharacterSet.TheVariants.{Ascii}
 use Rattle.layout.specs.Layout.{sized_parts}
 use Rattle.layout.specs.Packing.{own_in, Packed}
 use Rattle.order.specs.MayFollow.{is_carried, may_follow}
@@ -54,20 +54,6 @@ module _ {file : List ℕ} {past : List Entry} {sheet : List ℕ} {s : Standing}
   pub ended-short : (s.last ≡ 99 → ⊥) → Refused Place (s.records.0 + 1) bytes ≡ capped_outcome (rows_ended file past (standing Ascii file past))
   unfolding rows_ended
   ended-short e = rw (size, records-are, ne_eqb (standing Ascii file past).last 99 (λ q. e ((sheet-follows o).1 ∙ q)))
-
--- the set of a text
-module _ (text draft : List ℕ) where
-  pub set_beyond : length text ≤ get_or draft 1 0 + 1 → Ascii ≡ set_of_text text draft
-  unfolding set_of_text
-  set_beyond h = rw (get_or-eq_default text 0 h) (by (eqb (get_or text (get_or draft 1 0) 0) 0xF0))
-    where
-      by : (b : Bool) → Ascii ≡ cond (b && false) Ebcdic Ascii
-      by true = refl
-      by false = refl
-
-  pub set_told : (b : Bool) → (eqb (get_or text (get_or draft 1 0) 0) 0xF0 && eqb (get_or text (get_or draft 1 0 + 1) 0) 0xF1) ≡ b → cond b Ebcdic Ascii ≡ set_of_text text draft
-  unfolding set_of_text
-  set_told b e = rw e
 
 -- figures that differ in the places of a 52's records alone are as roomy
 roomy-placed : (u : Standing) (item header heading : ℕ) → Roomy u → Roomy (placed u item header heading)

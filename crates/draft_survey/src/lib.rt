@@ -3,7 +3,6 @@
 
 ghost use Rattle.std.specs.Prelude.{List, [], true, ◌≡◌, ℕ, ◌+◌, ◌/◌, ◌≤◌, length, get_or, drop};
 ghost use Rattle.text.specs.declared.character_set.CharacterSet.TheVariants.{Ascii};
-ghost use Rattle.layout.specs.Packing.{Packed};
 ghost use Rattle.standing.specs.History.{Entry};
 ghost use Rattle.standing.specs.Standing.{standing, Roomy};
 ghost use Rattle.order.specs.MayFollow.{is_carried};
@@ -16,11 +15,14 @@ ghost use Rattle.draft_survey.specs.CappedOutcome.{capped_outcome};
 ghost use Rattle.sheet.specs.Sheet.{OnSheet};
 
 use draft::Outcome;
-use passes::{Fault, Totals, Turn};
+use draft_rows::Row;
+use layout::Layouts;
+use passes::{Fault, Refusal, Totals, Turn};
 use standing::Standing;
 use text::CharacterSet;
 
 // The set of a draft's text, told by the two bytes where the first row's fixed part begins.
+#[tactic(auto, unfolding(draft::specs::Values::set_of_text))]
 pub fn set_of_text<'a>(text: &'a [u8], draft: &'a [u64]) -> CharacterSet
     ensures { 10 ≤ length draft.now → result ≡ set_of_text text.now draft.now }
 {
@@ -28,16 +30,10 @@ pub fn set_of_text<'a>(text: &'a [u8], draft: &'a [u64]) -> CharacterSet
         return CharacterSet::Ascii;
     }
     let start = draft[1] as usize;
-    if text.len() < 2 {
-        return CharacterSet::Ascii;
+    match text.get(start..) {
+        Some([0xF0, 0xF1, ..]) => CharacterSet::Ebcdic,
+        _ => CharacterSet::Ascii,
     }
-    if text.len() - 2 < start {
-        return CharacterSet::Ascii;
-    }
-    if (text[start] == 0xF0) & (text[start + 1] == 0xF1) {
-        return CharacterSet::Ebcdic;
-    }
-    CharacterSet::Ascii
 }
 
 // The checks of one record in its place, with so many addenda behind it: PLACE, FIELD, LINK, TOTAL. The record's fixed part then stands on the sheet.
@@ -56,19 +52,18 @@ pub fn judge_counted<'a>(
 {
     let kind = rows[0];
     if !order::may_follow(s.inside, s.last, s.present, kind) {
-        return Turn::Faulty(Fault::Place);
+        return Err(Fault::Place);
     }
+    let row = Row { own, rows };
     let at = sheet::slot_of(kind);
     let body = at + 4;
-    let fixed = completing::complete(set, own, text, rows, addenda, s, sheet, body);
+    let fixed = completing::complete(set, text, row, addenda, s, sheet, body);
     let end = body + fixed;
-    let field = fitting::field_fault(own, text, rows, addenda, &sheet[body..end]);
-    if field != 0 {
-        return Turn::Faulty(Fault::Field(field));
+    if let Some(field) = fitting::field_fault(row, text, addenda, &sheet[body..end]) {
+        return Err(Fault::Field(field));
     }
-    let part = fitting::part_fault(set, own, text, rows);
-    if part != 0 {
-        return Turn::Faulty(Fault::Field(part));
+    if let Some(part) = fitting::part_fault(set, row, text) {
+        return Err(Fault::Field(part));
     }
     passes::agrees(CharacterSet::Ascii, sheet, s, at, kind)
 }
@@ -98,23 +93,24 @@ pub fn rows_ended(s: Standing, bytes: usize) -> Outcome
         let sums = s.whole;
         let records = s.records;
         let items = s.items;
-        return Outcome::Written(
-            bytes,
-            Totals {
-                records,
-                letters: s.letters,
-                bundles: s.bundles,
-                items,
-                sums,
-            },
-        );
+        let totals = Totals {
+            records,
+            letters: s.letters,
+            bundles: s.bundles,
+            items,
+            sums,
+        };
+        return Ok((bytes, totals));
     }
-    Outcome::Refused(Fault::Place, s.records.0 + 1, bytes)
+    Err(Refusal {
+        fault: Fault::Place,
+        place: s.records.0 + 1,
+        offset: bytes,
+    })
 }
 
 // The answer to a draft, whatever the buffer; 2^64 - 1 bytes stand for as many or more.
-pub fn survey_draft<'a>(layouts: &'a [u64], text: &'a [u8], draft: &'a [u64]) -> Outcome
-    requires { Packed layouts.now }
+pub fn survey_draft<'a>(layouts: &'a Layouts, text: &'a [u8], draft: &'a [u64]) -> Outcome
     ensures { result ≡ capped_outcome (answer_from (values_of_draft text.now draft.now) [] []) }
 {
     let set = set_of_text(text, draft);
@@ -122,15 +118,21 @@ pub fn survey_draft<'a>(layouts: &'a [u64], text: &'a [u8], draft: &'a [u64]) ->
     let mut s = Standing::start();
     let mut bytes: usize = 0;
     let mut at: usize = 0;
+    // Stays: a record is judged with the rows behind its own, among which its addenda are counted. `chunks_exact` gives the row alone.
     while 10 <= draft.len() - at {
         let rows = &draft[at..];
-        let own = layout::own_numbers(layouts, rows[0]);
+        let own = layouts.own_numbers(rows[0]);
         match judge_row(set, own, text, rows, s, &mut sheet) {
-            Turn::Faulty(fault) => {
-                return Outcome::Refused(fault, s.records.0 + 1, bytes);
+            Err(fault) => {
+                return Err(Refusal {
+                    fault,
+                    place: s.records.0 + 1,
+                    offset: bytes,
+                });
             }
-            Turn::Good(kind) => {
-                bytes = fitting::plus(bytes, fitting::plus(4, fitting::size_of(own, rows)));
+            Ok(kind) => {
+                let size = fitting::size_of(Row { own, rows });
+                bytes = bytes.saturating_add(size.saturating_add(4));
                 s = standing::moved(CharacterSet::Ascii, &sheet, s, kind, sheet::slot_of(kind));
                 at += 10;
             }

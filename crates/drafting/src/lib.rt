@@ -6,13 +6,14 @@ ghost use Rattle.std.proofs.lemmas.List.Edits.{sets};
 ghost use Rattle.text.specs.Characters.{is_blank};
 ghost use Rattle.text.specs.DataTypes.{every};
 ghost use Rattle.layout.specs.Layouts.{bundle_control};
-ghost use Rattle.layout.specs.Packing.{Packed, is_whole};
+ghost use Rattle.layout.specs.Packing.{is_whole};
 ghost use Rattle.file_as_records.specs.Framed.{field_of};
 ghost use Rattle.drafting.specs.ByNumbers.{seven_sizes, parts_own};
 ghost use Rattle.drafting.specs.DraftOf.{row_of, draft_rows_of, draft_answer_of, draft_table_of, DraftOfItself};
 
-use frame::{Cursor, Frame};
-use passes::{Answer, Fault};
+use frame::{Cursor, Extent};
+use layout::Layouts;
+use passes::{Answer, Fault, Refusal};
 use text::CharacterSet;
 
 // The size that a record states for its i-th part, 0 where it has none, by the numbers of its kind.
@@ -37,10 +38,8 @@ fn put_sizes<'a>(set: CharacterSet, own: &'a [u64], body: &'a [u8], draft: &mut 
     requires { (is_whole own.now ≡ true) × (base + 7 ≤ length draft.old) }
     ensures { draft.new ≡ sets draft.old base (seven_sizes set (parts_own own.now) body.now) }
 {
-    let mut i = 0;
-    while i < 7 {
+    for i in 0..7 {
         draft[base + i] = size_of_part(set, own, i, body);
-        i += 1;
     }
 }
 
@@ -57,13 +56,13 @@ fn leaves_micr_blank(set: CharacterSet, kind: u64, body: &[u8]) -> bool
 // A record's row, from `base` on; its body starts at `start` in the file.
 pub fn put_row<'a>(
     set: CharacterSet,
-    layouts: &'a [u64],
+    layouts: &'a Layouts,
     body: &'a [u8],
     start: usize,
     draft: &mut [u64],
     base: usize,
 )
-    requires { Packed layouts.now × (base + 10 ≤ length draft.old) }
+    requires { base + 10 ≤ length draft.old }
     ensures { draft.new ≡ sets draft.old base (row_of set body.now start) }
 {
     let kind = judge::type_of(set, body);
@@ -73,7 +72,7 @@ pub fn put_row<'a>(
     draft[base + 2] = standing::one_if(blank);
     put_sizes(
         set,
-        layout::own_numbers(layouts, kind),
+        layouts.own_numbers(kind),
         body,
         draft,
         base + 3,
@@ -81,31 +80,21 @@ pub fn put_row<'a>(
 }
 
 // The second pass: a row for each record.
-fn fill<'a>(layouts: &'a [u64], file: &'a [u8], draft: &mut [u64])
-    requires { Packed layouts.now × (length file.now ≤ 268_435_456) × (length (draft_rows_of file.now) ≤ length draft.old) }
+fn fill<'a>(layouts: &'a Layouts, file: &'a [u8], draft: &mut [u64])
+    requires { (length file.now ≤ 268_435_456) × (length (draft_rows_of file.now) ≤ length draft.old) }
     ensures { draft.new ≡ draft_rows_of file.now ++ drop (length (draft_rows_of file.now)) draft.old }
 {
     let set = text::set_of(file);
     let mut at: usize = 0;
     let mut base: usize = 0;
+    // Stays: a turn steps by the length that stands in the file, and a row by ten: no method of a slice cuts by what it reads.
     while at < file.len() {
-        match Cursor::at(at).frame(file) {
-            Frame::Cut => {
-                return;
-            }
-            Frame::Whole(start, size) => {
-                put_row(
-                    set,
-                    layouts,
-                    frame::part_of(file, start, size),
-                    start,
-                    draft,
-                    base,
-                );
-                base += 10;
-                at = start + size;
-            }
-        }
+        let Some(Extent { start, size }) = Cursor::at(at).frame(file) else {
+            return;
+        };
+        put_row(set, layouts, frame::part_of(file, start, size), start, draft, base);
+        base += 10;
+        at = start + size;
     }
 }
 
@@ -115,17 +104,12 @@ pub fn draft_of(file: &[u8], draft: &mut [u64]) -> Answer
     ensures rows { draft.new ≡ draft_table_of file.now draft.old }
     ensures itself { DraftOfItself file.now result draft.new }
 {
-    let answer = passes::survey(file);
-    match answer {
-        Answer::Accepted(totals) => {
-            let needed = totals.records.0;
-            if (draft.len() as u64) / 10 < needed {
-                return Answer::Refused(Fault::Room, needed, 0);
-            }
-            let layouts = layout::table();
-            fill(&layouts, file, draft);
-            answer
-        }
-        Answer::Refused(_, _, _) => answer,
+    let totals = passes::survey(file)?;
+    let needed = totals.records.0;
+    if (draft.len() as u64) / 10 < needed {
+        return Err(Refusal::of_file(Fault::Room, needed));
     }
+    let layouts = layout::table();
+    fill(&layouts, file, draft);
+    Ok(totals)
 }

@@ -5,9 +5,9 @@ use mathlib.Core.List.{List, [], ◌∷◌}
 use Prim.Native.Nat.{ℕ, suc, ◌+◌, ◌-◌, ◌/◌, ◌%◌, ◌≤◌, ◌<◌, min}
 use native.Mathlib.Nat.{add-zero, add_assoc}
 use native.Mathlib.Omega.{arith}
-use borrow.Author.Tests.{ne_eqb, eqb-true, eqb-false, leb-true, leb-false, le-leb, lt-leb}
+use borrow.Author.Tests.{eq-eqb, ne_eqb, eqb-true, eqb-false, leb-true, leb-false, le-leb, lt-leb}
 use lib.Dec.{leb, eqb}
-use lib.ListN.{length, get_or, take, drop, length-take, length-drop}
+use lib.ListN.{length, get_or, take, drop, drop_of_length-le, length-take, length-drop}
 use lib.Seq.{drop-drop, get_or-take, get_or-drop}
 use Rattle.text.specs.declared.character_set.CharacterSet.{CharacterSet}
 use Rattle.text.specs.declared.character_set.CharacterSet.TheVariants.{Ascii, Ebcdic}
@@ -16,15 +16,41 @@ use Rattle.text.specs.DataTypes.{every, keeps_digits_together, of_type}
 use Rattle.text.proofs.Laws.{rest}
 use Rattle.frame.specs.Frames.{part}
 use Rattle.decimal.specs.Digits.{fits}
+use Rattle.std.specs.Prelude.{Option, None, Some}
+use Rattle.layout.specs.Fault.{as_field}
+use Rattle.layout.proofs.Fault.{no-field, a-field, faultless, faulted}
 use Rattle.layout.specs.Layout.{Line, Layout, Sized, sized_parts}
-use Rattle.layout.specs.Packing.{Block, origin_of, line_of, lines_from, lies_within, sized_of, sized_from, long_in, fields_in, parts_in, lines_in}
-use Rattle.judge.proofs.Dispatch.{whole, lines-within}
+use Rattle.layout.specs.Packing.{origin_of, line_of, lines_from, lies_within, sized_of, sized_from}
 use Rattle.judge.proofs.Laws.{both_true, lies, line-within}
 use Rattle.ascii_copy.proofs.Fields.{as-alike}
-use Rattle.draft.specs.Owned.{Owned}
 use Rattle.draft.specs.Values.{Piece, here, missing, is_given, in_ascii, piece, fields_given, parts_given, layout_of, values_at, values_of_row}
-use Rattle.draft.specs.Completed.{next, is_here, characters_of, all_sizes, own_statement, first_unfit, first_unfit_part}
-use Rattle.draft_rows.proofs.Parts.{piece-size, left-first}
+use Rattle.draft.specs.Completed.{next, is_here, characters_of, all_sizes, own_statement, first_unfit, first_unfit_part, lower}
+use Rattle.draft_rows.proofs.Parts.{piece-size, few-own}
+
+-- a field at fault, and none, as the code tells it
+pub field_at : (n m : ℕ) → 1 ≤ n → n ≡ m → Some n ≡ as_field m
+field_at n m h e = ap Some e ∙ sym (a-field m (omega arith))
+
+pub none_at : (m : ℕ) → 0 ≡ m → None ≡ as_field m
+none_at m e = sym (no-field m (sym e))
+
+-- the lower of two, by which of them there are
+module _ {m n : Option ℕ} (a b : ℕ) (e : m ≡ as_field a) (f : n ≡ as_field b) where
+  pub lower_both : {x y : ℕ} → m ≡ Some x → n ≡ Some y → {z : ℕ} → z ≡ min x y → Some z ≡ as_field (lower a b)
+  lower_both {x} {y} p q {z} is =
+      let first = faulted a x (sym e ∙ p) in
+      let second = faulted b y (sym f ∙ q) in
+      rw (ne_eqb a 0 (λ z. omega arith), ne_eqb b 0 (λ z. omega arith)) (field_at z (min a b) (omega arith) (omega arith))
+
+  pub lower-second : m ≡ None → n ≡ as_field (lower a b)
+  lower-second p = rw (eq-eqb a 0 (faultless a (sym e ∙ p))) f
+
+  pub lower_first : n ≡ None → m ≡ as_field (lower a b)
+  lower_first q = e ∙ ap as_field (by (eqb a 0) refl)
+    where
+      by : (c : Bool) → eqb a 0 ≡ c → a ≡ cond c b (cond (eqb b 0) a (min a b))
+      by true r = eqb-true a 0 r ∙ sym (faultless b (sym f ∙ q))
+      by false r = rw (eq-eqb b 0 (faultless b (sym f ∙ q)))
 
 -- a part that lies in the text is of its data type in ASCII as it is in its own set
 alike : (set : CharacterSet) (t : DataType) (xs : List ℕ) → of_type Ascii t (in_ascii set t xs) ≡ of_type set t xs
@@ -135,208 +161,192 @@ module _ (set : CharacterSet) (text rows : List ℕ) (addenda : ℕ) where
       by true = refl
       by false = refl
 
--- the numbers of a layout, as they are taken apart: the lines up to `parts`, the parts from there to `end`
-module _ {own : List ℕ} {k : Layout} (owned : Owned k own) (parts : ℕ) (to : parts ≡ fields_in (get_or own 0 0) + 1 - parts_in (get_or own 0 0)) where
-  pub owned-lines : lines_from 1 (take (parts - 1) (drop 1 own)) ≡ k.lines
-  owned-lines = rw count (ap (λ (b : Block). b.lines) owned.means)
-    where
-      count : parts - 1 ≡ lines_in (get_or own 0 0)
-      count = let w = whole own owned.some owned.whole in omega arith
-
-  pub lines-lie : (fixed : List ℕ) → length fixed ≡ k.fixed_length → every (lies_within (length fixed)) (take (parts - 1) (drop 1 own)) ≡ true
-  lines-lie fixed e =
-      rw (e ∙ sym (ap (λ (b : Block). b.fixed_length) owned.means))
-      (lines-within Ascii own parts (fields_in (get_or own 0 0) + 1) owned.some owned.whole refl to)
-
 -- the lines from a place on
-module _ (own text rows : List ℕ) (addenda end : ℕ) where
+module _ (text rows : List ℕ) (addenda : ℕ) (ps : List ℕ) where
   abbrev pub lines_at : ℕ → List Line
-  lines_at i = lines_from i (take (end - i) (drop i own))
+  lines_at k = lines_from (k + 1) (drop k ps)
 
   -- the first of them that cannot be had is the first of all
-  pub record LinesLeft (i : ℕ) : Type 0 where
-    pub long : end ≤ length own
-    pub gives : (set : CharacterSet) → unfit_in set text rows addenda (lines_at i) ≡ unfit set text rows addenda
+  pub record LinesLeft (k : ℕ) : Type 0 where
+    pub gives : (set : CharacterSet) → unfit_in set text rows addenda (lines_at k) ≡ unfit set text rows addenda
 
-  pub lines-first : Owned (layout_of (get_or rows 0 0)) own → end ≡ fields_in (get_or own 0 0) + 1 - parts_in (get_or own 0 0) → LinesLeft 1
-  lines-first owned to =
-      let w = whole own owned.some owned.whole in
-      record {
-        long = omega arith;
-        gives = λ set. ap (unfit_in set text rows addenda) (owned-lines owned end to) ∙ all_lines set text rows addenda;
-      }
+  pub lines-first : lines_from 1 ps ≡ (layout_of (get_or rows 0 0)).lines → LinesLeft 0
+  lines-first are = record { gives = λ set. ap (unfit_in set text rows addenda) are ∙ all_lines set text rows addenda }
 
-  module _ {i : ℕ} (left : LinesLeft i) where
-    pub lines_none : end ≤ i → (set : CharacterSet) → 0 ≡ unfit set text rows addenda
+  module _ {k : ℕ} (left : LinesLeft k) where
+    pub lines_none : length ps ≤ k → (set : CharacterSet) → 0 ≡ unfit set text rows addenda
     unfolding first_unfit
-    lines_none h set = let e : 0 ≡ end - i = omega arith in ap (λ (n : ℕ). unfit_in set text rows addenda (lines_from i (take n (drop i own)))) e ∙ left.gives set
+    lines_none h set = ap (λ (xs : List ℕ). unfit_in set text rows addenda (lines_from (k + 1) xs)) (sym (drop_of_length-le ps h)) ∙ left.gives set
 
-    module _ (inside : i < end) where
-      next-line : lines_at i ≡ line_of i (get_or own i 0) ∷ lines_at (i + 1)
-      next-line = let e : end - i ≡ suc (end - (i + 1)) = omega arith in rw (rest own i (omega arith), e)
+    module _ (inside : k < length ps) where
+      abbrev this : Line
+      this = line_of (k + 1) (get_or ps k 0)
 
-      turn : (set : CharacterSet)
-          → cond (line_fits set text rows addenda (line_of i (get_or own i 0))) (unfit_in set text rows addenda (lines_at (i + 1))) i ≡ unfit set text rows addenda
+      next-line : lines_at k ≡ this ∷ lines_at (k + 1)
+      next-line = rw (rest ps k inside)
+
+      turn : (set : CharacterSet) → cond (line_fits set text rows addenda this) (unfit_in set text rows addenda (lines_at (k + 1))) (k + 1) ≡ unfit set text rows addenda
       turn set =
-          sym (line-turn set text rows addenda (line_of i (get_or own i 0)) (lines_at (i + 1)))
+          sym (line-turn set text rows addenda this (lines_at (k + 1)))
           ∙ ap (unfit_in set text rows addenda) (sym next-line)
           ∙ left.gives set
 
-      pub line-unfit : ((set : CharacterSet) → line_fits set text rows addenda (line_of i (get_or own i 0)) ≡ false) → (set : CharacterSet)
-          → i ≡ unfit set text rows addenda
+      pub line-unfit : ((set : CharacterSet) → line_fits set text rows addenda this ≡ false) → (set : CharacterSet) → k + 1 ≡ unfit set text rows addenda
       line-unfit e set = rw (e set) at (turn set)
 
-      pub lines-on : ((set : CharacterSet) → line_fits set text rows addenda (line_of i (get_or own i 0)) ≡ true) → LinesLeft (i + 1)
-      lines-on e = record { long = left.long; gives = λ set. rw (e set) at (turn set) }
+      pub lines-on : ((set : CharacterSet) → line_fits set text rows addenda this ≡ true) → LinesLeft (k + 1)
+      lines-on e = record { gives = λ set. rw (e set) at (turn set) }
 
       -- where the whole fixed part lies in the text, a line that is given can be had
-      pub line-here : (owned : Owned (layout_of (get_or rows 0 0)) own) → end ≡ fields_in (get_or own 0 0) + 1 - parts_in (get_or own 0 0) → 1 ≤ i
-          → {long : ℕ} → long ≡ long_in (get_or own 0 0) → {here : Bool} → here ≡ (eqb long 0 || leb (get_or rows 1 0 + 0 + long) (length text))
-          → here && eqb (get_or own i 0 / 0x2_0000_0000 % 0x80) 0 ≡ true → (set : CharacterSet)
-          → line_fits set text rows addenda (line_of i (get_or own i 0)) ≡ true
-      line-here owned to some {long} is {here} told e set =
-          let both = both_true here (eqb (get_or own i 0 / 0x2_0000_0000 % 0x80) 0) e in
-          let l = line_of i (get_or own i 0) in
-          let given : is_given l.origin ≡ true = ap (λ (n : ℕ). is_given (origin_of n)) (eqb-true (get_or own i 0 / 0x2_0000_0000 % 0x80) 0 both.1) in
-          let lines = lines-within Ascii own end (fields_in (get_or own 0 0) + 1) owned.some owned.whole refl to in
-          let at : 1 + (i - 1) ≡ i = omega arith in
-          let same : get_or (take (end - 1) (drop 1 own)) (i - 1) 0 ≡ get_or own i 0 =
-          get_or-take (end - 1) (drop 1 own) (i - 1) 0 (omega arith) ∙ get_or-drop 1 own (i - 1) 0 ∙ ap (λ (n : ℕ). get_or own n 0) at in
-          let among : i - 1 < length (take (end - 1) (drop 1 own)) = simp (length-take, length-drop) (omega (arith, left.long)) in
-          let within : l.first - 1 + l.size ≤ long =
-          rw is (lies (long_in (get_or own 0 0)) (get_or own i 0) (rw same at (line-within (take (end - 1) (drop 1 own)) (long_in (get_or own 0 0)) (i - 1) lines among))) in
-          sym (given-fits set text rows addenda l given)
-          ∙ lies-too (length text) (get_or rows 1 0) long (l.first - 1) l.size within (sym told ∙ both.0)
+      pub line-here : (long : ℕ) → every (lies_within long) ps ≡ true → {here : Bool} → here ≡ (eqb long 0 || leb (get_or rows 1 0 + 0 + long) (length text))
+          → here && eqb (get_or ps k 0 / 0x2_0000_0000 % 0x80) 0 ≡ true → (set : CharacterSet) → line_fits set text rows addenda this ≡ true
+      line-here long lines {here} told e set =
+          let both = both_true here (eqb (get_or ps k 0 / 0x2_0000_0000 % 0x80) 0) e in
+          let given : is_given this.origin ≡ true = ap (λ (n : ℕ). is_given (origin_of n)) (eqb-true (get_or ps k 0 / 0x2_0000_0000 % 0x80) 0 both.1) in
+          let within : this.first - 1 + this.size ≤ long = lies long (get_or ps k 0) (line-within ps long k lines inside) in
+          sym (given-fits set text rows addenda this given)
+          ∙ lies-too (length text) (get_or rows 1 0) long (this.first - 1) this.size within (sym told ∙ both.0)
 
--- the parts from a place on, with the row's sizes beside them
-module _ (own rows : List ℕ) (parts end : ℕ) where
+length-from : (n : ℕ) (ps : List ℕ) → length (lines_from n ps) ≡ length ps
+length-from n [] = refl
+length-from n (p ∷ ps) = ap suc (length-from (n + 1) ps)
+
+-- the parts are numbered from behind the lines on
+pub numbered : {ls : List Line} (lines : List ℕ) → lines_from 1 lines ≡ ls → {ss : List Sized} (ps : List ℕ) → sized_from (length ls + 1) ps ≡ ss
+    → sized_from (length lines + 1) ps ≡ ss
+numbered lines are ps e = ap (λ (n : ℕ). sized_from (n + 1) ps) (sym (length-from 1 lines) ∙ ap length are) ∙ e
+
+-- the parts from a place on, the first of them with its number, with the row's sizes beside them
+module _ (rows ps : List ℕ) (n : ℕ) where
   abbrev pub parts_at : ℕ → List Sized
-  parts_at i = sized_from i (take (end - i) (drop i own))
+  parts_at k = sized_from (n + k) (drop k ps)
 
   abbrev pub pieces_at : CharacterSet → List ℕ → ℕ → ℕ → List Piece
-  pieces_at set text far i = parts_given set text (get_or rows 1 0 + far) (parts_at i) (drop (i - parts) (take 7 (drop 3 rows)))
+  pieces_at set text far k = parts_given set text (get_or rows 1 0 + far) (parts_at k) (drop k (take 7 (drop 3 rows)))
 
   abbrev pub size_at : ℕ → ℕ
-  size_at i = get_or rows (3 + (i - parts)) 0
+  size_at k = get_or rows (3 + k) 0
 
   -- what is told of them, which begin so far into the record; the place is known up to 2^64 - 1
-  pub record PartsLeft (told : ℕ → Type 0) (place i : ℕ) : Type 0 where
-    pub from : parts ≤ i
-    pub long : end ≤ length own
-    pub few : end ≤ parts + 7
+  pub record PartsLeft (told : ℕ → Type 0) (place k : ℕ) : Type 0 where
+    pub few : length ps ≤ 7
     pub far : ℕ
     pub stops : place ≡ min far 0xFFFF_FFFF_FFFF_FFFF
     pub tells : told far
 
   -- those before them and their sizes come to the whole; the first of them at fault is the first of all
   abbrev pub Summed : ℕ → ℕ → Type 0
-  Summed i far =
+  Summed k far =
       (set : CharacterSet) (text : List ℕ)
-      → far + all_sizes (pieces_at set text far i) ≡ (layout_of (get_or rows 0 0)).fixed_length + all_sizes (values_of_row set text rows).parts
+      → far + all_sizes (pieces_at set text far k) ≡ (layout_of (get_or rows 0 0)).fixed_length + all_sizes (values_of_row set text rows).parts
 
   abbrev pub Faulted : CharacterSet → List ℕ → ℕ → ℕ → Type 0
-  Faulted set text i far =
-      first_unfit_part (parts_at i) (pieces_at set text far i) ≡ first_unfit_part (sized_parts (layout_of (get_or rows 0 0))) (values_of_row set text rows).parts
+  Faulted set text k far =
+      first_unfit_part (parts_at k) (pieces_at set text far k) ≡ first_unfit_part (sized_parts (layout_of (get_or rows 0 0))) (values_of_row set text rows).parts
 
-  module _ (owned : Owned (layout_of (get_or rows 0 0)) own) (to : end ≡ fields_in (get_or own 0 0) + 1) (from : parts ≡ end - parts_in (get_or own 0 0)) where
-    owned-parts : parts_at parts ≡ sized_parts (layout_of (get_or rows 0 0))
-    owned-parts = ap (λ (n : ℕ). sized_from n (take (end - parts) (drop parts own))) first ∙ rw (count, behind) (ap (λ (b : Block). b.parts) owned.means)
-      where
-        first : parts ≡ lines_in (get_or own 0 0) + 1
-        first = let w = whole own owned.some owned.whole in omega arith
-
-        count : end - parts ≡ parts_in (get_or own 0 0)
-        count = let w = whole own owned.some owned.whole in omega arith
-
-        at : parts ≡ 1 + lines_in (get_or own 0 0)
-        at = omega (arith, first)
-
-        behind : drop parts own ≡ drop (lines_in (get_or own 0 0)) (drop 1 own)
-        behind = ap (λ (n : ℕ). drop n own) at ∙ sym (drop-drop (lines_in (get_or own 0 0)) 1 own)
+  module _ (are : sized_from n ps ≡ sized_parts (layout_of (get_or rows 0 0))) where
+    all-parts : parts_at 0 ≡ sized_parts (layout_of (get_or rows 0 0))
+    all-parts = rw (add-zero n) are
 
     -- all of them to begin with
-    pub all-pieces : (set : CharacterSet) (text : List ℕ) → pieces_at set text (layout_of (get_or rows 0 0)).fixed_length parts ≡ (values_of_row set text rows).parts
+    pub all-pieces : (set : CharacterSet) (text : List ℕ) → pieces_at set text (layout_of (get_or rows 0 0)).fixed_length 0 ≡ (values_of_row set text rows).parts
     unfolding values_of_row values_at
-    all-pieces set text = let none : parts - parts ≡ 0 = omega arith in rw (none, owned-parts)
+    all-pieces set text = rw all-parts
 
-    pub parts_first : {told : ℕ → Type 0} → told (layout_of (get_or rows 0 0)).fixed_length → PartsLeft told (long_in (get_or own 0 0)) parts
-    parts_first t =
-        let l = left-first own rows owned parts end to from 0 in
-        record {
-          from = omega arith;
-          long = l.long;
-          few = l.few;
-          far = (layout_of (get_or rows 0 0)).fixed_length;
-          stops = omega (arith, ap (λ (b : Block). b.fixed_length) owned.means);
-          tells = t;
-        }
+    pub parts_first : {told : ℕ → Type 0} → told (layout_of (get_or rows 0 0)).fixed_length → {place : ℕ} → place ≡ (layout_of (get_or rows 0 0)).fixed_length → place ≤ 0xFFFF_FFFF_FFFF_FFFF
+        → PartsLeft told place 0
+    parts_first t e h = record { few = few-own rows ps n are; far = (layout_of (get_or rows 0 0)).fixed_length; stops = omega (arith, e, h); tells = t }
 
-    pub sizes-first : PartsLeft (Summed parts) (long_in (get_or own 0 0)) parts
-    sizes-first = parts_first (λ set text. ap (λ (ps : List Piece). (layout_of (get_or rows 0 0)).fixed_length + all_sizes ps) (all-pieces set text))
+    module _ {place : ℕ} (e : place ≡ (layout_of (get_or rows 0 0)).fixed_length) (h : place ≤ 0xFFFF_FFFF_FFFF_FFFF) where
+      pub sizes-first : PartsLeft (Summed 0) place 0
+      sizes-first = parts_first (λ set text. ap (λ (ps : List Piece). (layout_of (get_or rows 0 0)).fixed_length + all_sizes ps) (all-pieces set text)) e h
 
-    pub faults-first : (set : CharacterSet) (text : List ℕ) → PartsLeft (Faulted set text parts) (long_in (get_or own 0 0)) parts
-    faults-first set text = parts_first (ap₂ first_unfit_part owned-parts (all-pieces set text))
+      pub faults-first : (set : CharacterSet) (text : List ℕ) → PartsLeft (Faulted set text 0) place 0
+      faults-first set text = parts_first (ap₂ first_unfit_part all-parts (all-pieces set text)) e h
 
   -- one turn
-  module _ {told : ℕ → Type 0} {place i : ℕ} (left : PartsLeft told place i) (inside : i < end) where
-    next-part : parts_at i ≡ sized_of i (get_or own i 0) ∷ parts_at (i + 1)
-    next-part = let e : end - i ≡ suc (end - (i + 1)) = omega arith in rw (rest own i (omega arith), e)
+  module _ {told : ℕ → Type 0} {place k : ℕ} (left : PartsLeft told place k) (inside : k < length ps) where
+    next-part : parts_at k ≡ sized_of (n + k) (get_or ps k 0) ∷ parts_at (k + 1)
+    next-part = let e : n + k + 1 ≡ n + (k + 1) = omega arith in rw (rest ps k inside, e)
 
-    next-size : get_or (drop (i - parts) (take 7 (drop 3 rows))) 0 0 ≡ size_at i
+    next-size : get_or (drop k (take 7 (drop 3 rows))) 0 0 ≡ size_at k
     next-size =
-        get_or-drop (i - parts) (take 7 (drop 3 rows)) 0 0
-        ∙ rw (add-zero (i - parts)) (get_or-take 7 (drop 3 rows) (i - parts) 0 (omega arith) ∙ get_or-drop 3 rows (i - parts) 0)
-
-    sizes-behind : drop 1 (drop (i - parts) (take 7 (drop 3 rows))) ≡ drop (i + 1 - parts) (take 7 (drop 3 rows))
-    sizes-behind = let e : i - parts + 1 ≡ i + 1 - parts = omega arith in drop-drop 1 (i - parts) (take 7 (drop 3 rows)) ∙ ap (λ (n : ℕ). drop n (take 7 (drop 3 rows))) e
+        get_or-drop k (take 7 (drop 3 rows)) 0 0
+        ∙ rw (add-zero k) (get_or-take 7 (drop 3 rows) k 0 (omega (arith, left.few)) ∙ get_or-drop 3 rows k 0)
 
     pub next-piece : (set : CharacterSet) (text : List ℕ) (far : ℕ)
-        → pieces_at set text far i
-        ≡ piece set text (sized_of i (get_or own i 0)).data_type (get_or rows 1 0 + far) (size_at i) ∷ pieces_at set text (far + size_at i) (i + 1)
-    next-piece set text far = rw (next-part, next-size, sizes-behind, add_assoc (get_or rows 1 0) far (size_at i))
+        → pieces_at set text far k
+        ≡ piece set text (sized_of (n + k) (get_or ps k 0)).data_type (get_or rows 1 0 + far) (size_at k) ∷ pieces_at set text (far + size_at k) (k + 1)
+    next-piece set text far = rw (next-part, next-size, drop-drop 1 k (take 7 (drop 3 rows)), add_assoc (get_or rows 1 0) far (size_at k))
 
-    pub parts-on : {then : ℕ → Type 0} {next : ℕ} → next ≡ min (place + size_at i) 0xFFFF_FFFF_FFFF_FFFF → then (left.far + size_at i) → PartsLeft then next (i + 1)
-    parts-on e t =
-        record { from = omega arith; long = left.long; few = left.few; far = left.far + size_at i; stops = omega (arith, left.stops); tells = t }
+    pub parts-on : {then : ℕ → Type 0} {next : ℕ} → next ≡ min (place + size_at k) 0xFFFF_FFFF_FFFF_FFFF → then (left.far + size_at k) → PartsLeft then next (k + 1)
+    parts-on e t = record { few = left.few; far = left.far + size_at k; stops = omega (arith, left.stops); tells = t }
 
-  module _ {place i : ℕ} (left : PartsLeft (Summed i) place i) where
-    pub sizes-none : end ≤ i → (set : CharacterSet) (text : List ℕ)
+  module _ {place k : ℕ} (left : PartsLeft (Summed k) place k) where
+    pub sizes-none : length ps ≤ k → (set : CharacterSet) (text : List ℕ)
         → place ≡ min ((layout_of (get_or rows 0 0)).fixed_length + all_sizes (values_of_row set text rows).parts) 0xFFFF_FFFF_FFFF_FFFF
     unfolding all_sizes
-    sizes-none h set text = let e : end - i ≡ 0 = omega arith in omega (arith, left.stops, rw e at (left.tells set text))
+    sizes-none h set text = omega (arith, left.stops, rw (drop_of_length-le ps h) at (left.tells set text))
 
-    pub sizes-on : i < end → {next : ℕ} → next ≡ min (place + size_at i) 0xFFFF_FFFF_FFFF_FFFF → PartsLeft (Summed (i + 1)) next (i + 1)
+    pub sizes-on : k < length ps → {next : ℕ} → next ≡ min (place + size_at k) 0xFFFF_FFFF_FFFF_FFFF → PartsLeft (Summed (k + 1)) next (k + 1)
     unfolding all_sizes
     sizes-on inside e =
-        let t = (sized_of i (get_or own i 0)).data_type in
-        parts-on left inside e (λ set text. omega (arith, left.tells set text, ap all_sizes (next-piece left inside set text left.far), piece-size set text t (get_or rows 1 0 + left.far) (size_at i)))
+        let t = (sized_of (n + k) (get_or ps k 0)).data_type in
+        parts-on left inside e (λ set text. omega (arith, left.tells set text, ap all_sizes (next-piece left inside set text left.far), piece-size set text t (get_or rows 1 0 + left.far) (size_at k)))
 
-  module _ (set : CharacterSet) (text : List ℕ) {place i : ℕ} (left : PartsLeft (Faulted set text i) place i) where
+  module _ (set : CharacterSet) (text : List ℕ) {place k : ℕ} (left : PartsLeft (Faulted set text k) place k) where
     abbrev asked : ℕ
     asked = first_unfit_part (sized_parts (layout_of (get_or rows 0 0))) (values_of_row set text rows).parts
 
-    pub faults-none : end ≤ i → 0 ≡ asked
+    pub faults-none : length ps ≤ k → 0 ≡ asked
     unfolding first_unfit_part
-    faults-none h = let e : end - i ≡ 0 = omega arith in rw e at left.tells
+    faults-none h = rw (drop_of_length-le ps h) at left.tells
 
-    module _ (inside : i < end) (short : length text ≤ 0xFFFF_FFFF_FFFF_FFFF) where
+    module _ (inside : k < length ps) (short : length text ≤ 0xFFFF_FFFF_FFFF_FFFF) where
       abbrev fits_here : Bool
-      fits_here = part_fits set text (sized_of i (get_or own i 0)).data_type (get_or rows 1 0 + place) (size_at i)
+      fits_here = part_fits set text (sized_of (n + k) (get_or ps k 0)).data_type (get_or rows 1 0 + place) (size_at k)
 
       abbrev others : ℕ
-      others = first_unfit_part (parts_at (i + 1)) (pieces_at set text (left.far + size_at i) (i + 1))
+      others = first_unfit_part (parts_at (k + 1)) (pieces_at set text (left.far + size_at k) (k + 1))
 
-      part-turn : cond fits_here others i ≡ asked
+      part-turn : cond fits_here others (n + k) ≡ asked
       unfolding first_unfit_part
       part-turn =
-          let t = (sized_of i (get_or own i 0)).data_type in
-          ap (λ (p : Piece). cond (is_here p && of_type Ascii t (characters_of p)) others i)
-          (stopped set text t (get_or rows 1 0) place left.far (size_at i) short left.stops)
+          let t = (sized_of (n + k) (get_or ps k 0)).data_type in
+          ap (λ (p : Piece). cond (is_here p && of_type Ascii t (characters_of p)) others (n + k))
+          (stopped set text t (get_or rows 1 0) place left.far (size_at k) short left.stops)
           ∙ sym (ap₂ first_unfit_part (next-part left inside) (next-piece left inside set text left.far))
           ∙ left.tells
 
-      pub part-unfit : fits_here ≡ false → i ≡ asked
+      pub part-unfit : fits_here ≡ false → n + k ≡ asked
       part-unfit e = rw e at part-turn
 
-      pub faults-on : fits_here ≡ true → {next : ℕ} → next ≡ min (place + size_at i) 0xFFFF_FFFF_FFFF_FFFF → PartsLeft (Faulted set text (i + 1)) next (i + 1)
+      pub faults-on : fits_here ≡ true → {next : ℕ} → next ≡ min (place + size_at k) 0xFFFF_FFFF_FFFF_FFFF → PartsLeft (Faulted set text (k + 1)) next (k + 1)
       faults-on f e = parts-on left inside e (rw f at part-turn)
+
+-- the sizes of the parts from a place on, as the row gives them
+pub record SizesLeft (rows sizes : List ℕ) (size k : ℕ) : Type 0 where
+  pub ps : List ℕ
+  pub n : ℕ
+  pub are : sizes ≡ take (length ps) (drop 3 rows)
+  pub whole : 10 ≤ length rows
+  pub left : PartsLeft rows ps n (Summed rows ps n k) size k
+
+pub sizes_first : (rows ps : List ℕ) (n : ℕ) → sized_from n ps ≡ sized_parts (layout_of (get_or rows 0 0)) → {place : ℕ} → place ≡ (layout_of (get_or rows 0 0)).fixed_length
+    → place ≤ 0xFFFF_FFFF_FFFF_FFFF → 10 ≤ length rows → {sizes : List ℕ} → sizes ≡ take (length ps) (drop 3 rows) → SizesLeft rows sizes place 0
+sizes_first rows ps n is e h whole are = record { ps = ps; n = n; are = are; whole = whole; left = sizes-first rows ps n is e h }
+
+module _ {rows sizes : List ℕ} {size k : ℕ} (s : SizesLeft rows sizes size k) where
+  long : length sizes ≡ length s.ps
+  long = omega (arith, s.left.few, s.whole, ap length s.are, length-take (length s.ps) (drop 3 rows), length-drop 3 rows)
+
+  pub sizes_on : k < length sizes → {next : ℕ} → next ≡ min (size + get_or sizes k 0) 0xFFFF_FFFF_FFFF_FFFF → SizesLeft rows sizes next (k + 1)
+  sizes_on inside e =
+      let within : k < length s.ps = omega (arith, long) in
+      let same : get_or sizes k 0 ≡ get_or rows (3 + k) 0 =
+      ap (λ (xs : List ℕ). get_or xs k 0) s.are ∙ get_or-take (length s.ps) (drop 3 rows) k 0 within ∙ get_or-drop 3 rows k 0 in
+      record { ps = s.ps; n = s.n; are = s.are; whole = s.whole; left = sizes-on rows s.ps s.n s.left within (e ∙ ap (λ (x : ℕ). min (size + x) 0xFFFF_FFFF_FFFF_FFFF) same) }
+
+  pub sizes_none : length sizes ≤ k → (set : CharacterSet) (text : List ℕ)
+      → size ≡ min ((layout_of (get_or rows 0 0)).fixed_length + all_sizes (values_of_row set text rows).parts) 0xFFFF_FFFF_FFFF_FFFF
+  sizes_none h = sizes-none rows s.ps s.n s.left (omega (arith, long))

@@ -37,7 +37,6 @@ use Rattle.made_is_read.proofs.Record.{Likewise, stops, goes, step-likewise}
 use Rattle.draft.proofs.Shapes.{Shaped, AllShaped}
 use Rattle.draft.proofs.Judged.{completed-front, fit-lines, fit_parts}
 use Rattle.passes.specs.Answers as answers
-use Rattle.passes.specs.Answers as turns
 
 -- records more stand behind those of the file
 pub record Appended (vs : List Values) (file : List ℕ) (past : List Entry) : Type 0 where
@@ -85,12 +84,18 @@ first_of [] rest e = cc
 first_of (x ∷ xs) rest e = cc
 
 -- a check that is passed
-through : (c : Bool) (fault : Fault) (next : Turn) {t : ℕ} → unless c (turns.Faulty fault) next ≡ turns.Good t → (c ≡ true) × (next ≡ turns.Good t)
+through : (c : Bool) (fault : Fault) (next : Turn) {t : ℕ} → unless c (answers.Faulty fault) next ≡ answers.Good t → (c ≡ true) × (next ≡ answers.Good t)
 through true fault next e = (refl, e)
 through false fault next e = (cc, cc)
 
+-- two outcomes that are one
+pub same_outcome : {n m : ℕ} {t u : Totals} → Written n t ≡ Written m u → (n ≡ m) × (t ≡ u)
+same_outcome {n} {m} {t} {u} e =
+    let pair : ◌≡◌ {A = ℕ × Totals} (n, t) (m, u) = cc in
+    (ap (λ (p : ℕ × Totals). p.0) pair, ap (λ (p : ℕ × Totals). p.1) pair)
+
 written_as : (a : Answer) (m : ℕ) {n : ℕ} {t : Totals} → as_drafted m a ≡ Written n t → a ≡ answers.Accepted t
-written_as (answers.Accepted t) m e = cc
+written_as (answers.Accepted t) m e = ap answers.Accepted (same_outcome e).1
 written_as (Err r) m e = cc
 
 written-some : (vs : List Values) {n : ℕ} {t : Totals} → answer_from vs [] [] ≡ Written n t → 1 ≤ length (made vs)
@@ -164,7 +169,7 @@ as-the-reader vs shapes fit some small =
 
 -- what is written has nothing that is outgrown or outside the text
 good-fits : (v : Values) (vs : List Values) (file : List ℕ) (past : List Entry) (s : Standing) {u : ℕ} → Shaped v
-    → turn_of_row v vs file past s ≡ turns.Good u
+    → turn_of_row v vs file past s ≡ answers.Good u
     → (first_unfit v (addenda_behind v.type vs) (layout_of v.type).lines v.fields ≡ 0) × (every_here v.parts ≡ true)
 unfolding turn_of_row
 good-fits v vs file past s shape e =
@@ -182,7 +187,7 @@ written-fits [] file past {n} {t} shapes e = (refl, cases (eqb (standing Ascii f
   where
     cases : (b : Bool) → cond b (Written (length file) (totals_of (standing Ascii file past))) (Refused Place (length past + 1) (offset_of (length file))) ≡ Written n t
         → n ≡ length file
-    cases true q = cc
+    cases true q = sym (same_outcome q).0
     cases false q = cc
 written-fits (v ∷ vs) file past {n} {t} shapes e =
     cases (turn_of_row v vs file past (standing Ascii file past)) refl e
@@ -197,8 +202,8 @@ written-fits (v ∷ vs) file past {n} {t} shapes e =
     cases : (turn : Turn) → turn_of_row v vs file past (standing Ascii file past) ≡ turn → after_turn file past turn (answer_from vs longer newer) ≡ Written n t
         → (answer_from vs longer newer ≡ Written n t → (all_fit vs ≡ true) × (n ≡ length (completed_from vs longer newer)))
         → (all_fit (v ∷ vs) ≡ true) × (n ≡ length (completed_from vs longer newer))
-    cases (turns.Faulty fault) w q others = (cc, cc)
-    cases (turns.Good u) w q others =
+    cases (answers.Faulty fault) w q others = (cc, cc)
+    cases (answers.Good u) w q others =
         let fits = good-fits v vs file past (standing Ascii file past) shapes.0 w in
         let rest = others q in
         (rw (eq-eqb _ 0 fits.0, fits.1, rest.0), rest.1)

@@ -10,7 +10,7 @@ use borrow.Author.Tests.{eqb-true}
 use Rattle.text.specs.CharacterSet.{set_of}
 use Rattle.text.specs.declared.character_set.CharacterSet.{CharacterSet}
 use Rattle.frame.specs.Frames.{part}
-use Rattle.frame.specs.Frames.{Whole}
+use Rattle.frame.proofs.Laws.{whole-alike}
 use Rattle.judge.specs.Alone.{type_of}
 use Rattle.standing.specs.Standing.{standing}
 use Rattle.passes.specs.declared.Fault.TheVariants.{Open, Size}
@@ -33,9 +33,6 @@ use Rattle.passes.proofs.Laws as laws
 accepted-end : (c : Bool) (u t : Totals) (place at : ℕ) → cond c (Accepted u) (Refused Open place at) ≡ Accepted t → c ≡ true
 accepted-end true u t place at e = refl
 accepted-end false u t place at e = cc
-
-same-frame : {m n size length : ℕ} → Whole m size ≡ Whole n length → (m ≡ n) × (size ≡ length)
-same-frame e = (cc, cc)
 
 module _ (set : CharacterSet) (file : List ℕ) (small : length file ≤ 268_435_456) (t : Totals) where
   found : (bs : List Body) (n : ℕ) (past : List Body) → Held set file past → AllOpened set past → drop (extent past) file ≡ framed bs
@@ -63,7 +60,7 @@ module _ (set : CharacterSet) (file : List ℕ) (small : length file ≤ 268_435
       by (On u size) q others =
           let more = long file (extent past) b (framed bs) e in
           let f = laws.framed set file (standing set file (entries set past)) (extent past) u size q in
-          let there = same-frame (sym f.whole ∙ frame_is file (extent past) b (framed bs) e small) in
+          let there = whole-alike (sym f.whole ∙ frame_is file (extent past) b (framed bs) e small) in
           let body : part f.start size file ≡ b = rw (there.0, there.1) (part-is file (extent past) b (framed bs) e) in
           let type : u ≡ type_of set b = sym f.type ∙ ap (type_of set) body in
           let good : Good set past b =

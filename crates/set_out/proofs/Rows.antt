@@ -35,7 +35,7 @@ use Rattle.draft.specs.Drafted.{body_of, file_with, past_with, completed_from, m
 use Rattle.draft.proofs.Shapes.{shaped_row, fixed-long, completed-long}
 use Rattle.draft.proofs.Own.{carried-owned, carried-wide}
 use Rattle.made_is_read.proofs.Record.{follows-carried}
-use Rattle.made_is_read.proofs.Whole.{appended}
+use Rattle.made_is_read.proofs.Whole.{same_outcome, appended}
 use Rattle.sheet.specs.Sheet.{slot_of, OnSheet}
 use Rattle.sheet.proofs.Parts.{part-stored, record-long}
 use Rattle.sheet.proofs.Slots.{low-slot}
@@ -123,7 +123,7 @@ written-long [] file past {n} {t} e = by (eqb (standing Ascii file past).last 99
   where
     by : (b : Bool) → cond b (Written (length file) (totals_of (standing Ascii file past))) (Refused Place (length past + 1) (offset_of (length file))) ≡ Written n t
         → length file ≡ n
-    by true q = cc
+    by true q = (same_outcome q).0
     by false q = cc
 written-long (v ∷ vs) file past e = written-long vs (file_with v vs file past) (past_with v vs file past) (turned v vs file past e).others
 

@@ -14,6 +14,8 @@ use Rattle.frame.specs.Unless.{unless}
 use Rattle.passes.specs.declared.Fault.{Fault}
 use Rattle.passes.specs.declared.Fault.TheVariants.{Size, Room}
 use Rattle.passes.specs.declared.Totals.{Totals}
+use Rattle.passes.specs.declared.Refusal.{Refusal}
+use Rattle.passes.specs.Answers.{Answer}
 use Rattle.draft.specs.Outcomes.{Outcome}
 use Rattle.draft.specs.Outcomes.{Written, Refused}
 use Rattle.draft.specs.Values.{Values, set_of_text, values_of_rows, values_of_draft}
@@ -22,9 +24,20 @@ use Rattle.draft.specs.Promises.{ReadBack, Promised}
 use Rattle.draft_survey.specs.CappedOutcome.{capped_outcome}
 use Rattle.set_out.specs.SetOut.{values_in, Fits}
 use Rattle.draft.proofs.Shapes.{shaped-draft}
-use Rattle.made_is_read.proofs.Whole.{accepted, as-the-reader}
+use Rattle.made_is_read.proofs.Whole.{same_outcome, accepted, as-the-reader}
 use Rattle.same_bytes.proofs.Either.{made_again}
 use Rattle.values_back.proofs.Whole.{read-back-whole}
+use Rattle.passes.specs.Answers as answers
+
+-- a refusal of a file is an outcome too
+refusal_as : Answer → Outcome
+refusal_as (answers.Accepted t) = Written 0 t
+refusal_as (Err r) = Err r
+
+pub refused-as : {r : Refusal} {fault : Fault} {place offset : ℕ} → ◌≡◌ {A = Answer} (Err r) (answers.Refused fault place offset)
+    → ◌≡◌ {A = Outcome} (Err r) (Refused fault place offset)
+unfolding refusal_as
+refused-as e = ap refusal_as e
 
 -- an outcome that is written within the room, and the answer whatever the room
 record Kept (n : ℕ) (t : Totals) (answer : Outcome) : Type 0 where
@@ -39,7 +52,7 @@ kept room n t (Written m u) e = by (leb m 268_435_456) refl (leb m room) e
   where
     by : (b : Bool) → leb m 268_435_456 ≡ b → (c : Bool) → unless b (Refused Size 0 0) (unless c (Refused Room m 0) (Written m u)) ≡ Written n t
         → Kept n t (Written m u)
-    by true p true q = record { is = q; small = let z : m ≡ n = cc in omega (arith, leb-true m 268_435_456 p) }
+    by true p true q = record { is = q; small = let z : m ≡ n = (same_outcome q).0 in omega (arith, leb-true m 268_435_456 p) }
     by true p false q = never q
     by false p c q = never q
 kept room n t (Err r) e = never e
@@ -147,7 +160,7 @@ record Told (answer : Outcome) (bytes : ℕ) (t : Totals) : Type 0 where
   counts : bytes ≡ offset_of size
 
 told : (answer : Outcome) {bytes : ℕ} {t : Totals} → Written bytes t ≡ capped_outcome answer → Told answer bytes t
-told (Written n u) e = record { size = n; is = cc; counts = cc }
+told (Written n u) e = let same = same_outcome e in record { size = n; is = ap (Written n) (sym same.1); counts = same.0 }
 told (Err r) e = never (sym e)
 
 told-refused : (answer : Outcome) {fault : Fault} {place offset : ℕ} → Refused fault place offset ≡ capped_outcome answer → answer ≡ Refused fault place offset

@@ -7,7 +7,7 @@ ghost use Rattle.draft.specs.Drafted.{outcome_of, buffer_of};
 ghost use Rattle.draft.specs.Promises.{Promised};
 
 use draft::Outcome;
-use passes::Fault;
+use passes::{Fault, Refusal};
 
 // The file that a draft makes: what becomes of it, and in the lent buffer its bytes where it can be made out and there is room. The draft is a text of
 // bytes and rows of ten numbers (reading 41); what is worked out is not looked at in the text.
@@ -17,19 +17,14 @@ pub fn write<'a>(text: &'a [u8], draft: &'a [u64], out: &mut [u8]) -> Outcome
     ensures promised { Promised text.now draft.now out.old result out.new }
 {
     let layouts = layout::table();
-    let outcome = draft_survey::survey_draft(&layouts, text, draft);
-    match outcome {
-        Outcome::Written(bytes, _) => {
-            if 268_435_456 < bytes {
-                return Outcome::Refused(Fault::Size, 0, 0);
-            }
-            if out.len() < bytes {
-                return Outcome::Refused(Fault::Room, bytes as u64, 0);
-            }
-            let set = draft_survey::set_of_text(text, draft);
-            set_out::write_rows(set, &layouts, text, draft, out);
-            outcome
-        }
-        Outcome::Refused(_, _, _) => outcome,
+    let (bytes, totals) = draft_survey::survey_draft(&layouts, text, draft)?;
+    if 268_435_456 < bytes {
+        return Err(Refusal::of_file(Fault::Size, 0));
     }
+    if out.len() < bytes {
+        return Err(Refusal::of_file(Fault::Room, bytes as u64));
+    }
+    let set = draft_survey::set_of_text(text, draft);
+    set_out::write_rows(set, &layouts, text, draft, out);
+    Ok((bytes, totals))
 }

@@ -1,9 +1,5 @@
-use Prim.Native.Nat.{◌-◌}
 use Rattle.completing.proofs.Laws.{Left}
 use Rattle.completing.proofs.put_lines.Given as goal
 
-abbrev pub invariant-loop-i : goal.invariant-loop-i
-invariant-loop-i l = Left l.set l.text l.rows l.addenda l.s l.own l.end l.initial.out l.at l.out l.place l.i
-
-abbrev pub decreases-loop-i : goal.decreases-loop-i
-decreases-loop-i l = l.end - l.i
+abbrev pub invariant-loop-packed : goal.invariant-loop-packed
+invariant-loop-packed l = Left l.set l.text l.row.rows.now l.addenda l.s l.packed-items l.initial.out l.at l.out l.place l.packed-index

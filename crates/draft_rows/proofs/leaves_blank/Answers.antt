@@ -1,5 +1,4 @@
 use mathlib.Core.Path.{sym, ◌∙◌, ap}
-use Rattle.draft_rows.proofs.Origins.{others}
 use Rattle.draft_rows.proofs.Rows.{row-blank}
 use Rattle.draft.specs.Values.{values_of_row}
 use Rattle.draft.specs.Completed.{leaves_blank}

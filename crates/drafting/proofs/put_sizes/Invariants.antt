@@ -1,4 +1,3 @@
-use Prim.Native.Nat.{◌-◌}
 use Rattle.copying.proofs.Laws.{Down}
 use Rattle.drafting.specs.ByNumbers.{seven_sizes, parts_own}
 use Rattle.drafting.proofs.Sizes.{seven}
@@ -6,6 +5,3 @@ use Rattle.drafting.proofs.put_sizes.Given as goal
 
 abbrev pub invariant-loop-i : goal.invariant-loop-i
 invariant-loop-i l = Down (seven_sizes l.set (parts_own l.own) l.body) l.initial.draft 7 l.base l.draft l.i
-
-abbrev pub decreases-loop-i : goal.decreases-loop-i
-decreases-loop-i l = 7 - l.i

@@ -1,18 +1,21 @@
-use mathlib.Core.Path.{ap}
+use mathlib.Core.Path.{◌≡◌, ap}
+use native.Mathlib.Omega.{arith}
+use lib.ListN.{length, take, drop}
 use Prim.Native.Nat.{ℕ, ◌+◌, ◌-◌}
-use Rattle.judge.proofs.Dispatch.{whole}
-use Rattle.fitting.proofs.Laws.{sizes-first, sizes-on, sizes-none}
-use borrow.Author.Rules.{rules}
+use Rattle.draft_rows.proofs.Parts.{few-own}
+use Rattle.fitting.proofs.Laws.{sizes_first, sizes_on, sizes_none}
 use Rattle.fitting.proofs.size_of.Goals as goal
 
-pub overflow_sub-parts : goal.overflow_sub-parts
-overflow_sub-parts c = let w = whole c.args.own.now c.requires.0.some c.requires.0.whole in search rules
+pub slice_bounds-part-items-end : goal.slice_bounds-part-items-end
+slice_bounds-part-items-end c = omega (arith, c.args.row.whole, few-own c.args.row.rows.now c.parts.result.now _ c.parts.ensures)
 
-pub loop-i-init : goal.loop-i-init
-loop-i-init c = rw c.length_in-size.ensures (sizes-first c.args.own.now c.args.rows.now (c.fields_in-end.result + 1 - c.parts_in.result) (c.fields_in-end.result + 1) c.requires.0 (ap (λ (k : ℕ). k + 1) c.fields_in-end.ensures) (ap (λ (k : ℕ). c.fields_in-end.result + 1 - k) c.parts_in.ensures))
+pub loop-part-init : goal.loop-part-init
+loop-part-init c =
+    let n : 3 + length c.parts.result.now - 3 ≡ length c.parts.result.now = omega arith in
+    sizes_first c.args.row.rows.now c.parts.result.now _ c.parts.ensures c.fixed_length-size.ensures (omega arith) c.args.row.whole (ap (λ (k : ℕ). take k (drop 3 c.args.row.rows.now)) n)
 
-pub loop-i-preserved : goal.loop-i-preserved
-loop-i-preserved c = sizes-on c.args.own.now c.args.rows.now (c.fields_in-end.result + 1 - c.parts_in.result) (c.fields_in-end.result + 1) c.loop-i.invariant c.loop-i-test.true c.plus-size.ensures
+pub loop-part-preserved : goal.loop-part-preserved
+loop-part-preserved c = sizes_on c.loop-part.invariant c.loop-part-test.true c.saturating_add-size.ensures
 
 pub returns : goal.returns
-returns c = sizes-none c.args.own.now c.args.rows.now (c.fields_in-end.result + 1 - c.parts_in.result) (c.fields_in-end.result + 1) c.loop-i.invariant c.loop-i-test.false
+returns c = sizes_none c.loop-part.invariant c.loop-part-test.false
