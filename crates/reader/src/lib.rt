@@ -7,7 +7,7 @@ ghost use Rattle.arrangement.specs.Arranged.{Arranged};
 ghost use Rattle.read_as_copy.specs.AsItsCopy.{AsItsCopy};
 ghost use Rattle.own_fault.specs.OwnFault.{OwnFault};
 
-use passes::{Answer, Fault};
+use passes::{Answer, Fault, Refusal};
 
 // The answer to a file, and in the lent table the rows of an accepted one.
 pub fn read(file: &[u8], table: &mut [u64]) -> Answer
@@ -17,16 +17,11 @@ pub fn read(file: &[u8], table: &mut [u64]) -> Answer
     ensures copy { AsItsCopy file.now table.old result table.new }
     ensures own { OwnFault file.now result }
 {
-    let answer = passes::survey(file);
-    match answer {
-        Answer::Accepted(totals) => {
-            let needed = totals.records.0;
-            if (table.len() as u64) / 7 < needed {
-                return Answer::Refused(Fault::Room, needed, 0);
-            }
-            passes::fill(file, table);
-            answer
-        }
-        Answer::Refused(_, _, _) => answer,
+    let totals = passes::survey(file)?;
+    let needed = totals.records.0;
+    if (table.len() as u64) / 7 < needed {
+        return Err(Refusal::of_file(Fault::Room, needed));
     }
+    passes::fill(file, table);
+    Ok(totals)
 }

@@ -2,10 +2,10 @@
 #![tactic(auto)]
 
 ghost use Rattle.std.specs.Prelude.{◌≤◌, length};
-ghost use Rattle.layout.specs.Packing.{Packed};
 ghost use Rattle.draft.specs.Values.{values_of_row};
 ghost use Rattle.salvage_entry.specs.Entered.{Entering, EnteredAs};
 
+use layout::Layouts;
 use passes::{Fault, Turn};
 use standing::Standing;
 use text::CharacterSet;
@@ -27,18 +27,18 @@ pub enum Entered {
 // One record more, with so many addenda behind it: `text` and `row` say it as a draft does.
 pub fn enter<'a>(
     set: CharacterSet,
-    layouts: &'a [u64],
+    layouts: &'a Layouts,
     text: &'a [u8],
     row: &'a [u64],
     addenda: u64,
     pen: Pen,
     sheet: &mut [u8],
 ) -> Entered
-    requires { Packed layouts.now × (10 ≤ length row.now) × Entering (values_of_row set text.now row.now) addenda sheet.old pen }
+    requires { (10 ≤ length row.now) × Entering (values_of_row set text.now row.now) addenda sheet.old pen }
     ensures { (e : Entering (values_of_row set text.now row.now) addenda sheet.old pen) → EnteredAs (values_of_row set text.now row.now) e.others e.begun.file e.begun.past result sheet.new }
 {
     let s = pen.standing;
-    let own = layout::own_numbers(layouts, row[0]);
+    let own = layouts.own_numbers(row[0]);
     match draft_survey::judge_counted(set, own, text, row, addenda, s, sheet) {
         Turn::Faulty(fault) => Entered::Refused(fault, s.records.0 + 1, pen.bytes),
         Turn::Good(kind) => {

@@ -10,20 +10,22 @@ use lib.ListN.{length, take, drop, length-append, take-append-drop}
 use lib.Seq.{sets, length-sets, sets-eq, length-take-le, take_at, drop_at, drop-drop}
 use borrow.Author.Tests.{eq-eqb, ne_eqb}
 use Rattle.text.specs.declared.character_set.CharacterSet.{CharacterSet}
-use Rattle.salvage_model.specs.Kept.{Fate, kept, renewed, dropped, Marked}
-use Rattle.salvage_model.specs.Salvaged.{status_of, listed}
+use Rattle.salvage_model.specs.Kept.{Marked}
+use Rattle.salvage_model.specs.Salvaged.{status_of, fault_number, listed}
+use Rattle.salvage_marks.specs.declared.Fate as code
+use Rattle.salvage_marks.specs.declared.Fate.TheVariants.{Kept, MadeNew, Dropped}
 use Rattle.salvage_marks.specs.declared.Plan.{Plan}
 use Rattle.salvage_marks.specs.declared.Marking.{Marking}
-use Rattle.salvage_marks.specs.Left.{Left, Planned, NextMark}
+use Rattle.salvage_marks.specs.Left.{meant, is_kept, Left, Planned, NextMark}
 use Rattle.salvage_marks.proofs.Marks.{left-none}
 use Rattle.salvage_made.specs.ByMarks.{is_kept_fate, any_marked}
 use Rattle.salvage_list.specs.Listable.{Listable}
 
--- 0 is the status of what is kept
-kept-status : (f : Fate) → is_kept_fate f ≡ eqb (status_of f) 0
-kept-status kept = refl
-kept-status renewed = refl
-kept-status (dropped n) = refl
+-- what is kept, as the model says it
+kept-fate : (f : code.Fate) → is_kept_fate (meant f) ≡ is_kept f
+kept-fate Kept = refl
+kept-fate MadeNew = refl
+kept-fate (Dropped fault) = refl
 
 -- a run of numbers in a list, from a place on; the list is as it was before and behind it
 abbrev pub filled : List ℕ → ℕ → List ℕ → List ℕ
@@ -81,18 +83,18 @@ module _ (set : CharacterSet) (file : List ℕ) (end : ℕ) (from : Plan) where
         sym (ap any_marked (left-none set file end p k.left k.stands h)) ∙ k.same
 
     module _ {r : Marking} (step : Steps p r) where
-      pub looks-kept : r.status ≡ 0 → (ms : List Marked) → Left set file end from ms → true ≡ any_marked ms
+      pub looks-kept : is_kept r.fate ≡ true → (ms : List Marked) → Left set file end from ms → true ≡ any_marked ms
       looks-kept e ms v =
           let k = looks ms v in
           let n = step k.left k.stands in
-          let is : is_kept_fate n.fate ≡ true = kept-status n.fate ∙ eq-eqb (status_of n.fate) 0 (sym n.status ∙ e) in
+          let is : is_kept_fate n.fate ≡ true = ap is_kept_fate (sym n.told) ∙ kept-fate r.fate ∙ e in
           sym (ap (λ (b : Bool). b || any_marked n.others) is) ∙ sym (ap any_marked n.is) ∙ k.same
 
-      pub looks_on : (r.status ≡ 0 → ⊥) → Looks r.next
+      pub looks_on : is_kept r.fate ≡ false → Looks r.next
       looks_on e ms v =
           let k = looks ms v in
           let n = step k.left k.stands in
-          let no : is_kept_fate n.fate ≡ false = kept-status n.fate ∙ ne_eqb (status_of n.fate) 0 (λ q. e (n.status ∙ q)) in
+          let no : is_kept_fate n.fate ≡ false = ap is_kept_fate (sym n.told) ∙ kept-fate r.fate ∙ e in
           record {
             left = n.others;
             stands = n.left;
@@ -131,14 +133,14 @@ module _ (set : CharacterSet) (file : List ℕ) (end : ℕ) (from : Plan) where
             let k = lists.onward v.marks v.left in
             omega (arith, k.counted, ap length (step k.left k.stands).is, v.within, lists.long)
 
-        pub lists-on : {after : List ℕ} → after ≡ sets list row (p.at ∷ r.kind ∷ r.status ∷ r.number ∷ []) → Lists list₀ r.next (row + 4) after
+        pub lists-on : {after : List ℕ} → after ≡ sets list row (p.at ∷ r.kind ∷ status_of (meant r.fate) ∷ fault_number (meant r.fate) ∷ []) → Lists list₀ r.next (row + 4) after
         unfolding listed
         lists-on {after} e = record {
-          long = ap length e ∙ length-sets list row (p.at ∷ r.kind ∷ r.status ∷ r.number ∷ []) ∙ lists.long;
+          long = ap length e ∙ length-sets list row (p.at ∷ r.kind ∷ status_of (meant r.fate) ∷ fault_number (meant r.fate) ∷ []) ∙ lists.long;
           onward = λ ms w.
               let k = lists.onward ms w in
               let n = step k.left k.stands in
-              let four : List ℕ = p.at ∷ r.kind ∷ r.status ∷ r.number ∷ [] in
+              let four : List ℕ = p.at ∷ r.kind ∷ status_of (meant r.fate) ∷ fault_number (meant r.fate) ∷ [] in
               record {
                 left = n.others;
                 stands = n.left;
@@ -146,7 +148,7 @@ module _ (set : CharacterSet) (file : List ℕ) (end : ℕ) (from : Plan) where
                 same =
                     k.same
                     ∙ ap (λ (l : List Marked). filled list row (listed set p.at l)) n.is
-                    ∙ sym (rw (n.kind, n.status, n.number, n.at) refl)
+                    ∙ sym (rw (n.kind, n.told, n.at) refl)
                     ∙ sym (filled_more list row four (listed set r.next.at n.others) lists-room)
                     ∙ ap (λ (l : List ℕ). filled l (row + 4) (listed set r.next.at n.others)) (sym e);
               };

@@ -3,31 +3,32 @@
 
 ghost use Rattle.std.specs.Prelude.{List, [], ◌∷◌, ◌++◌, ◌≡◌, ◌+◌, ◌≤◌, length, drop};
 ghost use Rattle.std.proofs.lemmas.List.Edits.{sets};
-ghost use Rattle.layout.specs.Packing.{Packed};
 ghost use Rattle.salvage_model.specs.Kept.{Marked};
-ghost use Rattle.salvage_model.specs.Salvaged.{listed};
-ghost use Rattle.salvage_marks.specs.Left.{Left, Planned};
+ghost use Rattle.salvage_model.specs.Salvaged.{status_of, fault_number, listed};
+ghost use Rattle.salvage_marks.specs.Left.{meant, Left, Planned};
 ghost use Rattle.salvage_made.specs.ByMarks.{any_marked};
 ghost use Rattle.salvage_list.specs.Listable.{Listable};
 
+use layout::Layouts;
 use salvage_marks::{Marking, Plan};
 use text::CharacterSet;
 
 // Whether any record from here on is kept.
 pub fn is_any_kept<'a>(
     set: CharacterSet,
-    layouts: &'a [u64],
+    layouts: &'a Layouts,
     file: &'a [u8],
     end: usize,
     from: Plan,
 ) -> bool
-    requires { Packed layouts.now × Planned set file.now end from }
+    requires { Planned set file.now end from }
     ensures { (ms : List Marked) → Left set file.now end from ms → result ≡ any_marked ms }
 {
     let mut plan = from;
+    // Stays: (d) the step is what the record's length says, so that no range counts it.
     while plan.at < end {
         let mark = salvage_marks::mark_next(set, layouts, file, end, plan);
-        if mark.status == 0 {
+        if mark.fate.is_kept() {
             return true;
         }
         plan = mark.next;
@@ -38,28 +39,29 @@ pub fn is_any_kept<'a>(
 // The four numbers of a record, at a place of the list.
 fn put_row(list: &mut [u64], row: usize, at: usize, mark: Marking)
     requires { row + 4 ≤ length list.old }
-    ensures { list.new ≡ sets list.old row (at ∷ mark.kind ∷ mark.status ∷ mark.number ∷ []) }
+    ensures { list.new ≡ sets list.old row (at ∷ mark.kind ∷ status_of (meant mark.fate) ∷ fault_number (meant mark.fate) ∷ []) }
 {
     list[row] = at as u64;
     list[row + 1] = mark.kind;
-    list[row + 2] = mark.status;
-    list[row + 3] = mark.number;
+    list[row + 2] = mark.fate.status();
+    list[row + 3] = mark.fate.number();
 }
 
 // Offset, type, status and number of each record from here on.
 pub fn put_list<'a>(
     set: CharacterSet,
-    layouts: &'a [u64],
+    layouts: &'a Layouts,
     file: &'a [u8],
     end: usize,
     from: Plan,
     list: &mut [u64],
 )
-    requires { Packed layouts.now × Listable set file.now end from (length list.old) }
+    requires { Listable set file.now end from (length list.old) }
     ensures { (ms : List Marked) → Left set file.now end from ms → list.new ≡ listed set from.at ms ++ drop (length (listed set from.at ms)) list.old }
 {
     let mut plan = from;
     let mut row: usize = 0;
+    // Stays: (d) as above.
     while plan.at < end {
         let mark = salvage_marks::mark_next(set, layouts, file, end, plan);
         put_row(list, row, plan.at, mark);

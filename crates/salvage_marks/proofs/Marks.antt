@@ -12,34 +12,23 @@ use Rattle.text.specs.declared.character_set.CharacterSet.{CharacterSet}
 use Rattle.judge.specs.Alone.{type_of}
 use Rattle.frame.specs.Frames.{part}
 use Rattle.passes.specs.declared.Fault.{Fault}
+use Rattle.passes.specs.declared.Fault.TheVariants.{Place}
 use Rattle.passes.specs.Answers.{number_of}
 use Rattle.file_as_records.specs.Framed.{Body}
 use Rattle.arrangement.specs.Sound.{indicator, N}
 use Rattle.salvage_model.specs.Runs.{leading, following, Group, run, loose, groups_of, sound_alone, run_fault}
-use Rattle.salvage_model.specs.Kept.{any_bundle, sections_of, Fate, kept, renewed, Marked, marked, out_of_place, run_fate, sections_marks, marks_of}
-use Rattle.salvage_model.specs.Salvaged.{status_of, fault_number}
+use Rattle.salvage_model.specs.Kept.{any_bundle, sections_of, Fate, kept, renewed, dropped, Marked, marked, out_of_place, run_fate, sections_marks, marks_of}
 use Rattle.salvage_walk.specs.declared.Seen.{Seen}
-use Rattle.salvage_walk.specs.declared.Sort.TheVariants.{UnderHeader}
-use Rattle.salvage_walk.specs.Spans.{Stands, Spans, SeenAs, Parted}
+use Rattle.salvage_walk.specs.Spans.{Stands, Spans, SeenAs, not_among, Parted}
 use Rattle.salvage_walk.proofs.Sorts.{first_of, none_left, spans-within}
 use Rattle.salvage_runs.specs.declared.Grouped.{Grouped}
-use Rattle.salvage_runs.specs.RunAt.{number_in, RunAt, GroupAt}
-use Rattle.salvage_runs.proofs.Groups.{through-none}
+use Rattle.salvage_runs.specs.RunAt.{read_through, is_run, RunAt, GroupAt}
+use Rattle.std.specs.Prelude.{Result, Ok, Err}
+use Rattle.salvage_marks.specs.declared.Fate as code
+use Rattle.salvage_marks.specs.declared.Fate.TheVariants.{Kept, MadeNew, Dropped}
 use Rattle.salvage_marks.specs.declared.Plan.{Plan}
-use Rattle.salvage_marks.specs.Left.{group_fate, bodies_of, groups_marked, tail_marked, Left, NextMark, GroupNumber}
+use Rattle.salvage_marks.specs.Left.{meant, group_fate, bodies_of, groups_marked, tail_marked, Left, NextMark, GroupFate}
 use Rattle.salvage_marks.proofs.Sections.{under, kept_letter, groups_none, tail-10, tail-renewed, tail-dropped, tail_none}
-
--- the fate of a run by the number of its fault
-pub number-some : (k : Bool) (o : Option Fault) (n : ℕ) → n ≡ number_in o → (n ≡ 0 → ⊥) → n ≡ fault_number (run_fate k o)
-number-some k none n e z = absurd (z e)
-number-some k (some fault) n e z = e
-
-pub number-none : (k : Bool) (o : Option Fault) → number_in o ≡ 0 → fault_number (cond k kept out_of_place) ≡ fault_number (run_fate k o)
-number-none k none e = refl
-number-none k (some fault) e =
-    let never : false ≡ true = through-none (some fault) ∙ eq-eqb (number_of fault) 0 e in
-    let z : ◌≡◌ {A = ℕ} 0 1 = cc in
-    absurd (omega arith)
 
 pub never_both : (b : Bool) → b ≡ false → b ≡ true → ⊥
 never_both b p q =
@@ -51,26 +40,32 @@ pub both_hold : (a b : Bool) → a && b ≡ true → b ≡ true
 both_hold true b e = e
 both_hold false b e = cc
 
--- the number of a group
+-- the fate of a group
 module _ (set : CharacterSet) (file : List ℕ) (p : Plan) (g : Grouped) where
-  pub number-loose : g.run && p.sound ≡ false → GroupNumber set file p g 6
-  number-loose e = record { loosely = λ _. refl; runs = λ q. absurd (never_both (g.run && p.sound) e q) }
+  pub fate-loose : is_run g.group && p.sound ≡ false → GroupFate set file p g (Dropped Place)
+  fate-loose e = record { loosely = λ _. refl; runs = λ q. absurd (never_both (is_run g.group && p.sound) e q) }
 
-  module _ (e : g.run && p.sound ≡ true) (n : ℕ)
-      (found : (w : RunAt set file p.heading p.at g.end) → n ≡ number_in (run_fault set w.header w.bodies)) where
-    pub number-fault : (n ≡ 0 → ⊥) → GroupNumber set file p g n
-    number-fault z = record {
-      loosely = λ q. absurd (never_both (g.run && p.sound) q e);
-      runs = λ _ w. number-some p.kept (run_fault set w.header w.bodies) n (found w) z;
+  module _ (e : is_run g.group && p.sound ≡ true) (read : Result (Unit {0}) Fault)
+      (found : (w : RunAt set file p.heading p.at g.end) → read ≡ read_through (run_fault set w.header w.bodies)) where
+    pub fate-fault : (fault : Fault) → read ≡ Err fault → GroupFate set file p g (Dropped fault)
+    fate-fault fault q = record {
+      loosely = λ r. absurd (never_both (is_run g.group && p.sound) r e);
+      runs = λ _ w. by (run_fault set w.header w.bodies) (sym (found w) ∙ q);
     }
+      where
+        by : (o : Option Fault) → read_through o ≡ Err fault → dropped (number_of fault) ≡ run_fate p.kept o
+        by none r = cc
+        by (some other) r = let same : other ≡ fault = cc in ap (λ (f : Fault). dropped (number_of f)) (sym same)
 
-    pub number-through : n ≡ 0 → (k : Bool) → p.kept ≡ k → GroupNumber set file p g (fault_number (cond k kept out_of_place))
-    number-through z k q = record {
-      loosely = λ r. absurd (never_both (g.run && p.sound) r e);
-      runs = λ _ w.
-          ap (λ (b : Bool). fault_number (cond b kept out_of_place)) (sym q)
-          ∙ number-none p.kept (run_fault set w.header w.bodies) (sym (found w) ∙ z);
+    pub fate-through : (t : Unit {0}) → read ≡ Ok t → (r : code.Fate) → meant r ≡ cond p.kept kept out_of_place → GroupFate set file p g r
+    fate-through t q r k = record {
+      loosely = λ b. absurd (never_both (is_run g.group && p.sound) b e);
+      runs = λ _ w. k ∙ by (run_fault set w.header w.bodies) (sym (found w) ∙ q);
     }
+      where
+        by : (o : Option Fault) → read_through o ≡ Ok t → cond p.kept kept out_of_place ≡ run_fate p.kept o
+        by none r = refl
+        by (some other) r = cc
 
 -- Annex B
 pub annex-none : (set : CharacterSet) (x : ℕ) (body header : Body) (any : Bool) → x ≡ indicator set body → x ≡ N → body ≡ header
@@ -83,24 +78,9 @@ pub annex-any : (set : CharacterSet) (x : ℕ) (body header : Body) (any : Bool)
 annex-any set x body header any e n q =
     sym (ap (λ (b : Bool). b || any) (ne_eqb (indicator set header) N (λ z. n (e ∙ ap (indicator set) q ∙ z))))
 
-run-status : (k : Bool) (o : Option Fault) → cond (not (eqb (fault_number (run_fate k o)) 0)) 2 0 ≡ status_of (run_fate k o)
-run-status true none = refl
-run-status false none = refl
-run-status k (some fault) = ap (λ (b : Bool). cond (not b) 2 0) (sym (through-none (some fault)))
-
-pub group-status : (set : CharacterSet) (header : Body) (k : Bool) (g : Group)
-    → cond (not (eqb (fault_number (group_fate set header k g)) 0)) 2 0 ≡ status_of (group_fate set header k g)
-group-status set header k (loose bs) = refl
-group-status set header k (run bs) = by (sound_alone set 10 header)
-  where
-    by : (c : Bool) → cond (not (eqb (fault_number (cond c (run_fate k (run_fault set header bs)) out_of_place)) 0)) 2 0
-        ≡ status_of (cond c (run_fate k (run_fault set header bs)) out_of_place)
-    by true = run-status k (run_fault set header bs)
-    by false = refl
-
 -- under no header
 pub left-outside : (set : CharacterSet) (file : List ℕ) (at end : ℕ) (bs : List Body) → Spans file at bs end → end ≤ 268_435_456
-    → Left set file end (record { at = at; group = at; stop = at; heading = 0; sound = false; kept = false; status = 2; number = 6 })
+    → Left set file end (record { at = at; group = at; stop = at; heading = 0; sound = false; kept = false; fate = Dropped Place })
     (sections_marks set (sections_of set bs))
 unfolding sound_alone type_of
 left-outside set file at end bs s l = record {
@@ -112,8 +92,7 @@ left-outside set file at end bs s l = record {
   own_spans = refl;
   under_spans = refl;
   rest_spans = s;
-  status = refl;
-  number = refl;
+  told = refl;
   sound = refl;
   stands = λ e. let z : ◌≡◌ {A = ℕ} 0 1 = cc in absurd (omega arith);
   limit = l;
@@ -123,7 +102,7 @@ left-outside set file at end bs s l = record {
 -- at the first record of a file: it is kept, and what stands behind it is under no header
 pub left-of-file : (set : CharacterSet) (file : List ℕ) (next end : ℕ) (b : Body) (bs : List Body) → next ≡ 4 + length b → Spans file 0 (b ∷ bs) end
     → end ≤ 268_435_456
-    → Left set file end (record { at = 0; group = next; stop = next; heading = 0; sound = false; kept = false; status = 0; number = 0 }) (marks_of set (b ∷ bs))
+    → Left set file end (record { at = 0; group = next; stop = next; heading = 0; sound = false; kept = false; fate = Kept }) (marks_of set (b ∷ bs))
 unfolding marks_of sound_alone type_of
 left-of-file set file next end b bs e s l = record {
   fate = kept;
@@ -134,8 +113,7 @@ left-of-file set file next end b bs e s l = record {
   own_spans = (s.0, sym e);
   under_spans = refl;
   rest_spans = subst (λ (m : ℕ). Spans file m bs end) (sym e) s.1;
-  status = refl;
-  number = refl;
+  told = refl;
   sound = refl;
   stands = λ e. let z : ◌≡◌ {A = ℕ} 0 1 = cc in absurd (omega arith);
   limit = l;
@@ -167,8 +145,7 @@ module _ (set : CharacterSet) (file : List ℕ) (end : ℕ) (p : Plan) (seen : S
           start = seen.start;
           size = seen.size;
           kind = seen.kind;
-          status = p.status;
-          number = p.number;
+          fate = p.fate;
           next = record {
             at = seen.next;
             group = p.group;
@@ -176,8 +153,7 @@ module _ (set : CharacterSet) (file : List ℕ) (end : ℕ) (p : Plan) (seen : S
             heading = p.heading;
             sound = p.sound;
             kept = p.kept;
-            status = p.status;
-            number = p.number;
+            fate = p.fate;
           };
         })
     next-in-group =
@@ -198,8 +174,7 @@ module _ (set : CharacterSet) (file : List ℕ) (end : ℕ) (p : Plan) (seen : S
             own_spans = rw as_seen.next f.spans;
             under_spans = v.under_spans;
             rest_spans = v.rest_spans;
-            status = v.status;
-            number = v.number;
+            told = v.told;
             sound = v.sound;
             stands = v.stands;
             limit = v.limit;
@@ -209,8 +184,7 @@ module _ (set : CharacterSet) (file : List ℕ) (end : ℕ) (p : Plan) (seen : S
           start = as_seen.start;
           size = as_seen.size;
           kind = as_seen.kind;
-          status = v.status;
-          number = v.number;
+          told = v.told;
           at = as_seen.next;
         }
 
@@ -228,7 +202,7 @@ module _ (set : CharacterSet) (file : List ℕ) (end : ℕ) (p : Plan) (seen : S
       bodies = group.first ∷ group.own
 
       abbrev found : Group
-      found = cond r.run (run bodies) (loose bodies)
+      found = cond (is_run r.group) (run bodies) (loose bodies)
 
       pub group-run-at : p.sound ≡ true → RunAt set file p.heading p.at r.end
       unfolding group
@@ -247,34 +221,33 @@ module _ (set : CharacterSet) (file : List ℕ) (end : ℕ) (p : Plan) (seen : S
       }
 
       bodies-found : bodies_of found ≡ bodies
-      bodies-found = by r.run
+      bodies-found = by (is_run r.group)
         where
           by : (c : Bool) → bodies_of (cond c (run bodies) (loose bodies)) ≡ bodies
           by true = refl
           by false = refl
 
-      number-found : (number : ℕ) → GroupNumber set file p r number → number ≡ fault_number (group_fate set v.header p.kept found)
+      fate-found : (f : code.Fate) → GroupFate set file p r f → meant f ≡ group_fate set v.header p.kept found
       unfolding group group-run-at
-      number-found number n = by r.run refl p.sound refl
+      fate-found f n = by (is_run r.group) refl p.sound refl
         where
-          by : (c : Bool) → r.run ≡ c → (s : Bool) → p.sound ≡ s
-              → number ≡ fault_number (group_fate set v.header p.kept (cond c (run bodies) (loose bodies)))
+          by : (c : Bool) → is_run r.group ≡ c → (s : Bool) → p.sound ≡ s
+              → meant f ≡ group_fate set v.header p.kept (cond c (run bodies) (loose bodies))
           by true c true s =
               n.runs (ap₂ ◌&&◌ c s) (group-run-at s)
-              ∙ ap (λ (b : Bool). fault_number (cond b (run_fate p.kept (run_fault set v.header bodies)) out_of_place)) (sym s ∙ v.sound)
+              ∙ ap (λ (b : Bool). cond b (run_fate p.kept (run_fault set v.header bodies)) out_of_place) (sym s ∙ v.sound)
           by true c false s =
               n.loosely (ap₂ ◌&&◌ c s)
-              ∙ ap (λ (b : Bool). fault_number (cond b (run_fate p.kept (run_fault set v.header bodies)) out_of_place)) (sym s ∙ v.sound)
+              ∙ ap (λ (b : Bool). cond b (run_fate p.kept (run_fault set v.header bodies)) out_of_place) (sym s ∙ v.sound)
           by false c s q = n.loosely (ap (λ (b : Bool). b && p.sound) c)
 
-      pub next-group : (number : ℕ) → GroupNumber set file p r number → (status : ℕ) → status ≡ cond (not (eqb number 0)) 2 0
+      pub next-group : (f : code.Fate) → GroupFate set file p r f
           → NextMark set file end p ms
           (record {
             start = seen.start;
             size = seen.size;
             kind = seen.kind;
-            status = status;
-            number = number;
+            fate = f;
             next = record {
               at = seen.next;
               group = r.end;
@@ -282,17 +255,14 @@ module _ (set : CharacterSet) (file : List ℕ) (end : ℕ) (p : Plan) (seen : S
               heading = p.heading;
               sound = p.sound;
               kept = p.kept;
-              status = status;
-              number = number;
+              fate = f;
             };
           })
       unfolding group gone
-      next-group number n status q =
+      next-group f n =
           let fate : Fate = group_fate set v.header p.kept found in
           let as_seen = told group.first group.spans.0 in
-          let told-number : number ≡ fault_number fate = number-found number n in
-          let told-status : status ≡ status_of fate =
-          q ∙ ap (λ (m : ℕ). cond (not (eqb m 0)) 2 0) told-number ∙ group-status set v.header p.kept found in
+          let same : meant f ≡ fate = fate-found f n in
           let later = groups_marked set v.header p.kept (groups_of set group.others) in
           let rest = tail_marked set p.kept v.rest in
           record {
@@ -314,8 +284,7 @@ module _ (set : CharacterSet) (file : List ℕ) (end : ℕ) (p : Plan) (seen : S
               own_spans = subst (λ (m : ℕ). Spans file m group.own r.end) (sym as_seen.next) group.spans.1;
               under_spans = group.behind;
               rest_spans = v.rest_spans;
-              status = told-status;
-              number = told-number;
+              told = same;
               sound = v.sound;
               stands = v.stands;
               limit = v.limit;
@@ -325,8 +294,7 @@ module _ (set : CharacterSet) (file : List ℕ) (end : ℕ) (p : Plan) (seen : S
             start = as_seen.start;
             size = as_seen.size;
             kind = as_seen.kind;
-            status = told-status;
-            number = told-number;
+            told = same;
             at = as_seen.next;
           }
 
@@ -366,10 +334,9 @@ module _ (set : CharacterSet) (file : List ℕ) (end : ℕ) (p : Plan) (seen : S
       module _ (next : Plan) (stands : (bs : List Body) → Spans file seen.next bs end → end ≤ 268_435_456 → Left set file end next (sections_marks set (sections_of set bs)))
           (at : next.at ≡ seen.next) where
         next-outside : (fate : Fate) → ms ≡ marked fate (tail_of ms v).first ∷ sections_marks set (sections_of set (tail_of ms v).others)
-            → (status number : ℕ) → status ≡ status_of fate → number ≡ fault_number fate
-            → NextMark set file end p ms
-            (record { start = seen.start; size = seen.size; kind = seen.kind; status = status; number = number; next = next })
-        next-outside fate e status number s n =
+            → (f : code.Fate) → meant f ≡ fate
+            → NextMark set file end p ms (record { start = seen.start; size = seen.size; kind = seen.kind; fate = f; next = next })
+        next-outside fate e f same =
             let f = tail_of ms v in
             let as_seen = told f.first f.stands in
             record {
@@ -382,33 +349,32 @@ module _ (set : CharacterSet) (file : List ℕ) (end : ℕ) (p : Plan) (seen : S
               start = as_seen.start;
               size = as_seen.size;
               kind = as_seen.kind;
-              status = s;
-              number = n;
+              told = same;
               at = at ∙ as_seen.next;
             }
 
         pub next-renewed : eqb seen.kind 99 || (p.kept && eqb seen.kind 90) ≡ true → NextMark set file end p ms
-            (record { start = seen.start; size = seen.size; kind = seen.kind; status = 1; number = 0; next = next })
+            (record { start = seen.start; size = seen.size; kind = seen.kind; fate = MadeNew; next = next })
         next-renewed e =
             let f = tail_of ms v in
             let as_seen = told f.first f.stands in
             next-outside renewed
             (f.marks
-            ∙ tail-renewed set p.kept f.first f.others (ap (λ (k : ℕ). eqb k 99 || (p.kept && eqb k 90)) (sym as_seen.kind) ∙ e)) 1 0 refl refl
+            ∙ tail-renewed set p.kept f.first f.others (ap (λ (k : ℕ). eqb k 99 || (p.kept && eqb k 90)) (sym as_seen.kind) ∙ e)) MadeNew refl
 
         pub next-dropped : (seen.kind ≡ 10 → ⊥) → eqb seen.kind 99 || (p.kept && eqb seen.kind 90) ≡ false → NextMark set file end p ms
-            (record { start = seen.start; size = seen.size; kind = seen.kind; status = 2; number = 6; next = next })
+            (record { start = seen.start; size = seen.size; kind = seen.kind; fate = Dropped Place; next = next })
         next-dropped o e =
             let f = tail_of ms v in
             let as_seen = told f.first f.stands in
             next-outside out_of_place
             (f.marks
             ∙ tail-dropped set p.kept f.first f.others (λ q. o (as_seen.kind ∙ q))
-            (ap (λ (k : ℕ). eqb k 99 || (p.kept && eqb k 90)) (sym as_seen.kind) ∙ e)) 2 6 refl refl
+            (ap (λ (k : ℕ). eqb k 99 || (p.kept && eqb k 90)) (sym as_seen.kind) ∙ e)) (Dropped Place) refl
 
       -- a cash letter header
       module _ (ten : seen.kind ≡ 10) (stop : ℕ)
-          (parts : (bs : List Body) → Spans file seen.next bs end → Parted set file UnderHeader seen.next bs end stop) (body : List ℕ)
+          (parts : (bs : List Body) → Spans file seen.next bs end → Parted set file (not_among (10 ∷ 90 ∷ 99 ∷ [])) seen.next bs end stop) (body : List ℕ)
           (is : body ≡ part seen.start seen.size file) (sound : Bool) (judged : sound ≡ sound_alone set 10 body) where
         abbrev top : Tail ms
         top = tail_of ms v
@@ -418,7 +384,7 @@ module _ (set : CharacterSet) (file : List ℕ) (end : ℕ) (p : Plan) (seen : S
             let as_seen = told top.first top.stands in
             is ∙ ap₂ (λ (m n : ℕ). part m n file) as_seen.start as_seen.size ∙ top.stands.body
 
-        parted : Parted set file UnderHeader seen.next top.others end stop
+        parted : Parted set file (not_among (10 ∷ 90 ∷ 99 ∷ [])) seen.next top.others end stop
         parted = parts top.others top.spans
 
         pub letter-run : sound ≡ true → RunAt set file p.at seen.next stop
@@ -434,18 +400,17 @@ module _ (set : CharacterSet) (file : List ℕ) (end : ℕ) (p : Plan) (seen : S
         pub next-letter : (is_kept : Bool) → (sound ≡ false → is_kept ≡ false)
             → (sound ≡ true → (w : RunAt set file p.at seen.next stop) → body ≡ w.header
             → is_kept ≡ (eqb (indicator set w.header) N || any_bundle set w.header (groups_of set w.bodies)))
-            → (status number : ℕ) → status ≡ status_of (cond is_kept kept out_of_place) → number ≡ fault_number (cond is_kept kept out_of_place)
+            → (f : code.Fate) → meant f ≡ cond is_kept kept out_of_place
             → NextMark set file end p ms
             (record {
               start = seen.start;
               size = seen.size;
               kind = 10;
-              status = status;
-              number = number;
-              next = record { at = seen.next; group = seen.next; stop = stop; heading = p.at; sound = sound; kept = is_kept; status = 2; number = 6 };
+              fate = f;
+              next = record { at = seen.next; group = seen.next; stop = stop; heading = p.at; sound = sound; kept = is_kept; fate = Dropped Place };
             })
         unfolding letter-run
-        next-letter is_kept unsound annex status number s n =
+        next-letter is_kept unsound annex f told-fate =
             let gs = groups_of set (leading (under set) top.others) in
             let as_seen = told top.first top.stands in
             let alone : sound ≡ sound_alone set 10 top.first = judged ∙ ap (sound_alone set 10) body_top in
@@ -468,8 +433,7 @@ module _ (set : CharacterSet) (file : List ℕ) (end : ℕ) (p : Plan) (seen : S
                 own_spans = refl;
                 under_spans = parted.before;
                 rest_spans = parted.behind;
-                status = refl;
-                number = refl;
+                told = refl;
                 sound = alone;
                 stands = λ _. top.stands;
                 limit = top.limit;
@@ -479,8 +443,7 @@ module _ (set : CharacterSet) (file : List ℕ) (end : ℕ) (p : Plan) (seen : S
               start = as_seen.start;
               size = as_seen.size;
               kind = sym ten ∙ as_seen.kind;
-              status = s;
-              number = n;
+              told = told-fate;
               at = as_seen.next;
             }
           where

@@ -2,15 +2,33 @@
 use Rattle.std.specs.Prelude.{ℕ, ◌+◌, ◌≤◌, Bool, true, false, ◌&&◌, cond, List, [], ◌∷◌, ◌++◌, map, ◌≡◌, eqb, length}
 use Rattle.text.specs.declared.character_set.CharacterSet.{CharacterSet}
 use Rattle.judge.specs.Alone.{type_of}
+use Rattle.passes.specs.Answers.{number_of}
 use Rattle.file_as_records.specs.Framed.{Body}
 use Rattle.salvage_model.specs.Runs.{Group, run, loose, groups_of, sound_alone, run_fault}
-use Rattle.salvage_model.specs.Kept.{Fate, renewed, Marked, marked, out_of_place, run_fate, sections_of, sections_marks}
-use Rattle.salvage_model.specs.Salvaged.{status_of, fault_number}
+use Rattle.salvage_model.specs.Kept.{Fate, kept, renewed, dropped, Marked, marked, out_of_place, run_fate, sections_of, sections_marks}
 use Rattle.salvage_walk.specs.Spans.{Stands, Spans}
 use Rattle.salvage_runs.specs.declared.Grouped.{Grouped}
-use Rattle.salvage_runs.specs.RunAt.{RunAt}
+use Rattle.salvage_runs.specs.RunAt.{is_run, RunAt}
+use Rattle.salvage_marks.specs.declared.Fate as code
+use Rattle.salvage_marks.specs.declared.Fate.TheVariants.{Kept, MadeNew, Dropped}
 use Rattle.salvage_marks.specs.declared.Plan.{Plan}
 use Rattle.salvage_marks.specs.declared.Marking.{Marking}
+
+-- a fate as the model says it
+abbrev pub meant : code.Fate → Fate
+meant Kept = kept
+meant MadeNew = renewed
+meant (Dropped fault) = dropped (number_of fault)
+
+abbrev pub is_kept : code.Fate → Bool
+is_kept Kept = true
+is_kept MadeNew = false
+is_kept (Dropped fault) = false
+
+abbrev pub is_dropped : code.Fate → Bool
+is_dropped Kept = false
+is_dropped MadeNew = false
+is_dropped (Dropped fault) = true
 
 -- groups under a header that is kept or not
 abbrev pub group_fate : CharacterSet → Body → Bool → Group → Fate
@@ -43,8 +61,7 @@ pub record Left (set : CharacterSet) (file : List ℕ) (end : ℕ) (p : Plan) (m
   pub own_spans : Spans file p.at own p.group
   pub under_spans : Spans file p.group under p.stop
   pub rest_spans : Spans file p.stop rest end
-  pub status : p.status ≡ status_of fate
-  pub number : p.number ≡ fault_number fate
+  pub told : meant p.fate ≡ fate
   pub sound : p.sound ≡ sound_alone set 10 header
   pub stands : p.sound ≡ true → Stands file p.heading header
   pub limit : end ≤ 268_435_456
@@ -65,11 +82,10 @@ pub record NextMark (set : CharacterSet) (file : List ℕ) (end : ℕ) (p : Plan
   pub start : r.start ≡ p.at + 4
   pub size : r.size ≡ length body
   pub kind : r.kind ≡ type_of set body
-  pub status : r.status ≡ status_of fate
-  pub number : r.number ≡ fault_number fate
+  pub told : meant r.fate ≡ fate
   pub at : r.next.at ≡ p.at + 4 + length body
 
--- the number found for a group that begins where a plan stands
-pub record GroupNumber (set : CharacterSet) (file : List ℕ) (p : Plan) (g : Grouped) (r : ℕ) : Type 0 where
-  pub loosely : g.run && p.sound ≡ false → r ≡ 6
-  pub runs : g.run && p.sound ≡ true → (w : RunAt set file p.heading p.at g.end) → r ≡ fault_number (run_fate p.kept (run_fault set w.header w.bodies))
+-- the fate found for a group that begins where a plan stands
+pub record GroupFate (set : CharacterSet) (file : List ℕ) (p : Plan) (g : Grouped) (r : code.Fate) : Type 0 where
+  pub loosely : is_run g.group && p.sound ≡ false → meant r ≡ out_of_place
+  pub runs : is_run g.group && p.sound ≡ true → (w : RunAt set file p.heading p.at g.end) → meant r ≡ run_fate p.kept (run_fault set w.header w.bodies)

@@ -2,21 +2,31 @@
 #![tactic(auto)]
 
 ghost use Rattle.std.specs.Prelude.{true, false, ◌||◌, cond, List, ◌∷◌, ◌≡◌, ℕ, ◌≤◌, ◌<◌, eqb, length};
-ghost use Rattle.layout.specs.Packing.{Packed};
 ghost use Rattle.file_as_records.specs.Framed.{Body};
 ghost use Rattle.arrangement.specs.Sound.{indicator, N};
 ghost use Rattle.salvage_model.specs.Runs.{groups_of};
-ghost use Rattle.salvage_model.specs.Kept.{Marked, any_bundle, sections_of, sections_marks, marks_of};
+ghost use Rattle.salvage_model.specs.Kept.{Marked, kept, out_of_place, any_bundle, sections_of, sections_marks, marks_of};
+ghost use Rattle.salvage_model.specs.Salvaged.{status_of, fault_number};
 ghost use Rattle.salvage_walk.specs.Spans.{Stands, Spans, SeenAs};
 ghost use Rattle.salvage_runs.specs.RunAt.{RunAt};
-ghost use Rattle.salvage_marks.specs.Left.{Left, Planned, NextMark, GroupNumber};
+ghost use Rattle.salvage_marks.specs.Left.{meant, is_kept, is_dropped, Left, Planned, NextMark, GroupFate};
 
+use layout::Layouts;
+use passes::Fault;
 use salvage_runs::Grouped;
-use salvage_walk::{Seen, Sort};
+use salvage_walk::Seen;
 use text::CharacterSet;
 
+// What becomes of a record: it is kept, made new, or dropped with a fault.
+#[derive(Clone, Copy)]
+pub enum Fate {
+    Kept,
+    MadeNew,
+    Dropped(Fault),
+}
+
 // Where the marking stands: the next record; where the group ends in which it lies; where the records under its cash letter header end, at which
-// offset that header stands, whether it is sound alone, and whether it is kept; status and number of the group.
+// offset that header stands, whether it is sound alone, and whether it is kept; what becomes of the group.
 #[derive(Clone, Copy)]
 pub struct Plan {
     pub at: usize,
@@ -25,19 +35,63 @@ pub struct Plan {
     pub heading: usize,
     pub sound: bool,
     pub kept: bool,
-    pub status: u64,
-    pub number: u64,
+    pub fate: Fate,
 }
 
-// A record marked: where its body starts, how long it is, its type, its status, its number where it is dropped; and where the marking stands then.
+// A record marked: where its body starts, how long it is, its type, and what becomes of it; and where the marking stands then.
 #[derive(Clone, Copy)]
 pub struct Marking {
     pub start: usize,
     pub size: usize,
     pub kind: u64,
-    pub status: u64,
-    pub number: u64,
+    pub fate: Fate,
     pub next: Plan,
+}
+
+impl Fate {
+    // The third number of a row of the list (reading 66).
+    pub fn status(self) -> u64
+        ensures { result ≡ status_of (meant self) }
+    {
+        match self {
+            Fate::Kept => 0,
+            Fate::MadeNew => 1,
+            Fate::Dropped(_) => 2,
+        }
+    }
+
+    // The fourth.
+    pub fn number(self) -> u64
+        ensures { result ≡ fault_number (meant self) }
+    {
+        match self {
+            Fate::Kept | Fate::MadeNew => 0,
+            Fate::Dropped(fault) => fault.number(),
+        }
+    }
+
+    pub fn is_kept(self) -> bool
+        ensures { result ≡ is_kept self }
+    {
+        matches!(self, Fate::Kept)
+    }
+
+    pub fn is_dropped(self) -> bool
+        ensures { result ≡ is_dropped self }
+    {
+        matches!(self, Fate::Dropped(_))
+    }
+
+    // Kept, or dropped as out of place.
+    fn kept_if(test: bool) -> Self
+        ensures { meant result ≡ cond test kept out_of_place }
+    {
+        if test {
+            Fate::Kept
+        } else {
+            Fate::Dropped(Fault::Place)
+        }
+    }
 }
 
 // Under no header.
@@ -51,8 +105,7 @@ pub fn plan_at(at: usize) -> Plan
         heading: 0,
         sound: false,
         kept: false,
-        status: 2,
-        number: 6,
+        fate: Fate::Dropped(Fault::Place),
     }
 }
 
@@ -68,15 +121,14 @@ pub fn plan_of_file(set: CharacterSet, file: &[u8], end: usize) -> Plan
         heading: 0,
         sound: false,
         kept: false,
-        status: 0,
-        number: 0,
+        fate: Fate::Kept,
     }
 }
 
 // A header that is sound alone, of a letter of N or, as Annex B has it, with a sound bundle.
 fn is_letter_kept<'a>(
     set: CharacterSet,
-    layouts: &'a [u64],
+    layouts: &'a Layouts,
     file: &'a [u8],
     heading: usize,
     from: usize,
@@ -84,7 +136,7 @@ fn is_letter_kept<'a>(
     body: &'a [u8],
     sound: bool,
 ) -> bool
-    requires { Packed layouts.now × (sound ≡ true → RunAt set file.now heading from stop) }
+    requires { sound ≡ true → RunAt set file.now heading from stop }
     ensures { (sound ≡ false → result ≡ false) × (sound ≡ true → (w : RunAt set file.now heading from stop) → body.now ≡ w.header → result ≡ (eqb (indicator set w.header) N || any_bundle set w.header (groups_of set w.bodies))) }
 {
     if !sound {
@@ -99,13 +151,13 @@ fn is_letter_kept<'a>(
 // A cash letter header.
 fn letter_begun<'a>(
     set: CharacterSet,
-    layouts: &'a [u64],
+    layouts: &'a Layouts,
     file: &'a [u8],
     end: usize,
     seen: Seen,
     plan: Plan,
 ) -> Marking
-    requires { Packed layouts.now × (plan.group ≤ plan.at) × (plan.stop ≤ plan.at) × (plan.at < end) × (seen.kind ≡ 10) × Planned set file.now end plan × ((b : Body) → Stands file.now plan.at b → SeenAs set plan.at b seen) }
+    requires { (plan.group ≤ plan.at) × (plan.stop ≤ plan.at) × (plan.at < end) × (seen.kind ≡ 10) × Planned set file.now end plan × ((b : Body) → Stands file.now plan.at b → SeenAs set plan.at b seen) }
     ensures { (ms : List Marked) → Left set file.now end plan ms → NextMark set file.now end plan ms result }
 {
     let at = plan.at;
@@ -113,7 +165,7 @@ fn letter_begun<'a>(
     let size = seen.size;
     let from = seen.next;
     let body = frame::part_of(file, start, size);
-    let stop = salvage_walk::end_of(set, file, from, end, Sort::UnderHeader);
+    let stop = salvage_walk::end_of(set, file, from, end, |kind| !matches!(kind, 10 | 90 | 99));
     let sound = salvage_runs::is_sound_alone(set, layouts, 10, body);
     let kept = is_letter_kept(set, layouts, file, at, from, stop, body, sound);
     let next = Plan {
@@ -123,25 +175,13 @@ fn letter_begun<'a>(
         heading: at,
         sound,
         kept,
-        status: 2,
-        number: 6,
+        fate: Fate::Dropped(Fault::Place),
     };
-    if kept {
-        return Marking {
-            start,
-            size,
-            kind: 10,
-            status: 0,
-            number: 0,
-            next,
-        };
-    }
     Marking {
         start,
         size,
         kind: 10,
-        status: 2,
-        number: 6,
+        fate: Fate::kept_if(kept),
         next,
     }
 }
@@ -149,13 +189,13 @@ fn letter_begun<'a>(
 // A record that lies under no header.
 fn outside_letters<'a>(
     set: CharacterSet,
-    layouts: &'a [u64],
+    layouts: &'a Layouts,
     file: &'a [u8],
     end: usize,
     seen: Seen,
     plan: Plan,
 ) -> Marking
-    requires { Packed layouts.now × (plan.group ≤ plan.at) × (plan.stop ≤ plan.at) × (plan.at < end) × Planned set file.now end plan × ((b : Body) → Stands file.now plan.at b → SeenAs set plan.at b seen) }
+    requires { (plan.group ≤ plan.at) × (plan.stop ≤ plan.at) × (plan.at < end) × Planned set file.now end plan × ((b : Body) → Stands file.now plan.at b → SeenAs set plan.at b seen) }
     ensures { (ms : List Marked) → Left set file.now end plan ms → NextMark set file.now end plan ms result }
 {
     let kind = seen.kind;
@@ -163,113 +203,92 @@ fn outside_letters<'a>(
         return letter_begun(set, layouts, file, end, seen, plan);
     }
     let next = plan_at(seen.next);
-    if (kind == 99) | (plan.kept & (kind == 90)) {
-        return Marking {
-            start: seen.start,
-            size: seen.size,
-            kind,
-            status: 1,
-            number: 0,
-            next,
-        };
-    }
+    let fate = if (kind == 99) | (plan.kept & (kind == 90)) {
+        Fate::MadeNew
+    } else {
+        Fate::Dropped(Fault::Place)
+    };
     Marking {
         start: seen.start,
         size: seen.size,
         kind,
-        status: 2,
-        number: 6,
+        fate,
         next,
     }
 }
 
-// The number with which the records of a group are dropped, 0 where they are kept.
-fn group_number<'a>(
+// What becomes of the records of a group.
+fn group_fate<'a>(
     set: CharacterSet,
-    layouts: &'a [u64],
+    layouts: &'a Layouts,
     file: &'a [u8],
     plan: Plan,
     group: Grouped,
-) -> u64
-    requires { Packed layouts.now × (plan.sound ≡ true → RunAt set file.now plan.heading plan.at group.end) }
-    ensures { GroupNumber set file.now plan group result }
+) -> Fate
+    requires { plan.sound ≡ true → RunAt set file.now plan.heading plan.at group.end }
+    ensures { GroupFate set file.now plan group result }
 {
-    if !(group.run & plan.sound) {
-        return 6;
+    if !(group.group.is_run() & plan.sound) {
+        return Fate::Dropped(Fault::Place);
     }
-    let heading = plan.heading;
-    let at = plan.at;
-    let number = salvage_runs::run_fault(set, layouts, file, heading, at, group.end);
-    if number != 0 {
-        return number;
+    match salvage_runs::run_fault(set, layouts, file, plan.heading, plan.at, group.end) {
+        Err(fault) => Fate::Dropped(fault),
+        Ok(()) => Fate::kept_if(plan.kept),
     }
-    if plan.kept { 0 } else { 6 }
 }
 
 // The first record of a group under a header.
 fn group_begun<'a>(
     set: CharacterSet,
-    layouts: &'a [u64],
+    layouts: &'a Layouts,
     file: &'a [u8],
     seen: Seen,
     plan: Plan,
     end: usize,
 ) -> Marking
-    requires { Packed layouts.now × (plan.group ≤ plan.at) × (plan.at < plan.stop) × Planned set file.now end plan × ((b : Body) → Stands file.now plan.at b → SeenAs set plan.at b seen) }
+    requires { (plan.group ≤ plan.at) × (plan.at < plan.stop) × Planned set file.now end plan × ((b : Body) → Stands file.now plan.at b → SeenAs set plan.at b seen) }
     ensures { (ms : List Marked) → Left set file.now end plan ms → NextMark set file.now end plan ms result }
 {
     let group = salvage_runs::group_at(set, file, plan.at, plan.stop);
-    let number = group_number(set, layouts, file, plan, group);
-    let status = dropped_if(number != 0);
+    let fate = group_fate(set, layouts, file, plan, group);
     let next = Plan {
         at: seen.next,
         group: group.end,
-        stop: plan.stop,
-        heading: plan.heading,
-        sound: plan.sound,
-        kept: plan.kept,
-        status,
-        number,
+        fate,
+        ..plan
     };
     Marking {
         start: seen.start,
         size: seen.size,
         kind: seen.kind,
-        status,
-        number,
+        fate,
         next,
     }
-}
-
-fn dropped_if(test: bool) -> u64
-    ensures { result ≡ cond test 2 0 }
-{
-    if test { 2 } else { 0 }
 }
 
 // The next record marked.
 pub fn mark_next<'a>(
     set: CharacterSet,
-    layouts: &'a [u64],
+    layouts: &'a Layouts,
     file: &'a [u8],
     end: usize,
     plan: Plan,
 ) -> Marking
-    requires { Packed layouts.now × (plan.at < end) × Planned set file.now end plan }
+    requires { (plan.at < end) × Planned set file.now end plan }
     ensures { (ms : List Marked) → Left set file.now end plan ms → NextMark set file.now end plan ms result }
 {
     let at = plan.at;
     let seen = salvage_walk::seen_at(set, file, at, end);
     if at < plan.group {
-        let mut next = plan;
-        next.at = seen.next;
         return Marking {
             start: seen.start,
             size: seen.size,
             kind: seen.kind,
-            status: plan.status,
-            number: plan.number,
-            next,
+            fate: plan.fate,
+            next: Plan {
+                at: seen.next,
+                ..plan
+            },
         };
     }
     if at < plan.stop {

@@ -19,6 +19,7 @@ use Rattle.salvage_model.specs.Kept.{Marked, control_values}
 use Rattle.salvage_walk.specs.Spans.{Spans}
 use Rattle.salvage_walk.proofs.Sorts.{spans-within}
 use Rattle.salvage_marks.specs.declared.Marking.{Marking}
+use Rattle.salvage_marks.specs.Left.{is_kept}
 use Rattle.salvage_marks.proofs.Marks.{never_both}
 use Rattle.salvage_made.specs.ByMarks.{by_marks, bodies_in, addenda_among}
 use Rattle.salvage_made.proofs.Addenda.{behind-none}
@@ -54,11 +55,11 @@ pub underway : (set : CharacterSet) (file : List ℕ) (end : ℕ) (c : Cue) → 
 underway set file end c q =
     record { marks = q.cued.marks; going = record { left = q.cued.left; spans = q.cued.spans; alike = q.cued.alike } }
 
-module _ (set : CharacterSet) (status kind : ℕ) (b : Body) (others : Bool → List Values) where
+module _ (set : CharacterSet) (keeps : Bool) (kind : ℕ) (b : Body) (others : Bool → List Values) where
   -- what is made where an open letter is closed first
-  closing-first : closes_first status kind ≡ true
-      → by_status set true status kind b others ≡ control_values set cash_letter_control none ∷ by_status set false status kind b others
-  closing-first = by (eqb status 0) (eqb kind 10) (eqb kind 99)
+  closing-first : closes_first keeps kind ≡ true
+      → by_status set true keeps kind b others ≡ control_values set cash_letter_control none ∷ by_status set false keeps kind b others
+  closing-first = by keeps (eqb kind 10) (eqb kind 99)
     where
       by : (s t e : Bool) → cond s t e ≡ true
           → cond s (cond t (control_values set cash_letter_control none ∷ (values_of_body set b ∷ others true)) (values_of_body set b ∷ others true))
@@ -72,8 +73,8 @@ module _ (set : CharacterSet) (status kind : ℕ) (b : Body) (others : Bool → 
       by false t false h = cc
 
   -- and where it is not
-  kept_next : (is_open : Bool) → status ≡ 0 → is_open && closes_first status kind ≡ false
-      → by_status set is_open status kind b others ≡ values_of_body set b ∷ others (is_open || eqb kind 10)
+  kept_next : (is_open : Bool) → keeps ≡ true → is_open && closes_first keeps kind ≡ false
+      → by_status set is_open keeps kind b others ≡ values_of_body set b ∷ others (is_open || eqb kind 10)
   kept_next is_open e = rw e (by is_open (eqb kind 10))
     where
       by : (o t : Bool) → o && t ≡ false
@@ -84,17 +85,17 @@ module _ (set : CharacterSet) (status kind : ℕ) (b : Body) (others : Bool → 
       by false true h = refl
       by false false h = refl
 
-  ending-closes : (status ≡ 0 → ⊥) → kind ≡ 99 → closes_first status kind ≡ true
-  ending-closes n e = rw (ne_eqb status 0 n, e)
+  ending-closes : keeps ≡ false → kind ≡ 99 → closes_first keeps kind ≡ true
+  ending-closes n e = rw (n, e)
 
-  file-ends : (is_open : Bool) → (status ≡ 0 → ⊥) → kind ≡ 99 → is_open && closes_first status kind ≡ false
-      → by_status set is_open status kind b others ≡ control_values set file_control (some b) ∷ []
-  file-ends true n e h = absurd (never_both (closes_first status kind) h (ending-closes n e))
-  file-ends false n e h = rw (ne_eqb status 0 n, e)
+  file-ends : (is_open : Bool) → keeps ≡ false → kind ≡ 99 → is_open && closes_first keeps kind ≡ false
+      → by_status set is_open keeps kind b others ≡ control_values set file_control (some b) ∷ []
+  file-ends true n e h = absurd (never_both (closes_first keeps kind) h (ending-closes n e))
+  file-ends false n e h = rw (n, e)
 
-  letter-ends : (is_open : Bool) → (status ≡ 0 → ⊥) → (kind ≡ 99 → ⊥)
-      → by_status set is_open status kind b others ≡ control_values set cash_letter_control (some b) ∷ others false
-  letter-ends is_open n e = rw (ne_eqb status 0 n, ne_eqb kind 99 e)
+  letter-ends : (is_open : Bool) → keeps ≡ false → (kind ≡ 99 → ⊥)
+      → by_status set is_open keeps kind b others ≡ control_values set cash_letter_control (some b) ∷ others false
+  letter-ends is_open n e = rw (n, ne_eqb kind 99 e)
 
 at_most_one : (b : Bool) → cond b 1 0 ≤ 1
 at_most_one true = omega arith
@@ -102,7 +103,7 @@ at_most_one false = omega arith
 
 module _ (set : CharacterSet) (file : List ℕ) (end : ℕ) (c : Cue) (d : c.done ≡ false) (m : Marking)
     (left : (ms : List Marked) → Going set file end c.plan ms → NextLeft set file end c.plan ms m) (closes : Bool)
-    (told : closes ≡ closes_first m.status m.kind) (vs : List Values) (q : Cued set file end c vs) where
+    (told : closes ≡ closes_first (is_kept m.fate) m.kind) (vs : List Values) (q : Cued set file end c vs) where
   abbrev found : NextLeft set file end c.plan q.marks m
   found = left q.marks (record { left = q.left; spans = q.spans; alike = q.alike })
 
@@ -110,7 +111,7 @@ module _ (set : CharacterSet) (file : List ℕ) (end : ℕ) (c : Cue) (d : c.don
   others o = by_marks set o found.others
 
   -- what is made, by what is marked next
-  made : vs ≡ by_status set c.«open» m.status m.kind found.body others
+  made : vs ≡ by_status set c.«open» (is_kept m.fate) m.kind found.body others
   made = q.values ∙ ap (λ (b : Bool). cond b [] (by_marks set c.«open» q.marks)) d ∙ found.values c.«open»
 
   -- what is left behind it
@@ -132,8 +133,8 @@ module _ (set : CharacterSet) (file : List ℕ) (end : ℕ) (c : Cue) (d : c.don
         others = by_marks set false q.marks;
         is =
             made
-            ∙ ap (λ (o : Bool). by_status set o m.status m.kind found.body others) t.0
-            ∙ closing-first set m.status m.kind found.body others (sym told ∙ t.1)
+            ∙ ap (λ (o : Bool). by_status set o (is_kept m.fate) m.kind found.body others) t.0
+            ∙ closing-first set (is_kept m.fate) m.kind found.body others (sym told ∙ t.1)
             ∙ ap₂ (λ (v : Values) (ws : List Values). v ∷ ws) (blank-letter-control set) (sym (found.values false));
         stands = refl;
         kept = λ never. absurd (false≢true never);
@@ -144,10 +145,10 @@ module _ (set : CharacterSet) (file : List ℕ) (end : ℕ) (c : Cue) (d : c.don
       })
 
   module _ (h : c.«open» && closes ≡ false) where
-    not-closed : c.«open» && closes_first m.status m.kind ≡ false
+    not-closed : c.«open» && closes_first (is_kept m.fate) m.kind ≡ false
     not-closed = ap (λ (t : Bool). c.«open» && t) (sym told) ∙ h
 
-    pub entry_kept : m.status ≡ 0 → (r : Entry)
+    pub entry_kept : is_kept m.fate ≡ true → (r : Entry)
         → ((bs : List Body) → Spans file m.next.at bs end → r ≡ kept_entry c.«open» m (addenda_among set m.kind bs))
         → NextEntry set file end c vs r
     entry_kept e r made_of =
@@ -157,16 +158,16 @@ module _ (set : CharacterSet) (file : List ℕ) (end : ℕ) (c : Cue) (d : c.don
           body = found.body;
           value = values_of_body set found.body;
           others = others o;
-          is = made ∙ kept_next set m.status m.kind found.body others c.«open» e not-closed;
+          is = made ∙ kept_next set (is_kept m.fate) m.kind found.body others c.«open» e not-closed;
           stands = found.stands;
           kept = λ _. refl;
           control = λ never. absurd (false≢true (sym never));
           addenda = sym (found.addenda e o) ∙ ap (λ (t : ℕ). addenda_behind t (others o)) (found.kind e ∙ sym (kept-type set found.body));
           next = behind o;
-          fewer = fewer-left o (found.moved (λ one _. omega (arith, e, one)));
+          fewer = fewer-left o (found.moved (λ no _. never_both (is_kept m.fate) no e));
         })
 
-    module _ (n : m.status ≡ 0 → ⊥) (k : ℕ) (r : Entry) (e : r ≡ new_control k m.start m.size m.next) where
+    module _ (n : is_kept m.fate ≡ false) (k : ℕ) (r : Entry) (e : r ≡ new_control k m.start m.size m.next) where
       pub entry-control : (m.kind ≡ 99 → ⊥) → k ≡ 90 → NextEntry set file end c vs r
       entry-control never is-90 =
           subst (NextEntry set file end c vs) (sym (e ∙ ap (λ (t : ℕ). new_control t m.start m.size m.next) is-90))
@@ -174,7 +175,7 @@ module _ (set : CharacterSet) (file : List ℕ) (end : ℕ) (c : Cue) (d : c.don
             body = found.body;
             value = control_values set cash_letter_control (some found.body);
             others = others false;
-            is = made ∙ letter-ends set m.status m.kind found.body others c.«open» n never;
+            is = made ∙ letter-ends set (is_kept m.fate) m.kind found.body others c.«open» n never;
             stands = found.stands;
             kept = λ kept. absurd (false≢true kept);
             control = λ _. (refl, ap (λ (l : Layout). control_values set l (some found.body)) (sym letter-layout));
@@ -190,7 +191,7 @@ module _ (set : CharacterSet) (file : List ℕ) (end : ℕ) (c : Cue) (d : c.don
             body = found.body;
             value = control_values set file_control (some found.body);
             others = [];
-            is = made ∙ file-ends set m.status m.kind found.body others c.«open» n last not-closed;
+            is = made ∙ file-ends set (is_kept m.fate) m.kind found.body others c.«open» n last not-closed;
             stands = found.stands;
             kept = λ kept. absurd (false≢true kept);
             control = λ _. (refl, ap (λ (l : Layout). control_values set l (some found.body)) (sym file-layout));

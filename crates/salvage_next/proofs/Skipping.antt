@@ -1,7 +1,7 @@
 -- Records that are dropped are passed over. Assumes nothing.
 use Prim.Native.Nat.{ℕ, ◌≤◌, ◌<◌}
 use native.Mathlib.Omega.{arith}
-use mathlib.Core.Bool.{Bool}
+use mathlib.Core.Bool.{Bool, true, false, false≢true}
 use mathlib.Core.List.{List, [], ◌∷◌}
 use mathlib.Core.Option.{none, some}
 use mathlib.Core.Path.{◌≡◌, refl, sym, ap, ◌∙◌, subst}
@@ -10,12 +10,13 @@ use Rattle.layout.specs.Layouts.{cash_letter_control, file_control}
 use Rattle.judge.specs.Alone.{type_of}
 use Rattle.file_as_records.specs.Framed.{Body}
 use Rattle.draft.specs.Values.{Values}
-use Rattle.salvage_model.specs.Kept.{Fate, kept, renewed, dropped, Marked, marked, control_values}
-use Rattle.salvage_model.specs.Salvaged.{status_of}
+use Rattle.salvage_model.specs.Kept.{Fate, kept, Marked, marked, control_values}
 use Rattle.salvage_walk.specs.Spans.{Spans}
+use Rattle.salvage_marks.specs.declared.Fate as code
+use Rattle.salvage_marks.specs.declared.Fate.TheVariants.{Kept, MadeNew, Dropped}
 use Rattle.salvage_marks.specs.declared.Plan.{Plan}
 use Rattle.salvage_marks.specs.declared.Marking.{Marking}
-use Rattle.salvage_marks.specs.Left.{Left, Planned, NextMark}
+use Rattle.salvage_marks.specs.Left.{meant, is_kept, is_dropped, Left, Planned, NextMark}
 use Rattle.salvage_marks.proofs.Marks.{left-none}
 use Rattle.salvage_made.specs.ByMarks.{closing, by_marks, bodies_in, CountedAlike}
 use Rattle.salvage_next.specs.Cued.{Going, Underway, by_status, NextLeft}
@@ -29,25 +30,26 @@ pub blank-file-control : (set : CharacterSet) → control_values set file_contro
 unfolding control_values
 blank-file-control set = refl
 
--- fates by their status
-kept_by : (f : Fate) → status_of f ≡ 0 → f ≡ kept
-kept_by kept e = refl
-kept_by renewed e = absurd (omega (arith, e))
-kept_by (dropped n) e = absurd (omega (arith, e))
+-- what is kept
+kept_by : (f : code.Fate) → is_kept f ≡ true → meant f ≡ kept
+kept_by Kept e = refl
+kept_by MadeNew e = absurd (false≢true e)
+kept_by (Dropped fault) e = absurd (false≢true e)
 
 module _ (set : CharacterSet) where
-  past-dropped : (f : Fate) (b : Body) (ms : List Marked) → status_of f ≡ 2 → (is_open : Bool) → by_marks set is_open (marked f b ∷ ms) ≡ by_marks set is_open ms
+  past-dropped : (f : code.Fate) (b : Body) (ms : List Marked) → is_dropped f ≡ true → (is_open : Bool)
+      → by_marks set is_open (marked (meant f) b ∷ ms) ≡ by_marks set is_open ms
   unfolding by_marks
-  past-dropped kept b ms e is_open = absurd (omega (arith, e))
-  past-dropped renewed b ms e is_open = absurd (omega (arith, e))
-  past-dropped (dropped n) b ms e is_open = refl
+  past-dropped Kept b ms e is_open = absurd (false≢true e)
+  past-dropped MadeNew b ms e is_open = absurd (false≢true e)
+  past-dropped (Dropped fault) b ms e is_open = refl
 
-  by-status : (f : Fate) (b : Body) (ms : List Marked) (status kind : ℕ) → status ≡ status_of f → kind ≡ type_of set b → (status ≡ 2 → ⊥) → (is_open : Bool)
-      → by_marks set is_open (marked f b ∷ ms) ≡ by_status set is_open status kind b (λ o. by_marks set o ms)
+  by-status : (f : code.Fate) (b : Body) (ms : List Marked) (kind : ℕ) → kind ≡ type_of set b → is_dropped f ≡ false → (is_open : Bool)
+      → by_marks set is_open (marked (meant f) b ∷ ms) ≡ by_status set is_open (is_kept f) kind b (λ o. by_marks set o ms)
   unfolding by_marks
-  by-status kept b ms status kind e q h is_open = rw (e, q)
-  by-status renewed b ms status kind e q h is_open = rw (e, q)
-  by-status (dropped n) b ms status kind e q h is_open = absurd (h e)
+  by-status Kept b ms kind q h is_open = rw q
+  by-status MadeNew b ms kind q h is_open = rw q
+  by-status (Dropped fault) b ms kind q h is_open = absurd (false≢true (sym h))
 
   by-none : (is_open : Bool) → by_marks set is_open [] ≡ closing set is_open (control_values set file_control (some []) ∷ [])
   unfolding by_marks
@@ -72,7 +74,7 @@ module _ (set : CharacterSet) (file : List ℕ) (end : ℕ) (from : Plan) where
     skips-planned u = let k = v u.marks u.going in record { marks = k.rest; left = k.going.left }
 
     pub skips-end : end ≤ p.at → (ms : List Marked) → Going set file end from ms
-        → NextLeft set file end from ms (record { start = 0; size = 0; kind = 99; status = 1; number = 0; next = p })
+        → NextLeft set file end from ms (record { start = 0; size = 0; kind = 99; fate = MadeNew; next = p })
     skips-end h ms g =
         let k = v ms g in
         record {
@@ -81,8 +83,8 @@ module _ (set : CharacterSet) (file : List ℕ) (end : ℕ) (from : Plan) where
           values = λ o. k.same o ∙ ap (by_marks set o) (left-none set file end p k.rest k.going.left h) ∙ by-none set o;
           stands = refl;
           going = k.going;
-          kind = λ e. absurd (omega (arith, e));
-          addenda = λ e. absurd (omega (arith, e));
+          kind = λ e. absurd (false≢true e);
+          addenda = λ e. absurd (false≢true e);
           on = k.on;
           moved = λ never. absurd (never refl refl);
         }
@@ -98,23 +100,29 @@ module _ (set : CharacterSet) (file : List ℕ) (end : ℕ) (from : Plan) where
             alike = (subst (CountedAlike set) n.is g.alike).1;
           }
 
+      -- the next mark as the code says it
+      said : (ms : List Marked) (g : Going set file end p ms) → ms ≡ marked (meant r.fate) (next ms g.left).body ∷ (next ms g.left).others
+      said ms g =
+          let n = next ms g.left in
+          n.is ∙ ap (λ (f : Fate). marked f n.body ∷ n.others) (sym n.told)
+
       pub skips-less : Underway set file end from → p.at < r.next.at
       skips-less u =
           let k = v u.marks u.going in
           omega (arith, (next k.rest k.going.left).at)
 
-      pub skips-on : r.status ≡ 2 → Skips r.next
+      pub skips-on : is_dropped r.fate ≡ true → Skips r.next
       skips-on e ms g =
           let k = v ms g in
           let n = next k.rest k.going.left in
           record {
             rest = n.others;
             going = behind k.rest k.going;
-            same = λ o. k.same o ∙ ap (by_marks set o) n.is ∙ past-dropped set n.fate n.body n.others (sym n.status ∙ e) o;
+            same = λ o. k.same o ∙ ap (by_marks set o) (said k.rest k.going) ∙ past-dropped set r.fate n.body n.others e o;
             on = omega (arith, k.on, n.at);
           }
 
-      pub skips-stop : (r.status ≡ 2 → ⊥) → (ms : List Marked) → Going set file end from ms → NextLeft set file end from ms r
+      pub skips-stop : is_dropped r.fate ≡ false → (ms : List Marked) → Going set file end from ms → NextLeft set file end from ms r
       skips-stop h ms g =
           let k = v ms g in
           let n = next k.rest k.going.left in
@@ -123,11 +131,11 @@ module _ (set : CharacterSet) (file : List ℕ) (end : ℕ) (from : Plan) where
             body = n.body;
             others = n.others;
             values = λ o.
-                k.same o ∙ ap (by_marks set o) n.is ∙ by-status set n.fate n.body n.others r.status r.kind n.status n.kind h o;
+                k.same o ∙ ap (by_marks set o) (said k.rest k.going) ∙ by-status set r.fate n.body n.others r.kind n.kind h o;
             stands = rw (n.start, n.size) n.stands.body;
             going = behind k.rest k.going;
             kind = λ _. n.kind;
-            addenda = λ e o. rw n.kind (alike.0 (kept_by n.fate (sym n.status ∙ e)) o);
+            addenda = λ e o. rw n.kind (alike.0 (sym n.told ∙ kept_by r.fate e) o);
             on = omega (arith, k.on, n.at);
             moved = λ _. omega (arith, k.on, n.at);
           }

@@ -12,7 +12,7 @@ use Rattle.salvage_model.specs.Kept.{Marked, control_values}
 use Rattle.salvage_walk.specs.Spans.{Spans}
 use Rattle.salvage_marks.specs.declared.Plan.{Plan}
 use Rattle.salvage_marks.specs.declared.Marking.{Marking}
-use Rattle.salvage_marks.specs.Left.{Left}
+use Rattle.salvage_marks.specs.Left.{is_kept, Left}
 use Rattle.salvage_made.specs.ByMarks.{closing, by_marks, bodies_in, addenda_among, CountedAlike, is_control}
 use Rattle.salvage_next.specs.declared.Cue.{Cue}
 use Rattle.salvage_next.specs.declared.Entry.{Entry}
@@ -27,10 +27,10 @@ pub record Underway (set : CharacterSet) (file : List ℕ) (end : ℕ) (p : Plan
   pub marks : List Marked
   pub going : Going set file end p marks
 
--- what is made of a record that is not dropped, by its status and its type, and behind it
-abbrev pub by_status : CharacterSet → Bool → ℕ → ℕ → Body → (Bool → List Values) → List Values
-by_status set is_open status kind b others =
-    cond (eqb status 0)
+-- what is made of a record that is not dropped, by whether it is kept and its type, and behind it
+abbrev pub by_status : CharacterSet → Bool → Bool → ℕ → Body → (Bool → List Values) → List Values
+by_status set is_open keeps kind b others =
+    cond keeps
     (cond (eqb kind 10) (closing set is_open (values_of_body set b ∷ others true)) (values_of_body set b ∷ others is_open))
     (cond (eqb kind 99) (closing set is_open (control_values set file_control (some b) ∷ [])) (control_values set cash_letter_control (some b) ∷ others false))
 
@@ -38,16 +38,16 @@ by_status set is_open status kind b others =
 pub record NextLeft (set : CharacterSet) (file : List ℕ) (end : ℕ) (p : Plan) (ms : List Marked) (r : Marking) : Type 0 where
   pub body : Body
   pub others : List Marked
-  pub values : (is_open : Bool) → by_marks set is_open ms ≡ by_status set is_open r.status r.kind body (λ o. by_marks set o others)
+  pub values : (is_open : Bool) → by_marks set is_open ms ≡ by_status set is_open (is_kept r.fate) r.kind body (λ o. by_marks set o others)
   pub stands : part r.start r.size file ≡ body
   pub going : Going set file end r.next others
-  pub kind : r.status ≡ 0 → r.kind ≡ type_of set body
-  pub addenda : r.status ≡ 0 → (is_open : Bool) → addenda_behind r.kind (by_marks set is_open others) ≡ addenda_among set r.kind (bodies_in others)
+  pub kind : is_kept r.fate ≡ true → r.kind ≡ type_of set body
+  pub addenda : is_kept r.fate ≡ true → (is_open : Bool) → addenda_behind r.kind (by_marks set is_open others) ≡ addenda_among set r.kind (bodies_in others)
   pub on : p.at ≤ r.next.at
-  pub moved : (r.status ≡ 1 → r.kind ≡ 99 → ⊥) → p.at < r.next.at
+  pub moved : (is_kept r.fate ≡ false → r.kind ≡ 99 → ⊥) → p.at < r.next.at
 
-abbrev pub closes_first : ℕ → ℕ → Bool
-closes_first status kind = cond (eqb status 0) (eqb kind 10) (eqb kind 99)
+abbrev pub closes_first : Bool → ℕ → Bool
+closes_first keeps kind = cond keeps (eqb kind 10) (eqb kind 99)
 
 abbrev pub new_control : ℕ → ℕ → ℕ → Plan → Entry
 new_control kind start size p =

@@ -2,15 +2,16 @@
 #![tactic(auto)]
 
 ghost use Rattle.std.specs.Prelude.{false, List, ◌≡◌, eqb};
-ghost use Rattle.layout.specs.Packing.{Packed};
 ghost use Rattle.file_as_records.specs.Framed.{Body};
 ghost use Rattle.draft.specs.Values.{Values};
 ghost use Rattle.salvage_model.specs.Kept.{Marked};
 ghost use Rattle.salvage_walk.specs.Spans.{Spans};
+ghost use Rattle.salvage_marks.specs.Left.{is_kept};
 ghost use Rattle.salvage_made.specs.ByMarks.{addenda_among};
 ghost use Rattle.salvage_next.specs.Cued.{Going, Underway, NextLeft, closes_first, new_control, kept_entry, Cued, Cueing, NextEntry};
 
-use salvage_marks::{Marking, Plan};
+use layout::Layouts;
+use salvage_marks::{Fate, Marking, Plan};
 use text::CharacterSet;
 
 // Where the making out stands: what is marked next; whether a cash letter is open; whether the file's control has been made out.
@@ -36,18 +37,19 @@ pub struct Entry {
 // The next record that is not dropped, from here on. Where there is none: the file's control, as though one of no characters had been walked.
 fn next_left<'a>(
     set: CharacterSet,
-    layouts: &'a [u64],
+    layouts: &'a Layouts,
     file: &'a [u8],
     end: usize,
     from: Plan,
 ) -> Marking
-    requires { Packed layouts.now × Underway set file.now end from }
+    requires { Underway set file.now end from }
     ensures { (ms : List Marked) → Going set file.now end from ms → NextLeft set file.now end from ms result }
 {
     let mut plan = from;
+    // Stays: (d) the step is what the record's length says, so that no range counts it.
     while plan.at < end {
         let mark = salvage_marks::mark_next(set, layouts, file, end, plan);
-        if mark.status != 2 {
+        if !mark.fate.is_dropped() {
             return mark;
         }
         plan = mark.next;
@@ -56,17 +58,19 @@ fn next_left<'a>(
         start: 0,
         size: 0,
         kind: 99,
-        status: 1,
-        number: 0,
+        fate: Fate::MadeNew,
         next: plan,
     }
 }
 
 // Whether a letter that is open is closed before this record: before another begins, and before the file's control.
-fn closes_first(status: u64, kind: u64) -> bool
-    ensures { result ≡ closes_first status kind }
+fn closes_first(fate: Fate, kind: u64) -> bool
+    ensures { result ≡ closes_first (is_kept fate) kind }
 {
-    if status == 0 { kind == 10 } else { kind == 99 }
+    match fate {
+        Fate::Kept => kind == 10,
+        Fate::MadeNew | Fate::Dropped(_) => kind == 99,
+    }
 }
 
 // A new control, with the walked one whose free fields it takes.
@@ -113,21 +117,21 @@ fn kept_entry(set: CharacterSet, file: &[u8], end: usize, opened: bool, mark: Ma
 // The next record of the new file: a letter that is open is closed before another begins and before the file ends.
 pub fn next_entry<'a>(
     set: CharacterSet,
-    layouts: &'a [u64],
+    layouts: &'a Layouts,
     file: &'a [u8],
     end: usize,
     cue: Cue,
 ) -> Entry
-    requires { Packed layouts.now × (cue.done ≡ false) × Cueing set file.now end cue }
+    requires { (cue.done ≡ false) × Cueing set file.now end cue }
     ensures { (vs : List Values) → Cued set file.now end cue vs → NextEntry set file.now end cue vs result }
 {
     let plan = cue.plan;
     let mark = next_left(set, layouts, file, end, plan);
     let kind = mark.kind;
-    if cue.open & closes_first(mark.status, kind) {
+    if cue.open & closes_first(mark.fate, kind) {
         return new_control(90, 0, 0, plan);
     }
-    if mark.status == 0 {
+    if mark.fate.is_kept() {
         return kept_entry(set, file, end, cue.open, mark);
     }
     let made = if kind == 99 { 99 } else { 90 };

@@ -3,22 +3,10 @@
 
 ghost use Rattle.std.specs.Prelude.{List, ◌≡◌, ℕ};
 ghost use Rattle.file_as_records.specs.Framed.{Body};
-ghost use Rattle.draft.specs.Completed.{is_own_addendum};
 ghost use Rattle.salvage_walk.specs.Spans.{Spans};
 ghost use Rattle.salvage_made.specs.ByMarks.{addenda_among};
 
 use text::CharacterSet;
-
-// 26 to 28 of a 25, 32 to 35 of a 31.
-fn is_own_addendum(item: u64, kind: u64) -> bool
-    ensures { result ≡ is_own_addendum item kind }
-{
-    match item {
-        25 => (26 <= kind) & (kind <= 28),
-        31 => (32 <= kind) & (kind <= 35),
-        _ => false,
-    }
-}
 
 // How many records right behind an item are its addenda. Each addendum is counted by one item, so that all counting is one more look at each record.
 pub fn addenda_among(set: CharacterSet, file: &[u8], from: usize, end: usize, item: u64) -> u64
@@ -26,9 +14,10 @@ pub fn addenda_among(set: CharacterSet, file: &[u8], from: usize, end: usize, it
 {
     let mut at = from;
     let mut count: u64 = 0;
+    // Stays: (d) the step is what the record's length says, so that no range counts it.
     while at < end {
         let seen = salvage_walk::seen_at(set, file, at, end);
-        if !is_own_addendum(item, seen.kind) {
+        if !draft_rows::is_own_addendum(item, seen.kind) {
             return count;
         }
         count += 1;

@@ -11,16 +11,16 @@ use borrow.Author.Tests.{eq-eqb, ne_eqb}
 use Rattle.text.specs.declared.character_set.CharacterSet.{CharacterSet}
 use Rattle.judge.specs.Alone.{type_of}
 use Rattle.passes.specs.declared.Fault.{Fault}
-use Rattle.passes.specs.declared.Fault.TheVariants.{Size, Room, Cut, Length, UnknownType, Place, Field, Link, Total, Open, After, Duplicate, Full, NoEntry, Range, Nothing, Book}
 use Rattle.file_as_records.specs.Framed.{Body}
 use Rattle.salvage_model.specs.Runs.{leading, following, of, not_of, Group, run, loose, stretch_then, groups_from, groups_of, run_fault}
 use Rattle.salvage_model.specs.Kept.{is_through, is_sound_bundle, any_bundle}
 use Rattle.salvage_walk.specs.declared.Seen.{Seen}
-use Rattle.salvage_walk.specs.declared.Sort.TheVariants.{InStretch, Views}
-use Rattle.salvage_walk.specs.Spans.{Stands, Spans, SeenAs, Parted}
+use Rattle.salvage_walk.specs.Spans.{Stands, Spans, SeenAs, among, not_among, Parted}
 use Rattle.salvage_walk.proofs.Sorts.{First, first_of, none_left, spans-within}
+use Rattle.salvage_runs.specs.declared.Group.TheVariants.{Bundle, Credit, Loose}
 use Rattle.salvage_runs.specs.declared.Grouped.{Grouped}
-use Rattle.salvage_runs.specs.RunAt.{number_in, RunAt, GroupAt}
+use Rattle.std.specs.Prelude.{Result, is_ok}
+use Rattle.salvage_runs.specs.RunAt.{read_through, is_run, is_bundle, RunAt, GroupAt}
 
 pub following-short : (test : Body → Bool) (bs : List Body) → length (following test bs) ≤ length bs
 following-short test [] = omega arith
@@ -102,7 +102,7 @@ module _ (set : CharacterSet) (file : List ℕ) (at end : ℕ) (seen : Seen) (to
   abbrev pub Grouping : Grouped → Type 0
   Grouping r = at < end → (bs : List Body) → Spans file at bs end → GroupAt set file at bs end r
 
-  pub group-other : (seen.kind ≡ 20 → ⊥) → (seen.kind ≡ 61 → ⊥) → Grouping (record { end = seen.next; run = false; kind = seen.kind })
+  pub group-other : (seen.kind ≡ 20 → ⊥) → (seen.kind ≡ 61 → ⊥) → Grouping (record { end = seen.next; group = Loose })
   group-other p q h bs s =
       let f = first_of file at bs end s h in
       let as_seen = told f.body f.stands in
@@ -116,11 +116,11 @@ module _ (set : CharacterSet) (file : List ℕ) (at end : ℕ) (seen : Seen) (to
             (groups-one set f.body f.others));
         spans = (f.stands, sym as_seen.next);
         behind = rw as_seen.next f.spans;
-        kind = as_seen.kind;
+        bundle = refl;
       }
 
-  pub group-61 : seen.kind ≡ 61 → (stop : ℕ) → ((bs : List Body) → Spans file seen.next bs end → Parted set file Views seen.next bs end stop)
-      → Grouping (record { end = stop; run = true; kind = seen.kind })
+  pub group-61 : seen.kind ≡ 61 → (stop : ℕ) → ((bs : List Body) → Spans file seen.next bs end → Parted set file (among (50 ∷ 52 ∷ 54 ∷ [])) seen.next bs end stop)
+      → Grouping (record { end = stop; group = Credit })
   group-61 q stop parts h bs s =
       let f = first_of file at bs end s h in
       let as_seen = told f.body f.stands in
@@ -133,10 +133,10 @@ module _ (set : CharacterSet) (file : List ℕ) (at end : ℕ) (seen : Seen) (to
         groups = groups-first set f.body f.others f.is (rw type at (groups-one set f.body f.others));
         spans = (f.stands, rw as_seen.next at p.before);
         behind = p.behind;
-        kind = as_seen.kind;
+        bundle = rw type refl;
       }
 
-  module _ (q : seen.kind ≡ 20) (stop : ℕ) (parts : (bs : List Body) → Spans file seen.next bs end → Parted set file InStretch seen.next bs end stop) where
+  module _ (q : seen.kind ≡ 20) (stop : ℕ) (parts : (bs : List Body) → Spans file seen.next bs end → Parted set file (not_among (20 ∷ 70 ∷ [])) seen.next bs end stop) where
     module _ (bs : List Body) (f : First file at bs end) where
       abbrev stretch : List Body
       stretch = leading (not_of set (20 ∷ 70 ∷ [])) f.others
@@ -147,7 +147,7 @@ module _ (set : CharacterSet) (file : List ℕ) (at end : ℕ) (seen : Seen) (to
       as_seen : SeenAs set at f.body seen
       as_seen = told f.body f.stands
 
-      parted : Parted set file InStretch seen.next f.others end stop
+      parted : Parted set file (not_among (20 ∷ 70 ∷ [])) seen.next f.others end stop
       parted = parts f.others (rw as_seen.next f.spans)
 
       inside : Spans file at (f.body ∷ stretch) stop
@@ -158,7 +158,7 @@ module _ (set : CharacterSet) (file : List ℕ) (at end : ℕ) (seen : Seen) (to
           groups-first set f.body f.others f.is
           (rw (eq-eqb (type_of set f.body) 20 (sym as_seen.kind ∙ q)) at (groups-one set f.body f.others))
 
-    pub group-torn : end ≤ stop → Grouping (record { end = stop; run = false; kind = seen.kind })
+    pub group-torn : end ≤ stop → Grouping (record { end = stop; group = Loose })
     group-torn l h bs s =
         let f = first_of file at bs end s h in
         let gone = none_left file stop (later bs f) end (parted bs f).behind l in
@@ -171,11 +171,11 @@ module _ (set : CharacterSet) (file : List ℕ) (at end : ℕ) (seen : Seen) (to
               ∙ ap (λ (gs : List Group). loose (f.body ∷ stretch bs f) ∷ gs) (sym (groups_none set));
           spans = inside bs f;
           behind = gone.1;
-          kind = (as_seen bs f).kind;
+          bundle = refl;
         }
 
     module _ (l : stop < end) (closing : Seen) (known : (b : Body) → Stands file stop b → SeenAs set stop b closing) where
-      pub group-open : (closing.kind ≡ 70 → ⊥) → Grouping (record { end = stop; run = false; kind = seen.kind })
+      pub group-open : (closing.kind ≡ 70 → ⊥) → Grouping (record { end = stop; group = Loose })
       group-open t h bs s =
           let f = first_of file at bs end s h in
           let g = first_of file stop (later bs f) end (parted bs f).behind l in
@@ -189,10 +189,10 @@ module _ (set : CharacterSet) (file : List ℕ) (at end : ℕ) (seen : Seen) (to
                 ∙ ap (λ (b : Bool). cond b (run ((f.body ∷ stretch bs f) ++ (g.body ∷ [])) ∷ groups_of set g.others) (loose (f.body ∷ stretch bs f) ∷ groups_of set (g.body ∷ g.others))) other;
             spans = inside bs f;
             behind = (g.stands, g.spans);
-            kind = (as_seen bs f).kind;
+            bundle = refl;
           }
 
-      pub group-run : closing.kind ≡ 70 → Grouping (record { end = closing.next; run = true; kind = seen.kind })
+      pub group-run : closing.kind ≡ 70 → Grouping (record { end = closing.next; group = Bundle })
       group-run t h bs s =
           let f = first_of file at bs end s h in
           let g = first_of file stop (later bs f) end (parted bs f).behind l in
@@ -207,29 +207,13 @@ module _ (set : CharacterSet) (file : List ℕ) (at end : ℕ) (seen : Seen) (to
                 ∙ ap (λ (b : Bool). cond b (run ((f.body ∷ stretch bs f) ++ (g.body ∷ [])) ∷ groups_of set g.others) (loose (f.body ∷ stretch bs f) ∷ groups_of set (g.body ∷ g.others))) closes;
             spans = spans-append file (f.body ∷ stretch bs f) (g.body ∷ []) at stop closing.next (inside bs f) (g.stands, sym as-closing.next);
             behind = rw as-closing.next g.spans;
-            kind = (as_seen bs f).kind;
+            bundle = sym (eq-eqb (type_of set f.body) 20 (sym (as_seen bs f).kind ∙ q));
           }
 
--- no fault has the number 0
-pub through-none : (o : Option Fault) → is_through o ≡ eqb (number_in o) 0
-through-none none = refl
-through-none (some Size) = refl
-through-none (some Room) = refl
-through-none (some Cut) = refl
-through-none (some Length) = refl
-through-none (some UnknownType) = refl
-through-none (some Place) = refl
-through-none (some (Field n)) = refl
-through-none (some (Link n)) = refl
-through-none (some (Total n)) = refl
-through-none (some Open) = refl
-through-none (some After) = refl
-through-none (some Duplicate) = refl
-through-none (some Full) = refl
-through-none (some NoEntry) = refl
-through-none (some Range) = refl
-through-none (some Nothing) = refl
-through-none (some Book) = refl
+-- a run without a fault is read through
+through-ok : (o : Option Fault) → is_through o ≡ is_ok (read_through o)
+through-ok none = refl
+through-ok (some fault) = refl
 
 -- any bundle that is sound
 module _ (set : CharacterSet) (file : List ℕ) (header_at from end : ℕ) where
@@ -273,7 +257,7 @@ module _ (set : CharacterSet) (file : List ℕ) (header_at from end : ℕ) where
       }
 
       abbrev is_sound : Bool
-      is_sound = is_sound_bundle set w.header (cond r.run (run (group.first ∷ group.own)) (loose (group.first ∷ group.own)))
+      is_sound = is_sound_bundle set w.header (cond (is_run r.group) (run (group.first ∷ group.own)) (loose (group.first ∷ group.own)))
 
       step : any_bundle set w.header (groups_of set w.bodies) ≡ is_sound || any_bundle set w.header (groups_of set group.others)
       step = (v w).same ∙ ap (any_bundle set w.header) group.groups
@@ -285,31 +269,29 @@ module _ (set : CharacterSet) (file : List ℕ) (header_at from end : ℕ) where
         same = step ∙ ap (λ (b : Bool). b || any_bundle set w.header (groups_of set group.others)) e;
       }
 
-      pub seeks-other : r.run && eqb r.kind 20 ≡ false → Seeking w r.end
-      seeks-other e = on-from (by r.run e)
+      pub seeks-other : is_bundle r.group ≡ false → Seeking w r.end
+      seeks-other e = on-from (by (is_run r.group) (sym group.bundle ∙ e))
         where
-          by : (c : Bool) → c && eqb r.kind 20 ≡ false
+          by : (c : Bool) → c && eqb (type_of set group.first) 20 ≡ false
               → is_sound_bundle set w.header (cond c (run (group.first ∷ group.own)) (loose (group.first ∷ group.own))) ≡ false
-          by true q = ap (λ (n : ℕ). eqb n 20 && is_through (run_fault set w.header (group.first ∷ group.own))) (sym group.kind)
-              ∙ ap (λ (b : Bool). b && is_through (run_fault set w.header (group.first ∷ group.own))) q
+          by true q = ap (λ (b : Bool). b && is_through (run_fault set w.header (group.first ∷ group.own))) q
           by false q = refl
 
-      module _ (e : r.run && eqb r.kind 20 ≡ true) (number : ℕ)
-          (found : (x : RunAt set file header_at at r.end) → number ≡ number_in (run_fault set x.header x.bodies)) where
-        sound-as : is_sound ≡ eqb number 0
-        sound-as = by r.run e
+      module _ (e : is_bundle r.group ≡ true) (read : Result (Unit {0}) Fault)
+          (found : (x : RunAt set file header_at at r.end) → read ≡ read_through (run_fault set x.header x.bodies)) where
+        sound-as : is_sound ≡ is_ok read
+        sound-as = by (is_run r.group) (sym group.bundle ∙ e)
           where
-            by : (c : Bool) → c && eqb r.kind 20 ≡ true
-                → is_sound_bundle set w.header (cond c (run (group.first ∷ group.own)) (loose (group.first ∷ group.own))) ≡ eqb number 0
+            by : (c : Bool) → c && eqb (type_of set group.first) 20 ≡ true
+                → is_sound_bundle set w.header (cond c (run (group.first ∷ group.own)) (loose (group.first ∷ group.own))) ≡ is_ok read
             by true q =
-                ap (λ (n : ℕ). eqb n 20 && is_through (run_fault set w.header (group.first ∷ group.own))) (sym group.kind)
-                ∙ ap (λ (b : Bool). b && is_through (run_fault set w.header (group.first ∷ group.own))) q
-                ∙ through-none (run_fault set w.header (group.first ∷ group.own))
-                ∙ ap (λ (n : ℕ). eqb n 0) (sym (found seeks-run))
+                ap (λ (b : Bool). b && is_through (run_fault set w.header (group.first ∷ group.own))) q
+                ∙ through-ok (run_fault set w.header (group.first ∷ group.own))
+                ∙ ap is_ok (sym (found seeks-run))
             by false q = cc
 
-        pub seeks-found : number ≡ 0 → true ≡ any_bundle set w.header (groups_of set w.bodies)
-        seeks-found z = sym (step ∙ ap (λ (b : Bool). b || any_bundle set w.header (groups_of set group.others)) (sound-as ∙ eq-eqb number 0 z))
+        pub seeks-found : is_ok read ≡ true → true ≡ any_bundle set w.header (groups_of set w.bodies)
+        seeks-found z = sym (step ∙ ap (λ (b : Bool). b || any_bundle set w.header (groups_of set group.others)) (sound-as ∙ z))
 
-        pub seeks-unsound : (number ≡ 0 → ⊥) → Seeking w r.end
-        seeks-unsound z = on-from (sound-as ∙ ne_eqb number 0 z)
+        pub seeks-unsound : is_ok read ≡ false → Seeking w r.end
+        seeks-unsound z = on-from (sound-as ∙ z)

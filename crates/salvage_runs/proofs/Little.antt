@@ -10,6 +10,7 @@ use lib.Dec.{leb, eqb}
 use lib.ListN.{length, take, drop}
 use lib.Seq.{take-take, drop-drop, take-append-le, drop-append-add, drop-append_seam}
 use borrow.Author.Tests.{eqb-true, le-leb, lt-leb, eq-eqb, ne_eqb}
+use Rattle.std.specs.Prelude.{is_ok}
 use Rattle.text.specs.declared.character_set.CharacterSet.{CharacterSet}
 use Rattle.frame.specs.Frames.{part}
 use Rattle.frame.specs.Unless.{unless}
@@ -39,7 +40,7 @@ use Rattle.salvage_walk.specs.declared.Seen.{Seen}
 use Rattle.salvage_walk.specs.Spans.{Stands, Spans, SeenAs}
 use Rattle.salvage_walk.proofs.Sorts.{First, first_of, none_left}
 use Rattle.salvage_runs.specs.Places.{placed_at}
-use Rattle.salvage_runs.specs.RunAt.{number_in, RunAt}
+use Rattle.salvage_runs.specs.RunAt.{read_through, RunAt}
 use Rattle.passes.specs.declared.Fault.TheVariants as faults
 
 -- the first bytes of a record in the little file and where it stands
@@ -51,6 +52,13 @@ record-alike little file small at b rest e s w h = record {
       ∙ ap (take w) s.body
       ∙ sym (ap (take w) e ∙ take-append-le w b rest h);
 }
+
+-- a record with nothing wrong
+pub right-ok : (j : Judged) → is_ok j ≡ is_right j
+right-ok Sound = refl
+right-ok WrongLength = refl
+right-ok UnknownType = refl
+right-ok (WrongField n) = refl
 
 -- a record alone
 module _ (set : CharacterSet) (t : ℕ) (b : Body) where
@@ -234,14 +242,14 @@ module _ (set : CharacterSet) (file : List ℕ) (header_at from end : ℕ) where
         let r = v w in
         figures-capped s (placed (standing set (little_of w) r.past) r.item r.header r.heading) r.figures
 
-    pub reads_end : end ≤ at → number_in (cond (eqb s.last 50) (some Place) none) ≡ number_in (run_fault set w.header w.bodies)
+    pub reads_end : end ≤ at → read_through (cond (eqb s.last 50) (some Place) none) ≡ read_through (run_fault set w.header w.bodies)
     unfolding read_on
     reads_end h =
         let r = v w in
         let gone = none_left file at r.left end r.spans h in
         let last : s.last ≡ (standing set (little_of w) r.past).last = ap (λ (u : Standing). u.last) r.figures in
-        sym (ap number_in (r.same ∙ ap (λ (bs : List Body). read_on set (little_of w) bs r.small r.past) gone.0)
-        ∙ ap (λ (n : ℕ). number_in (cond (eqb n 50) (some Place) none)) (sym last))
+        sym (ap read_through (r.same ∙ ap (λ (bs : List Body). read_on set (little_of w) bs r.small r.past) gone.0)
+        ∙ ap (λ (n : ℕ). read_through (cond (eqb n 50) (some Place) none)) (sym last))
 
     module _ (h : at < end) (seen : Seen) (told : (b : Body) → Stands file at b → SeenAs set at b seen) (body : List ℕ)
         (is : body ≡ part seen.start seen.size file) (turn : Turn) (judged : turn ≡ turn_of set file s at body) where

@@ -2,7 +2,6 @@
 #![tactic(auto)]
 
 ghost use Rattle.std.specs.Prelude.{true, List, [], ◌≡◌, ℕ, ◌<◌, get_or};
-ghost use Rattle.layout.specs.Packing.{Packed};
 ghost use Rattle.standing.specs.Standing.{standing, onward, capped_figures};
 ghost use Rattle.file_as_records.specs.Framed.{Body};
 ghost use Rattle.arrangement.specs.Sound.{indicator};
@@ -10,25 +9,44 @@ ghost use Rattle.salvage_model.specs.Runs.{groups_of, sound_alone, run_fault};
 ghost use Rattle.salvage_model.specs.Kept.{any_bundle};
 ghost use Rattle.salvage_walk.specs.Spans.{Spans};
 ghost use Rattle.salvage_runs.specs.Places.{placed_at};
-ghost use Rattle.salvage_runs.specs.RunAt.{number_in, RunAt, GroupAt};
+ghost use Rattle.salvage_runs.specs.RunAt.{read_through, is_run, is_bundle, RunAt, GroupAt};
 
-use judge::Judged;
-use passes::Turn;
-use salvage_walk::Sort;
+use layout::Layouts;
+use passes::Fault;
 use standing::Standing;
 use text::CharacterSet;
 
-// A group under a header: where it ends, whether it is a run, and the type of its first record.
+// What a group under a header is: the run of a 20 or of a 61, or records in no run.
+#[derive(Clone, Copy)]
+pub enum Group {
+    Bundle,
+    Credit,
+    Loose,
+}
+
+impl Group {
+    pub fn is_run(self) -> bool
+        ensures { result ≡ is_run self }
+    {
+        !matches!(self, Group::Loose)
+    }
+
+    pub fn is_bundle(self) -> bool
+        ensures { result ≡ is_bundle self }
+    {
+        matches!(self, Group::Bundle)
+    }
+}
+
+// A group under a header, and where it ends.
 #[derive(Clone, Copy)]
 pub struct Grouped {
     pub end: usize,
-    pub run: bool,
-    pub kind: u64,
+    pub group: Group,
 }
 
 // Whether a record is one of a type and sound alone.
-pub fn is_sound_alone<'a>(set: CharacterSet, layouts: &'a [u64], kind: u64, body: &'a [u8]) -> bool
-    requires { Packed layouts.now }
+pub fn is_sound_alone<'a>(set: CharacterSet, layouts: &'a Layouts, kind: u64, body: &'a [u8]) -> bool
     ensures { result ≡ sound_alone set kind body.now }
 {
     if body.len() < 2 {
@@ -38,12 +56,7 @@ pub fn is_sound_alone<'a>(set: CharacterSet, layouts: &'a [u64], kind: u64, body
     if stated != kind {
         return false;
     }
-    match judge::judge_as(set, layouts, stated, body) {
-        Judged::Sound => true,
-        Judged::WrongLength => false,
-        Judged::UnknownType => false,
-        Judged::WrongField(_) => false,
-    }
+    judge::judge_as(set, layouts, stated, body).is_ok()
 }
 
 // The figures behind a 01 and a cash letter header and nothing else. Whatever has not come yet stands at the header.
@@ -58,39 +71,32 @@ fn behind_header(set: CharacterSet, file: &[u8], heading: usize) -> Standing
     s
 }
 
-// The number of a run's first fault under a header that is sound alone, 0 where the reader would read it through.
+// A run's first fault under a header that is sound alone, where the reader would not read it through.
 pub fn run_fault<'a>(
     set: CharacterSet,
-    layouts: &'a [u64],
+    layouts: &'a Layouts,
     file: &'a [u8],
     heading: usize,
     from: usize,
     end: usize,
-) -> u64
-    requires { Packed layouts.now × RunAt set file.now heading from end }
-    ensures { (w : RunAt set file.now heading from end) → result ≡ number_in (run_fault set w.header w.bodies) }
+) -> Result<(), Fault>
+    requires { RunAt set file.now heading from end }
+    ensures { (w : RunAt set file.now heading from end) → result ≡ read_through (run_fault set w.header w.bodies) }
 {
     let mut s = behind_header(set, file, heading);
     let mut at = from;
+    // Stays: (d) the step is what the record's length says, so that no range counts it.
     while at < end {
         let seen = salvage_walk::seen_at(set, file, at, end);
-        let start = seen.start;
-        let size = seen.size;
-        let body = frame::part_of(file, start, size);
-        match passes::judge_next(set, layouts, file, s, at, body) {
-            Turn::Faulty(fault) => {
-                return fault.number();
-            }
-            Turn::Good(kind) => {
-                s = standing::moved(set, file, s, kind, at);
-                at = seen.next;
-            }
-        }
+        let body = frame::part_of(file, seen.start, seen.size);
+        let kind = passes::judge_next(set, layouts, file, s, at, body)?;
+        s = standing::moved(set, file, s, kind, at);
+        at = seen.next;
     }
     if s.last == 50 {
-        return 6;
+        return Err(Fault::Place);
     }
-    0
+    Ok(())
 }
 
 // The group that begins at an offset under a header.
@@ -101,76 +107,68 @@ pub fn group_at(set: CharacterSet, file: &[u8], at: usize, end: usize) -> Groupe
     let kind = seen.kind;
     let behind = seen.next;
     if kind == 61 {
-        let stop = salvage_walk::end_of(set, file, behind, end, Sort::Views);
+        let stop = salvage_walk::end_of(
+            set,
+            file,
+            behind,
+            end,
+            |kind| matches!(kind, 50 | 52 | 54),
+        );
         return Grouped {
             end: stop,
-            run: true,
-            kind,
+            group: Group::Credit,
         };
     }
     if kind != 20 {
         return Grouped {
             end: behind,
-            run: false,
-            kind,
+            group: Group::Loose,
         };
     }
-    let stop = salvage_walk::end_of(set, file, behind, end, Sort::InStretch);
+    let stop = salvage_walk::end_of(set, file, behind, end, |kind| !matches!(kind, 20 | 70));
     if stop < end {
         let closing = salvage_walk::seen_at(set, file, stop, end);
         if closing.kind == 70 {
             return Grouped {
                 end: closing.next,
-                run: true,
-                kind,
+                group: Group::Bundle,
             };
         }
     }
     Grouped {
         end: stop,
-        run: false,
-        kind,
+        group: Group::Loose,
     }
 }
 
 // Whether a bundle under a header is sound.
 pub fn any_bundle<'a>(
     set: CharacterSet,
-    layouts: &'a [u64],
+    layouts: &'a Layouts,
     file: &'a [u8],
     heading: usize,
     from: usize,
     end: usize,
 ) -> bool
-    requires { Packed layouts.now × RunAt set file.now heading from end }
+    requires { RunAt set file.now heading from end }
     ensures { (w : RunAt set file.now heading from end) → result ≡ any_bundle set w.header (groups_of set w.bodies) }
 {
     let mut at = from;
+    // Stays: (d) the step is what the group's records take, so that no range counts it.
     while at < end {
-        let group = group_at(set, file, at, end);
-        let stop = group.end;
-        if group.run & (group.kind == 20) {
-            if run_fault(set, layouts, file, heading, at, stop) == 0 {
-                return true;
-            }
+        let Grouped { end: stop, group } = group_at(set, file, at, end);
+        if group.is_bundle() && run_fault(set, layouts, file, heading, at, stop).is_ok() {
+            return true;
         }
         at = stop;
     }
     false
 }
 
-fn first_of(s: &[u8]) -> u8
-    ensures { result ≡ get_or s.now 0 0 }
-{
-    if 0 < s.len() {
-        return s[0];
-    }
-    0
-}
-
 // Field 8 of a cash letter header, position 43.
 pub fn indicator_of(set: CharacterSet, body: &[u8]) -> u8
     ensures { result ≡ indicator set body.now }
 {
-    text::capital_of(set, first_of(frame::part_of(body, 42, 1)))
+    let stated = frame::part_of(body, 42, 1).first().copied();
+    text::capital_of(set, stated.unwrap_or(0))
 }

@@ -1,4 +1,4 @@
--- Records of a sort, one after the other. Assumes nothing.
+-- Records that pass a test, one after the other. Assumes nothing.
 use Prim.Native.Nat.{ℕ, ◌+◌, ◌≤◌, ◌<◌}
 use native.Mathlib.Omega.{arith}
 use mathlib.Core.Bool.{Bool, true, false, not}
@@ -9,8 +9,7 @@ use Rattle.text.specs.declared.character_set.CharacterSet.{CharacterSet}
 use Rattle.file_as_records.specs.Framed.{Body}
 use Rattle.salvage_model.specs.Runs.{leading, following}
 use Rattle.salvage_walk.specs.declared.Seen.{Seen}
-use Rattle.salvage_walk.specs.declared.Sort.{Sort}
-use Rattle.salvage_walk.specs.Spans.{Stands, Spans, SeenAs, of_sort, test_of, Parted}
+use Rattle.salvage_walk.specs.Spans.{Stands, Spans, SeenAs, test_of, Parted}
 
 -- no end before its start
 pub spans-within : (file : List ℕ) (bs : List Body) (at end : ℕ) → Spans file at bs end → at + length bs ≤ end
@@ -56,13 +55,13 @@ module _ (test : Body → Bool) {bs : List Body} (b : Body) (others : List Body)
   pub following-all : test b ≡ false → following test bs ≡ bs
   following-all t = rw (is, t)
 
-module _ (set : CharacterSet) (file : List ℕ) (sort : Sort) (from end : ℕ) where
+module _ (set : CharacterSet) (file : List ℕ) (test : ℕ → Bool) (from end : ℕ) where
   -- at the head of the loop, of the records from the start on: those that are left
   pub record Passing (at : ℕ) (bs : List Body) : Type 0 where
     pub left : List Body
     pub spans : Spans file at left end
-    pub before : (e : ℕ) → Spans file at (leading (test_of set sort) left) e → Spans file from (leading (test_of set sort) bs) e
-    pub behind : following (test_of set sort) left ≡ following (test_of set sort) bs
+    pub before : (e : ℕ) → Spans file at (leading (test_of set test) left) e → Spans file from (leading (test_of set test) bs) e
+    pub behind : following (test_of set test) left ≡ following (test_of set test) bs
 
   abbrev pub Passes : ℕ → Type 0
   Passes at = (bs : List Body) → Spans file from bs end → Passing at bs
@@ -71,7 +70,7 @@ module _ (set : CharacterSet) (file : List ℕ) (sort : Sort) (from end : ℕ) w
   passes-first bs s = record { left = bs; spans = s; before = λ e q. q; behind = refl }
 
   module _ {at : ℕ} (v : Passes at) where
-    pub passes-end : end ≤ at → (bs : List Body) → Spans file from bs end → Parted set file sort from bs end at
+    pub passes-end : end ≤ at → (bs : List Body) → Spans file from bs end → Parted set file test from bs end at
     passes-end h bs s =
         let p = v bs s in
         let none = none_left file at p.left end p.spans h in
@@ -81,26 +80,26 @@ module _ (set : CharacterSet) (file : List ℕ) (sort : Sort) (from end : ℕ) w
         }
 
     module _ (h : at < end) (r : Seen) (seen : (b : Body) → Stands file at b → SeenAs set at b r) where
-      pub passes-stop : of_sort sort r.kind ≡ false → (bs : List Body) → Spans file from bs end → Parted set file sort from bs end at
+      pub passes-stop : test r.kind ≡ false → (bs : List Body) → Spans file from bs end → Parted set file test from bs end at
       passes-stop t bs s =
           let p = v bs s in
           let f = first_of file at p.left end p.spans h in
-          let other : test_of set sort f.body ≡ false = ap (of_sort sort) (sym (seen f.body f.stands).kind) ∙ t in
-          let none : leading (test_of set sort) p.left ≡ [] = leading-none (test_of set sort) f.body f.others f.is other in
-          let all : following (test_of set sort) p.left ≡ p.left = following-all (test_of set sort) f.body f.others f.is other in
+          let other : test_of set test f.body ≡ false = ap (test) (sym (seen f.body f.stands).kind) ∙ t in
+          let none : leading (test_of set test) p.left ≡ [] = leading-none (test_of set test) f.body f.others f.is other in
+          let all : following (test_of set test) p.left ≡ p.left = following-all (test_of set test) f.body f.others f.is other in
           record {
             before = p.before at (rw none refl);
             behind = rw (← p.behind, all) p.spans;
           }
 
-      pub passes_on : of_sort sort r.kind ≡ true → Passes r.next
+      pub passes_on : test r.kind ≡ true → Passes r.next
       passes_on t bs s =
           let p = v bs s in
           let f = first_of file at p.left end p.spans h in
           let told = seen f.body f.stands in
-          let one : test_of set sort f.body ≡ true = ap (of_sort sort) (sym told.kind) ∙ t in
-          let more : leading (test_of set sort) p.left ≡ f.body ∷ leading (test_of set sort) f.others = leading-on (test_of set sort) f.body f.others f.is one in
-          let later : following (test_of set sort) p.left ≡ following (test_of set sort) f.others = following-on (test_of set sort) f.body f.others f.is one in
+          let one : test_of set test f.body ≡ true = ap (test) (sym told.kind) ∙ t in
+          let more : leading (test_of set test) p.left ≡ f.body ∷ leading (test_of set test) f.others = leading-on (test_of set test) f.body f.others f.is one in
+          let later : following (test_of set test) p.left ≡ following (test_of set test) f.others = following-on (test_of set test) f.body f.others f.is one in
           record {
             left = f.others;
             spans = rw told.next f.spans;

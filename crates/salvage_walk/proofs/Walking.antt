@@ -11,7 +11,7 @@ use borrow.Author.Tests.{eq-eqb, ne_eqb, le-leb, lt-leb}
 use Rattle.text.specs.declared.character_set.CharacterSet.{CharacterSet}
 use Rattle.frame.specs.Frames.{Cut, Whole}
 use Rattle.frame.specs.Frames.{part, frame_at}
-use Rattle.frame.proofs.Laws.{cut-length, whole-within, whole-start}
+use Rattle.frame.proofs.Laws.{cut-length, whole-alike, whole-within, whole-start}
 use Rattle.judge.specs.Alone.{type_of}
 use Rattle.file_as_records.specs.Framed.{Body}
 use Rattle.salvage_model.specs.Walked.{walked_from}
@@ -32,8 +32,8 @@ module _ (file : List ℕ) (at start size : ℕ) (e : frame_at file at ≡ Whole
       → SeenAs set at b (record { start = start; size = size; next = start + size; kind = kind })
   framed-seen set b s kind k =
       let same : Whole start size ≡ Whole (at + 4) (length b) = sym e ∙ s.whole in
-      let begins : start ≡ at + 4 = cc in
-      let long : size ≡ length b = cc in
+      let begins : start ≡ at + 4 = (whole-alike same).0 in
+      let long : size ≡ length b = (whole-alike same).1 in
       record {
         start = begins;
         size = long;

@@ -4,9 +4,9 @@
 ghost use Rattle.std.specs.Prelude.{Bool, List, ◌≡◌, ℕ, ◌+◌, ◌<◌, ◌≤◌, length};
 ghost use Rattle.file_as_records.specs.Framed.{Body};
 ghost use Rattle.salvage_model.specs.Walked.{walked_from};
-ghost use Rattle.salvage_walk.specs.Spans.{Stands, Spans, SeenAs, of_sort, Parted};
+ghost use Rattle.salvage_walk.specs.Spans.{Stands, Spans, SeenAs, Computes, Parted};
 
-use frame::{Cursor, Frame};
+use frame::{Cursor, Extent};
 use text::CharacterSet;
 
 // How far the walk leads, and over how many records.
@@ -25,35 +25,25 @@ pub struct Seen {
     pub kind: u64,
 }
 
-// What is passed over: the records under a cash letter header, those of a stretch behind its 20, the views behind a 61.
-#[derive(Clone, Copy)]
-pub enum Sort {
-    UnderHeader,
-    InStretch,
-    Views,
-}
-
 // The record at an offset before an end, up to which the lengths frame records.
 pub fn seen_at(set: CharacterSet, file: &[u8], at: usize, end: usize) -> Seen
     ensures seen { (b : Body) → Stands file.now at b → SeenAs set at b result }
     ensures onward { at < end → at < result.next }
 {
-    match Cursor::at(at).frame(file) {
-        Frame::Cut => Seen {
+    let Some(Extent { start, size }) = Cursor::at(at).frame(file) else {
+        return Seen {
             start: end,
             size: 0,
             next: end,
             kind: 0,
-        },
-        Frame::Whole(start, size) => {
-            let kind = judge::type_of(set, frame::part_of(file, start, size));
-            Seen {
-                start,
-                size,
-                next: start + size,
-                kind,
-            }
-        }
+        };
+    };
+    let kind = judge::type_of(set, frame::part_of(file, start, size));
+    Seen {
+        start,
+        size,
+        next: start + size,
+        kind,
     }
 }
 
@@ -63,45 +53,40 @@ pub fn walk(set: CharacterSet, file: &[u8]) -> Way
 {
     let mut at: usize = 0;
     let mut count: u64 = 0;
+    // Stays: (d) the step is what the record's length says, so that no range counts it.
     while at < file.len() {
-        match Cursor::at(at).frame(file) {
-            Frame::Cut => {
-                return Way { end: at, count };
-            }
-            Frame::Whole(start, size) => {
-                if size < 2 {
-                    return Way { end: at, count };
-                }
-                let kind = judge::type_of(set, frame::part_of(file, start, size));
-                count += 1;
-                at = start + size;
-                if kind == 99 {
-                    return Way { end: at, count };
-                }
-            }
+        let Some(Extent { start, size }) = Cursor::at(at).frame(file) else {
+            return Way { end: at, count };
+        };
+        if size < 2 {
+            return Way { end: at, count };
+        }
+        let kind = judge::type_of(set, frame::part_of(file, start, size));
+        count += 1;
+        at = start + size;
+        if kind == 99 {
+            return Way { end: at, count };
         }
     }
     Way { end: at, count }
 }
 
-fn is_of_sort(sort: Sort, kind: u64) -> bool
-    ensures { result ≡ of_sort sort kind }
-{
-    match sort {
-        Sort::UnderHeader => !((kind == 10) | (kind == 90) | (kind == 99)),
-        Sort::InStretch => !((kind == 20) | (kind == 70)),
-        Sort::Views => (kind == 50) | (kind == 52) | (kind == 54),
-    }
-}
-
-// Where the records of a sort end that stand one after the other from an offset on.
-pub fn end_of(set: CharacterSet, file: &[u8], from: usize, end: usize, sort: Sort) -> usize
-    ensures { (bs : List Body) → Spans file.now from bs end → Parted set file.now sort from bs end result }
+// Where the records end that stand one after the other from an offset on and whose types belong together.
+pub fn end_of<F: Fn(u64) -> bool>(
+    set: CharacterSet,
+    file: &[u8],
+    from: usize,
+    end: usize,
+    belongs: F,
+) -> usize
+    requires { F.IsAlwaysCallable belongs }
+    ensures { (test : ℕ → Bool) → Computes (F.post belongs) test → (bs : List Body) → Spans file.now from bs end → Parted set file.now test from bs end result }
 {
     let mut at = from;
+    // Stays: (d) the step is what the record's length says, so that no range counts it.
     while at < end {
         let seen = seen_at(set, file, at, end);
-        if !is_of_sort(sort, seen.kind) {
+        if !belongs(seen.kind) {
             return at;
         }
         at = seen.next;

@@ -1,7 +1,7 @@
 use mathlib.Core.Path.{◌∙◌, sym, ap}
 use Prim.Native.Nat.{ℕ}
 use Rattle.judge.specs.Alone.{judged_as}
-use Rattle.salvage_runs.proofs.Little.{alone-short, alone-other, alone-judged}
+use Rattle.salvage_runs.proofs.Little.{right-ok, alone-short, alone-other, alone-judged}
 use Rattle.salvage_runs.proofs.is_sound_alone.Goals as goal
 
 pub returns-then-body-lt2 : goal.returns-then-body-lt2
@@ -10,17 +10,5 @@ returns-then-body-lt2 c = alone-short c.args.set c.args.kind c.args.body.now c.i
 pub returns-then-stated-kind : goal.returns-then-stated-kind
 returns-then-stated-kind c = alone-other c.args.set c.args.kind c.args.body.now (λ e. c.if-stated-kind.true (c.type_of-stated.ensures ∙ e))
 
-pub judge_as-requires : goal.judge_as-requires
-judge_as-requires c = c.requires
-
-pub returns-in-Sound : goal.returns-in-Sound
-returns-in-Sound c = alone-judged c.args.set c.args.kind c.args.body.now c.if-body-lt2.false (sym c.type_of-stated.ensures ∙ c.if-stated-kind.false) _ (ap (λ (n : ℕ). judged_as c.args.set n c.args.body.now) (sym c.type_of-stated.ensures) ∙ sym c.judge_as.ensures ∙ c.in-Sound.is)
-
-pub returns-in-WrongLength : goal.returns-in-WrongLength
-returns-in-WrongLength c = alone-judged c.args.set c.args.kind c.args.body.now c.if-body-lt2.false (sym c.type_of-stated.ensures ∙ c.if-stated-kind.false) _ (ap (λ (n : ℕ). judged_as c.args.set n c.args.body.now) (sym c.type_of-stated.ensures) ∙ sym c.judge_as.ensures ∙ c.in-WrongLength.is)
-
-pub returns-in-UnknownType : goal.returns-in-UnknownType
-returns-in-UnknownType c = alone-judged c.args.set c.args.kind c.args.body.now c.if-body-lt2.false (sym c.type_of-stated.ensures ∙ c.if-stated-kind.false) _ (ap (λ (n : ℕ). judged_as c.args.set n c.args.body.now) (sym c.type_of-stated.ensures) ∙ sym c.judge_as.ensures ∙ c.in-UnknownType.is)
-
-pub returns-in-WrongField : goal.returns-in-WrongField
-returns-in-WrongField c = alone-judged c.args.set c.args.kind c.args.body.now c.if-body-lt2.false (sym c.type_of-stated.ensures ∙ c.if-stated-kind.false) _ (ap (λ (n : ℕ). judged_as c.args.set n c.args.body.now) (sym c.type_of-stated.ensures) ∙ sym c.judge_as.ensures ∙ c.in-WrongField.is)
+pub returns : goal.returns
+returns c = c.is_ok.ensures.value ∙ right-ok c.judge_as.result ∙ alone-judged c.args.set c.args.kind c.args.body.now c.if-body-lt2.false (sym c.type_of-stated.ensures ∙ c.if-stated-kind.false) _ (ap (λ (n : ℕ). judged_as c.args.set n c.args.body.now) (sym c.type_of-stated.ensures) ∙ sym c.judge_as.ensures)
