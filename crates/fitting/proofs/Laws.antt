@@ -19,7 +19,7 @@ use Rattle.decimal.specs.Digits.{fits}
 use Rattle.std.specs.Prelude.{Option, None, Some}
 use Rattle.layout.specs.Fault.{as_field}
 use Rattle.layout.proofs.Fault.{no-field, a-field, faultless, faulted}
-use Rattle.layout.specs.Layout.{Line, Layout, Sized, sized_parts}
+use Rattle.layout.specs.Layout.{Line, Sized, sized_parts}
 use Rattle.layout.specs.Packing.{origin_of, line_of, lines_from, lies_within, sized_of, sized_from}
 use Rattle.judge.proofs.Laws.{both_true, lies, line-within}
 use Rattle.ascii_copy.proofs.Fields.{as-alike}

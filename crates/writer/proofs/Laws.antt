@@ -14,6 +14,8 @@ use Rattle.frame.specs.Unless.{unless}
 use Rattle.passes.specs.declared.Fault.{Fault}
 use Rattle.passes.specs.declared.Fault.TheVariants.{Size, Room}
 use Rattle.passes.specs.declared.Totals.{Totals}
+use Rattle.passes.specs.declared.Refusal.{Refusal}
+use Rattle.passes.specs.Answers.{Answer}
 use Rattle.draft.specs.Outcomes.{Outcome}
 use Rattle.draft.specs.Outcomes.{Written, Refused}
 use Rattle.draft.specs.Values.{Values, set_of_text, values_of_rows, values_of_draft}
@@ -25,6 +27,17 @@ use Rattle.draft.proofs.Shapes.{shaped-draft}
 use Rattle.made_is_read.proofs.Whole.{same_outcome, accepted, as-the-reader}
 use Rattle.same_bytes.proofs.Either.{made_again}
 use Rattle.values_back.proofs.Whole.{read-back-whole}
+use Rattle.passes.specs.Answers as answers
+
+-- a refusal of a file is an outcome too
+refusal_as : Answer → Outcome
+refusal_as (answers.Accepted t) = Written 0 t
+refusal_as (Err r) = Err r
+
+pub refused-as : {r : Refusal} {fault : Fault} {place offset : ℕ} → ◌≡◌ {A = Answer} (Err r) (answers.Refused fault place offset)
+    → ◌≡◌ {A = Outcome} (Err r) (Refused fault place offset)
+unfolding refusal_as
+refused-as e = ap refusal_as e
 
 -- an outcome that is written within the room, and the answer whatever the room
 record Kept (n : ℕ) (t : Totals) (answer : Outcome) : Type 0 where
