@@ -6,12 +6,15 @@
 pub const SHARED: [(&str, &[&str]); 7] = [
     ("text", &["CharacterSet", "DataType"]),
     ("field", &["Usage", "CodeList", "Forms", "Rule"]),
-    ("frame", &["Frame"]),
-    ("judge", &["Judged"]),
+    ("frame", &["Extent", "Frame"]),
+    ("judge", &["Flaw", "Judged"]),
     ("measure", &["Cents", "Items", "Views", "Records", "Sums"]),
     ("standing", &["Standing"]),
-    ("passes", &["Fault", "Turn", "Step", "Totals", "Answer"]),
+    ("passes", &["Fault", "Turn", "Step", "Totals", "Refusal", "Answer"]),
 ];
+
+/// What of these types' functions it calls, by the first lines of the blocks.
+const CALLED: [(&str, &str); 2] = [("passes", "impl Refusal {"), ("passes", "impl From<Flaw> for Fault {")];
 
 /// What each type is made to have, in the place of what it derives itself.
 const COPIED: &str = "#[derive(Clone, Copy, Debug, PartialEq, Eq)]\n";
@@ -42,7 +45,8 @@ fn is_module(line: &str) -> bool {
 /// Some types of a crate as a module, with what it takes from the others of them.
 pub fn shared(name: &str, types: &[&str], sources: &str) -> String {
     let taken = sources.lines().filter_map(taken);
-    let taken: String = taken.chain(types.iter().map(|one| declaration(one, sources))).collect();
+    let called = CALLED.iter().filter(|(of, _)| *of == name).map(|(_, head)| block(head, sources));
+    let taken: String = taken.chain(types.iter().map(|one| declaration(one, sources))).chain(called).collect();
     format!("pub mod {name} {{\n{OTHERS}{taken}}}\n")
 }
 
@@ -55,15 +59,27 @@ fn taken(line: &str) -> Option<String> {
     (!listed.is_empty()).then(|| format!("use {name}::{{{}}};\n", listed.join(", ")))
 }
 
+/// The block that a line begins, to the line with the brace that ends it.
+fn block(head: &str, sources: &str) -> String {
+    let mut ended = false;
+    let lines = sources.lines().skip_while(|line| *line != head);
+    let lines = lines.take_while(|line| !std::mem::replace(&mut ended, *line == "}"));
+    let text: String = lines.map(|line| format!("{line}\n")).collect();
+    assert!(!text.is_empty(), "the block {head} was not found");
+    without_contracts(&text)
+}
+
 /// The declaration of a type, to the line with the brace that ends it, or to the semicolon on its first line.
 fn declaration(name: &str, sources: &str) -> String {
     let begins = |line: &str| {
-        let rest = line.strip_prefix("pub enum ").or_else(|| line.strip_prefix("pub struct "));
+        let rest = ["pub enum ", "pub struct ", "pub type "].iter().find_map(|start| line.strip_prefix(start));
         rest.and_then(|rest| rest.strip_prefix(name)).is_some_and(|rest| rest.starts_with([' ', '(']))
     };
     let mut lines = sources.lines().skip_while(|line| !begins(line));
     let first = lines.next().unwrap_or_else(|| panic!("the type {name} was not found"));
-    let mut text = format!("{COPIED}{first}\n");
+    // A name for another type has what that type has.
+    let copied = if first.starts_with("pub type ") { "" } else { COPIED };
+    let mut text = format!("{copied}{first}\n");
     if !first.ends_with(';') {
         let rest = lines.by_ref().map(|line| format!("{line}\n"));
         let mut ended = false;
@@ -82,10 +98,7 @@ fn without_contracts(source: &str) -> String {
         if begins(&["requires ", "ensures "]) {
             assert!(is_closed(bare, '{', '}'), "a contract that goes over several lines: {line}");
         } else if begins(&["ghost "]) {
-            assert!(
-                bare.starts_with("ghost use ") && bare.ends_with(';'),
-                "a ghost item, or one over several lines: {line}"
-            );
+            assert!(bare.ends_with(';') && is_closed(&bare[..bare.len() - 1], '{', '}'), "a ghost item over several lines: {line}");
         } else if begins(&["#![tactic(", "#[tactic(", "#[cycle(", "#[derive("]) {
             assert!(is_closed(bare, '[', ']'), "an attribute that goes over several lines: {line}");
         } else {
