@@ -13,9 +13,6 @@ pub const SHARED: [(&str, &[&str]); 7] = [
     ("passes", &["Fault", "Turn", "Step", "Totals", "Refusal", "Answer"]),
 ];
 
-/// What of these types' functions it calls, by the first lines of the blocks.
-const CALLED: [(&str, &str); 2] = [("passes", "impl Refusal {"), ("passes", "impl From<Flaw> for Fault {")];
-
 /// What each type is made to have, in the place of what it derives itself.
 const COPIED: &str = "#[derive(Clone, Copy, Debug, PartialEq, Eq)]\n";
 
@@ -45,8 +42,7 @@ fn is_module(line: &str) -> bool {
 /// Some types of a crate as a module, with what it takes from the others of them.
 pub fn shared(name: &str, types: &[&str], sources: &str) -> String {
     let taken = sources.lines().filter_map(taken);
-    let called = CALLED.iter().filter(|(of, _)| *of == name).map(|(_, head)| block(head, sources));
-    let taken: String = taken.chain(types.iter().map(|one| declaration(one, sources))).chain(called).collect();
+    let taken: String = taken.chain(types.iter().map(|one| declaration(one, sources))).collect();
     format!("pub mod {name} {{\n{OTHERS}{taken}}}\n")
 }
 
@@ -57,16 +53,6 @@ fn taken(line: &str) -> Option<String> {
     let listed = listed.trim_start_matches('{').trim_end_matches('}').split(", ");
     let listed: Vec<&str> = listed.filter(|one| types.contains(one)).collect();
     (!listed.is_empty()).then(|| format!("use {name}::{{{}}};\n", listed.join(", ")))
-}
-
-/// The block that a line begins, to the line with the brace that ends it.
-fn block(head: &str, sources: &str) -> String {
-    let mut ended = false;
-    let lines = sources.lines().skip_while(|line| *line != head);
-    let lines = lines.take_while(|line| !std::mem::replace(&mut ended, *line == "}"));
-    let text: String = lines.map(|line| format!("{line}\n")).collect();
-    assert!(!text.is_empty(), "the block {head} was not found");
-    without_contracts(&text)
 }
 
 /// The declaration of a type, to the line with the brace that ends it, or to the semicolon on its first line.
@@ -98,7 +84,10 @@ fn without_contracts(source: &str) -> String {
         if begins(&["requires ", "ensures "]) {
             assert!(is_closed(bare, '{', '}'), "a contract that goes over several lines: {line}");
         } else if begins(&["ghost "]) {
-            assert!(bare.ends_with(';') && is_closed(&bare[..bare.len() - 1], '{', '}'), "a ghost item over several lines: {line}");
+            assert!(
+                bare.starts_with("ghost use ") && bare.ends_with(';'),
+                "a ghost item, or one over several lines: {line}"
+            );
         } else if begins(&["#![tactic(", "#[tactic(", "#[cycle(", "#[derive("]) {
             assert!(is_closed(bare, '[', ']'), "an attribute that goes over several lines: {line}");
         } else {
