@@ -243,11 +243,13 @@ pub extern "C" fn x9_book_enter(
             fill_entered(bytes, totals, first, answer);
             0
         }
-        Err(Refusal {
-            fault,
-            place,
-            offset,
-        }) => fill_not_entered(fault, place, offset, answer),
+        Err(
+            Refusal {
+                fault,
+                place,
+                offset,
+            },
+        ) => fill_not_entered(fault, place, offset, answer),
     }
 }
 
@@ -287,11 +289,13 @@ pub extern "C" fn x9_book_totals(book: &[u64], owner: u64, totals: &mut [u64; 9]
     ensures { Tallying book.now owner result totals.new }
 {
     match book::totals(book, owner) {
-        Ok(Tally {
-            entries,
-            figures,
-            net,
-        }) => {
+        Ok(
+            Tally {
+                entries,
+                figures,
+                net,
+            },
+        ) => {
             let net = net::bits_of(net);
             let sums = figures.sums;
             *totals = [

@@ -15,6 +15,7 @@ pub struct Entry {
 }
 
 // The image, and where the entry stands that is read next.
+// Stays: no `Iterator`, since document 01 names this form: a struct of a slice and a position, and thin functions over those on a slice and a number.
 #[derive(Clone, Copy)]
 pub struct DirectoryReader<'a> {
     pub image: &'a [u8],
