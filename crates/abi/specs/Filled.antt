@@ -1,25 +1,20 @@
 -- The numbers that the C calls fill in.
-use Rattle.std.specs.Prelude.{ℕ, cond, eqb, List, [], ◌∷◌, ◌++◌, Err}
+use Rattle.std.specs.Prelude.{ℕ, cond, eqb, List, [], ◌∷◌, ◌++◌, Ok, Err}
 use Rattle.text.specs.declared.character_set.CharacterSet.{CharacterSet}
 use Rattle.text.specs.declared.character_set.CharacterSet.TheVariants.{Ascii, Ebcdic}
 use Rattle.judge.specs.Alone.{Judged}
-use Rattle.picture.specs.declared.Found.{Found}
-use Rattle.tiff.specs.declared.Tags.{Tags}
+use Rattle.picture.specs.Picture.{Found}
+use Rattle.tiff.specs.Required.{Tags}
 use Rattle.passes.specs.Answers.{number_of, numbers_of}
 use Rattle.draft.specs.Outcomes.{Outcome}
 use Rattle.draft.specs.Outcomes.{Written, Refused}
 use Rattle.net.specs.Net.{bits_of}
 use Rattle.book_model.specs.Entering.{Entering}
-use Rattle.book_model.specs.declared.Finding.{Finding}
-use Rattle.book_model.specs.declared.Tally.{Tally}
-use Rattle.book_model.specs.declared.Change.{Change}
+use Rattle.book_model.specs.PlainList.{Finding, Tallying, Change}
 use Rattle.judge.specs.Alone as alone
 use Rattle.passes.specs.Answers as answers
 use Rattle.picture.specs.Picture as picture
 use Rattle.book_model.specs.Entering as entering
-use Rattle.book_model.specs.declared.Finding.TheVariants as finding
-use Rattle.book_model.specs.declared.Tally.TheVariants as tally
-use Rattle.book_model.specs.declared.Change.TheVariants as change
 use Rattle.figures.specs.Figures as figures
 use Rattle.tiff.specs.Judged as tiff
 
@@ -59,23 +54,23 @@ entering_numbers n (Err r) = numbers_of n (answers.Refused r.fault r.place r.off
 
 -- x9_book_find: number, entry number, file number, and the figures; "on the book's own refusals all behind the number is 0"
 abbrev pub finding_number : Finding → ℕ
-finding_number (finding.Found e) = 0
-finding_number (finding.Refused fault) = number_of fault
+finding_number (Ok e) = 0
+finding_number (Err fault) = number_of fault
 
 abbrev pub finding_numbers : Finding → List ℕ
-finding_numbers (finding.Found e) = 0 ∷ e.number ∷ e.file ∷ figures.numbers_of e.figures
-finding_numbers (finding.Refused fault) = number_of fault ∷ 0 ∷ 0 ∷ 0 ∷ 0 ∷ 0 ∷ 0 ∷ 0 ∷ 0 ∷ []
+finding_numbers (Ok e) = 0 ∷ e.number ∷ e.file ∷ figures.numbers_of e.figures
+finding_numbers (Err fault) = number_of fault ∷ 0 ∷ 0 ∷ 0 ∷ 0 ∷ 0 ∷ 0 ∷ 0 ∷ 0 ∷ []
 
 -- x9_book_totals: number, entries, the running totals, and the net position in two's complement
-abbrev pub tally_number : Tally → ℕ
-tally_number (tally.Totals n f position) = 0
-tally_number (tally.Refused fault) = number_of fault
+abbrev pub tally_number : Tallying → ℕ
+tally_number (Ok t) = 0
+tally_number (Err fault) = number_of fault
 
-abbrev pub tally_numbers : Tally → List ℕ
-tally_numbers (tally.Totals n f position) = 0 ∷ n ∷ figures.numbers_of f ++ (bits_of position ∷ [])
-tally_numbers (tally.Refused fault) = number_of fault ∷ 0 ∷ 0 ∷ 0 ∷ 0 ∷ 0 ∷ 0 ∷ 0 ∷ 0 ∷ []
+abbrev pub tally_numbers : Tallying → List ℕ
+tally_numbers (Ok t) = 0 ∷ t.entries ∷ figures.numbers_of t.figures ++ (bits_of t.net ∷ [])
+tally_numbers (Err fault) = number_of fault ∷ 0 ∷ 0 ∷ 0 ∷ 0 ∷ 0 ∷ 0 ∷ 0 ∷ 0 ∷ []
 
 -- x9_book_withdraw and x9_book_tidy: the number alone
 abbrev pub change_number : Change → ℕ
-change_number change.Done = 0
-change_number (change.Refused fault) = number_of fault
+change_number (Ok done) = 0
+change_number (Err fault) = number_of fault

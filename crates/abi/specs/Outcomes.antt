@@ -3,9 +3,9 @@ use Rattle.std.specs.Prelude.{ℕ, List, ◌≡◌, length}
 use Rattle.std.proofs.Common.{sym, ◌∙◌}
 use Rattle.text.specs.declared.character_set.CharacterSet.{CharacterSet}
 use Rattle.picture.specs.Picture.{picture_at, bytes_of}
-use Rattle.picture.specs.declared.Found.{Found}
+use Rattle.picture.specs.Picture.{Found}
 use Rattle.tiff.specs.Judged.{tags_of}
-use Rattle.tiff.specs.declared.Tags.{Tags}
+use Rattle.tiff.specs.Required.{Tags}
 use Rattle.passes.specs.Answers.{answer_number, numbers_of}
 use Rattle.passes.specs.Reading.{answer_of, table_of}
 use Rattle.passes.specs.Answers.{Answer}

@@ -12,9 +12,9 @@ ghost use Rattle.book_model.specs.Entering.{Entered, Refused as NotEntered};
 ghost use Rattle.abi.specs.Filled.{set_numbered, entering_numbers};
 ghost use Rattle.abi.specs.Outcomes.{Reading, Writing, Drafting, Picturing, Judging, Tagging, Booking, LookingUp, Tallying, Withdrawing, Tidying};
 
-use book_model::{Change, Entering, Finding, Tally};
+use book_model::Tally;
 use draft::Outcome;
-use passes::{Answer, Fault, Totals};
+use passes::{Answer, Fault, Refusal, Totals};
 pub use salvaging::x9_salvage;
 pub use slowly::x9_read_slowly;
 use text::CharacterSet;
@@ -113,12 +113,11 @@ pub extern "C" fn x9_draft(file: &[u8], draft: &mut [u64], answer: &mut [u64; 12
 pub extern "C" fn x9_picture(file: &[u8], offset: u64, place: &mut [u64; 4]) -> u64
     ensures { Picturing file.now offset result place.new }
 {
-    let found = picture::find_picture(file, offset as usize);
-    let number = found.number();
-    let field = found.field() as u64;
-    let start = found.start() as u64;
-    let size = found.size() as u64;
-    *place = [number, field, start, size];
+    let (number, field, start, size) = match picture::find_picture(file, offset as usize) {
+        Ok(part) => (0, 0, part.start, part.size),
+        Err(unfound) => (unfound.number(), unfound.field(), 0, 0),
+    };
+    *place = [number, field as u64, start as u64, size as u64];
     number
 }
 
@@ -163,9 +162,10 @@ pub extern "C" fn x9_record_in(body: &[u8], set: u64, answer: &mut [u64; 2]) -> 
 pub extern "C" fn x9_tiff(image: &[u8], answer: &mut [u64; 2]) -> u64
     ensures { Tagging image.now result answer.new }
 {
-    let tags = tiff::judge_tags(image);
-    let number = tags.number();
-    let tag = tags.tag();
+    let (number, tag) = match tiff::judge_tags(image) {
+        Ok(()) => (0, 0),
+        Err(fault) => (fault.number(), fault.tag()),
+    };
     *answer = [number, tag];
     number
 }
@@ -239,11 +239,15 @@ pub extern "C" fn x9_book_enter(
 {
     let bytes = file.len() as u64;
     match book::enter(file, number, owner, table, book, list) {
-        Entering::Entered(first, totals) => {
+        Ok((first, totals)) => {
             fill_entered(bytes, totals, first, answer);
             0
         }
-        Entering::Refused(fault, place, offset) => fill_not_entered(fault, place, offset, answer),
+        Err(Refusal {
+            fault,
+            place,
+            offset,
+        }) => fill_not_entered(fault, place, offset, answer),
     }
 }
 
@@ -253,7 +257,7 @@ pub extern "C" fn x9_book_find(book: &[u64], owner: u64, number: u64, found: &mu
     ensures { LookingUp book.now owner number result found.new }
 {
     match book::find(book, owner, number) {
-        Finding::Found(e) => {
+        Ok(e) => {
             let figures = e.figures;
             let sums = figures.sums;
             *found = [
@@ -269,7 +273,7 @@ pub extern "C" fn x9_book_find(book: &[u64], owner: u64, number: u64, found: &mu
             ];
             0
         }
-        Finding::Refused(fault) => {
+        Err(fault) => {
             let refused = fault.number();
             *found = [refused, 0, 0, 0, 0, 0, 0, 0, 0];
             refused
@@ -283,8 +287,12 @@ pub extern "C" fn x9_book_totals(book: &[u64], owner: u64, totals: &mut [u64; 9]
     ensures { Tallying book.now owner result totals.new }
 {
     match book::totals(book, owner) {
-        Tally::Totals(entries, figures, position) => {
-            let net = net::bits_of(position);
+        Ok(Tally {
+            entries,
+            figures,
+            net,
+        }) => {
+            let net = net::bits_of(net);
             let sums = figures.sums;
             *totals = [
                 0,
@@ -299,7 +307,7 @@ pub extern "C" fn x9_book_totals(book: &[u64], owner: u64, totals: &mut [u64; 9]
             ];
             0
         }
-        Tally::Refused(fault) => {
+        Err(fault) => {
             let refused = fault.number();
             *totals = [refused, 0, 0, 0, 0, 0, 0, 0, 0];
             refused
@@ -313,8 +321,8 @@ pub extern "C" fn x9_book_withdraw(book: &mut [u64], list: &[u64], owner: u64, n
     ensures { Withdrawing book.old list.now owner number result book.new }
 {
     match book::withdraw(book, list, owner, number) {
-        Change::Done => 0,
-        Change::Refused(fault) => fault.number(),
+        Ok(()) => 0,
+        Err(fault) => fault.number(),
     }
 }
 
@@ -324,7 +332,7 @@ pub extern "C" fn x9_book_tidy(book: &mut [u64], list: &[u64]) -> u64
     ensures { Tidying book.old list.now result book.new }
 {
     match book::tidy(book, list) {
-        Change::Done => 0,
-        Change::Refused(fault) => fault.number(),
+        Ok(()) => 0,
+        Err(fault) => fault.number(),
     }
 }

@@ -1,16 +1,15 @@
 -- One turn of the comparison, on plain lists, and the links of a 52 as the code finds them. Assumes nothing.
-use mathlib.Core.Path.{◌≡◌, refl, ap, sym, ◌∙◌}
+use mathlib.Core.Path.{◌≡◌, refl, ap, ◌∙◌}
 use mathlib.Core.Bool.{Bool, true, false, ◌&&◌, ◌||◌, not, cond}
 use mathlib.Core.List.{List, [], ◌∷◌}
 use Prim.Native.Nat.{ℕ, suc, ◌+◌, ◌≤◌, ◌<◌}
-use native.Mathlib.Omega.{arith}
 use lib.Dec.{eqb}
 use lib.ListN.{length, get_or, drop, drop_of_length-le}
 use Rattle.text.specs.declared.character_set.CharacterSet.{CharacterSet}
 use Rattle.text.proofs.Laws.{rest}
 use Rattle.standing.specs.History.{characters}
 use Rattle.standing.specs.declared.Standing.{Standing}
-use Rattle.agree.specs.Checks.{Check, check, first_failing}
+use Rattle.agree.specs.Checks.{Check, check}
 use Rattle.agree.specs.Links.{same, signed, view_links}
 
 and-false : (b : Bool) → b && false ≡ false

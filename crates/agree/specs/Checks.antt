@@ -1,5 +1,5 @@
 -- A list of checks, each with the field that it faults, and the first that fails.
-use Rattle.std.specs.Prelude.{ℕ, Bool, true, false, cond, ◌&&◌, List, [], ◌∷◌, leb}
+use Rattle.std.specs.Prelude.{ℕ, Bool, true, cond, ◌&&◌, List, [], ◌∷◌, leb}
 
 pub record Check : Type 0 where
   pub field : ℕ

@@ -10,8 +10,11 @@ use lib.Seq.{sets}
 use borrow.Author.Tests.{leb-true, le-leb, lt-leb}
 use Rattle.passes.specs.declared.Fault.{Fault}
 use Rattle.passes.specs.declared.Fault.TheVariants.{Room, Duplicate, Full, NoEntry, Range, Book}
+use Rattle.std.specs.Prelude.{Err}
 use Rattle.passes.specs.declared.Totals.{Totals}
-use Rattle.passes.specs.Answers.{Accepted}
+use Rattle.passes.specs.declared.Refusal.{Refusal}
+use Rattle.passes.proofs.Laws.{same-refusal}
+use Rattle.passes.specs.Answers.{Answer, Accepted}
 use Rattle.passes.specs.Reading.{surveyed, answer_of, table_of}
 use Rattle.figures.specs.declared.Figures.{Figures}
 use Rattle.figures.specs.Figures.{figures, plus, fits}
@@ -19,7 +22,7 @@ use Rattle.figures.proofs.Laws.{both}
 use Rattle.net.specs.Net.{within}
 use Rattle.letters.specs.Letters.{letters_of}
 use Rattle.letters.proofs.Theorem.{AcceptedLetters}
-use Rattle.book_model.specs.Entering.{Entered, Refused}
+use Rattle.book_model.specs.Entering.{Entering, Entered, Refused}
 use Rattle.book_model.specs.PlainList.{totals_of, position_of, is_taken, entries_on, keeps_range, has_room, entering}
 use Rattle.book_model.specs.Table.{is_owner, block_of, rows_claimed, last_number, running_totals, rows_used, free_rows, gaps, free_places, taken_by, own_of, free_in, is_book, is_list, placed, block_with, with_entries}
 use Rattle.book_model.specs.Calls.{enter_answer}
@@ -28,6 +31,13 @@ use Rattle.book_model.proofs.Steps.{head-totals, head-last, entries-count, entri
 use Rattle.book_gaps.proofs.Placing.{placed-before, placed-long}
 use Rattle.passes.specs.Answers as answers
 use Rattle.passes.specs.Rows as rows
+
+-- a refusal without an offset, as it is built
+pub as-built : (r : Refusal) (fault : Fault) (place : ℕ) → ◌≡◌ {A = Answer} (Err r) (answers.Refused fault place 0)
+    → ◌≡◌ {A = Entering} (Err r) (Refused fault place 0)
+as-built r fault place e =
+    let q = same-refusal r (record { fault = fault; place = place; offset = 0 }) e in
+    λ i. Err (record { fault = q.0 i; place = q.1 i; offset = q.2 i })
 
 -- what there is room for
 pub record HasRoom (file book list : List ℕ) (o : ℕ) (t : Totals) : Type 0 where
@@ -175,7 +185,7 @@ module _ (file table book list : List ℕ) (m o : ℕ) where
   unfolding enter_answer
   no-owner b w = rw (b, w)
 
-  pub refused : (fault : Fault) (place offset : ℕ) → is_book book && is_list list ≡ true → is_owner o ≡ true
-      → surveyed file ≡ answers.Refused fault place offset → Refused fault place offset ≡ enter_answer file m o (length table) book list
+  pub refused : (r : Refusal) → is_book book && is_list list ≡ true → is_owner o ≡ true
+      → surveyed file ≡ Err r → Err r ≡ enter_answer file m o (length table) book list
   unfolding enter_answer answer_of entering
-  refused fault place offset b w e = rw (b, w, e)
+  refused r b w e = rw (b, w, e)

@@ -1,4 +1,5 @@
 -- An entry that a look-up finds leaves the book: what that answers, and the book afterwards. Assumes nothing.
+use Rattle.std.specs.Prelude.{Ok, Err}
 use Prim.Native.Nat.{ℕ, zero, suc, ◌≤◌, ◌<◌}
 use native.Mathlib.Omega.{arith}
 use mathlib.Core.Bool.{true, false, ◌&&◌}
@@ -12,17 +13,14 @@ use Rattle.net.specs.Net.{within}
 use Rattle.passes.specs.declared.Fault.{Fault}
 use Rattle.passes.specs.declared.Fault.TheVariants.{Range, NoEntry, Book}
 use Rattle.book_model.specs.declared.Entry.{Entry}
-use Rattle.book_model.specs.declared.Finding.TheVariants.{Found}
-use Rattle.book_model.specs.declared.Change.TheVariants.{Done, Refused}
-use Rattle.book_model.specs.PlainList.{totals_of, position_of, finding, without, withdrawing}
+use Rattle.book_model.specs.PlainList.{Finding, totals_of, position_of, finding, without, withdrawing}
 use Rattle.book_model.specs.Table.{is_owner, block_of, rows_claimed, last_number, running_totals, entries_of, is_book, is_list, block_with, cleared, without_entry}
 use Rattle.book_model.specs.Calls.{withdraw_answer, tidy_answer}
 use Rattle.book_model.proofs.Laws.{sound, found_none}
-use Rattle.book_model.proofs.Steps.{head-totals, head-last, found-covered, found-less, not_found}
+use Rattle.book_model.proofs.Steps.{head-totals, head-last, found-covered, found-less}
 use Rattle.book_gaps.proofs.Placing.{cleared-before, cleared-long}
-use Rattle.book_model.specs.declared.Finding.TheVariants as findings
 
-module _ (book : List ℕ) (o n : ℕ) (e : Entry) (b : is_book book ≡ true) (w : is_owner o ≡ true) (q : finding (entries_of o book) n ≡ Found e) where
+module _ (book : List ℕ) (o n : ℕ) (e : Entry) (b : is_book book ≡ true) (w : is_owner o ≡ true) (q : finding (entries_of o book) n ≡ Ok e) where
   sums-are : running_totals o book ≡ totals_of (entries_of o book)
   sums-are = (sound book b).sums o w
 
@@ -33,11 +31,11 @@ module _ (book : List ℕ) (o n : ℕ) (e : Entry) (b : is_book book ≡ true) (
   left = ap (λ (f : Figures). minus f e.figures) sums-are ∙ found-less (entries_of o book) n e q
 
   -- the answer
-  pub out_of_range : within (position_of (minus (running_totals o book) e.figures)) ≡ false → Refused Range ≡ withdrawing (entries_of o book) n
+  pub out_of_range : within (position_of (minus (running_totals o book) e.figures)) ≡ false → Err Range ≡ withdrawing (entries_of o book) n
   unfolding withdrawing
   out_of_range r = rw (q, ap (λ (f : Figures). within (position_of f)) (sym left) ∙ r)
 
-  pub goes : within (position_of (minus (running_totals o book) e.figures)) ≡ true → Done ≡ withdrawing (entries_of o book) n
+  pub goes : within (position_of (minus (running_totals o book) e.figures)) ≡ true → Ok tt ≡ withdrawing (entries_of o book) n
   unfolding withdrawing
   goes r = rw (q, ap (λ (f : Figures). within (position_of f)) (sym left) ∙ r)
 
@@ -47,7 +45,7 @@ module _ (book : List ℕ) (o n : ℕ) (e : Entry) (b : is_book book ≡ true) (
   found-long = by-claims (rows_claimed book) refl
     where
       by-claims : (k : ℕ) → rows_claimed book ≡ k → 17 ≤ length book
-      by-claims zero z = absurd (not_found NoEntry e (sym (found_none o book 17 (rows_claimed book) n (omega arith)) ∙ q))
+      by-claims zero z = absurd (let none : ◌≡◌ {A = Finding} (Err NoEntry) (Ok e) = sym (found_none o book 17 (rows_claimed book) n (omega arith)) ∙ q in cc)
       by-claims (suc k) z = omega (arith, (sound book b).claims)
 
   -- the book with the row cleared, and then with the head lowered
@@ -79,11 +77,11 @@ module _ (book : List ℕ) (o n : ℕ) (e : Entry) (b : is_book book ≡ true) (
 
 -- a book or a list that is none, an owner that is none, an entry that is not found
 module _ (book list : List ℕ) (o n : ℕ) where
-  pub no-book : is_book book && is_list list ≡ false → Refused Book ≡ withdraw_answer book list o n
+  pub no-book : is_book book && is_list list ≡ false → Err Book ≡ withdraw_answer book list o n
   unfolding withdraw_answer
   no-book b = rw b
 
-  pub no-owner : is_book book && is_list list ≡ true → is_owner o ≡ false → Refused NoEntry ≡ withdraw_answer book list o n
+  pub no-owner : is_book book && is_list list ≡ true → is_owner o ≡ false → Err NoEntry ≡ withdraw_answer book list o n
   unfolding withdraw_answer
   no-owner b w = rw (b, w)
 
@@ -92,16 +90,16 @@ module _ (book list : List ℕ) (o n : ℕ) where
     unfolding withdraw_answer
     withdraws = rw (b, w)
 
-    pub not_there : (fault : Fault) → finding (entries_of o book) n ≡ findings.Refused fault → Refused fault ≡ withdraw_answer book list o n
+    pub not_there : (fault : Fault) → finding (entries_of o book) n ≡ Err fault → Err fault ≡ withdraw_answer book list o n
     unfolding withdraw_answer withdrawing
     not_there fault q = rw (b, w, q)
 
 -- a tidy-up
 module _ (book list : List ℕ) where
-  pub not-tidied : is_book book && is_list list ≡ false → Refused Book ≡ tidy_answer book list
+  pub not-tidied : is_book book && is_list list ≡ false → Err Book ≡ tidy_answer book list
   unfolding tidy_answer
   not-tidied b = rw b
 
-  pub tidies : is_book book && is_list list ≡ true → Done ≡ tidy_answer book list
+  pub tidies : is_book book && is_list list ≡ true → Ok tt ≡ tidy_answer book list
   unfolding tidy_answer
   tidies b = rw b

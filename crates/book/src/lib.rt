@@ -8,14 +8,14 @@ ghost use Rattle.passes.specs.Answers.{Accepted};
 ghost use Rattle.passes.specs.Reading.{surveyed};
 ghost use Rattle.passes.specs.Rows.{rows_of as rows_of_file};
 ghost use Rattle.book_model.specs.PlainList.{entries_on, finding, withdrawing};
-ghost use Rattle.book_model.specs.Table.{is_owner, entries_from, entries_of, is_book, is_list, placed};
-ghost use Rattle.book_model.specs.declared.Finding.TheVariants.{Found};
+ghost use Rattle.book_model.specs.Table.{is_owner, entries_from, rows_claimed, entries_of, is_book, is_list, placed};
+ghost use Rattle.frame.specs.Unless.{unless};
 ghost use Rattle.book_model.specs.Calls.{enter_answer, rows_after, book_after, list_after, find_answer, totals_answer, withdraw_answer, book_withdrawn, tidy_answer, book_tidied};
 
-use book_model::{Change, Entering, Entry, Finding, Tally};
+use book_model::{Change, Entering, Entry, Finding, Tally, Tallying};
 use figures::Figures;
-use frame::{Cursor, Frame};
-use passes::{Answer, Fault, Totals};
+use frame::{Cursor, Extent};
+use passes::{Fault, Refusal, Totals};
 use standing::Standing;
 use text::CharacterSet;
 
@@ -31,33 +31,29 @@ fn put_letters(file: &[u8], number: u64, owner: u64, last: u64, book: &mut [u64]
     let mut rows = claimed;
     let mut given = last;
     while at < file.len() {
-        match Cursor::at(at).frame(file) {
-            Frame::Cut => {
-                return;
-            }
-            Frame::Whole(start, size) => {
-                let kind = judge::type_of(set, frame::part_of(file, start, size));
-                s = standing::moved(set, file, s, kind, at);
-                if kind == 90 {
-                    let spot = book_gaps::free_row(book, place, rows);
-                    let sums = s.letter;
-                    let figures = Figures {
-                        bundles: s.opened,
-                        sums,
-                    };
-                    given += 1;
-                    let e = Entry {
-                        number: given,
-                        file: number,
-                        figures,
-                    };
-                    book_table::put_row(book, spot.at, owner, e);
-                    place = spot.at + 9;
-                    rows = spot.rows;
-                }
-                at = start + size;
-            }
+        let Some(Extent { start, size }) = Cursor::at(at).frame(file) else {
+            return;
+        };
+        let kind = judge::type_of(set, frame::part_of(file, start, size));
+        s = standing::moved(set, file, s, kind, at);
+        if kind == 90 {
+            let spot = book_gaps::free_row(book, place, rows);
+            let sums = s.letter;
+            let figures = Figures {
+                bundles: s.opened,
+                sums,
+            };
+            given += 1;
+            let e = Entry {
+                number: given,
+                file: number,
+                figures,
+            };
+            book_table::put_row(book, spot.at, owner, e);
+            place = spot.at + 9;
+            rows = spot.rows;
         }
+        at = start + size;
     }
 }
 
@@ -89,10 +85,10 @@ fn enter_accepted(
 {
     let needed = totals.records.0;
     if (table.len() as u64) / 7 < needed {
-        return Entering::Refused(Fault::Room, needed, 0);
+        return Err(Refusal::of_file(Fault::Room, needed));
     }
     if taken_list::is_taken(list, owner, number) {
-        return Entering::Refused(Fault::Duplicate, 0, 0);
+        return Err(Refusal::of_file(Fault::Duplicate, 0));
     }
     let letters = totals.letters;
     let sums = totals.sums;
@@ -101,13 +97,13 @@ fn enter_accepted(
         sums,
     };
     if !book_table::keeps_range(book, owner, added) {
-        return Entering::Refused(Fault::Range, 0, 0);
+        return Err(Refusal::of_file(Fault::Range, 0));
     }
     let claimed = book_table::number_at(book, 0);
     let used = book_gaps::rows_used(book, claimed);
     let free = book_table::rows_there(book) - used;
     if !(taken_list::has_place(list) & book_table::has_room(book, owner, free, letters, added)) {
-        return Entering::Refused(Fault::Full, 0, 0);
+        return Err(Refusal::of_file(Fault::Full, 0));
     }
     let last = book_table::number_at(book, book_table::block_of(owner));
     passes::fill(file, table);
@@ -120,7 +116,7 @@ fn enter_accepted(
         added,
     );
     taken_list::put_taken(list, owner, number);
-    Entering::Entered(last + 1, totals)
+    Ok((last + 1, totals))
 }
 
 // An owner enters a file under its own number for it: its letters join the book and its number the list, and its rows fill the row table, or nothing
@@ -140,64 +136,69 @@ pub fn enter(
     ensures own { LettersOwn file.now }
 {
     if !(book_table::is_book(book) & taken_list::is_list(list)) {
-        return Entering::Refused(Fault::Book, 0, 0);
+        return Err(Refusal::of_file(Fault::Book, 0));
     }
     if !book_table::is_owner(owner) {
-        return Entering::Refused(Fault::NoEntry, 0, 0);
+        return Err(Refusal::of_file(Fault::NoEntry, 0));
     }
-    match passes::survey(file) {
-        Answer::Refused(fault, place, offset) => Entering::Refused(fault, place, offset),
-        Answer::Accepted(totals) => {
-            enter_accepted(file, number, owner, totals, table, book, list)
-        }
-    }
+    let totals = passes::survey(file)?;
+    enter_accepted(file, number, owner, totals, table, book, list)
+}
+
+// What is asked of a call, one thing after the other: a fault unless a test holds.
+fn unless(holds: bool, fault: Fault) -> Change
+    ensures { result ≡ unless holds (Err fault) (Ok tt) }
+{
+    if holds { Ok(()) } else { Err(fault) }
+}
+
+// What a look-up and the totals ask: a book, and one of its owners. It gives how many rows the book claims.
+fn claimed_for(book: &[u64], owner: u64) -> Result<u64, Fault>
+    ensures { result ≡ unless (is_book book.now) (Err Fault.Book) (unless (is_owner owner) (Err Fault.NoEntry) (Ok (rows_claimed book.now))) }
+{
+    unless(book_table::is_book(book), Fault::Book)?;
+    unless(book_table::is_owner(owner), Fault::NoEntry)?;
+    Ok(book_table::number_at(book, 0))
 }
 
 // Looking up one of an owner's entries: any table gets its answer.
 pub fn find(book: &[u64], owner: u64, number: u64) -> Finding
     ensures { result ≡ find_answer book.now owner number }
 {
-    if !book_table::is_book(book) {
-        return Finding::Refused(Fault::Book);
-    }
-    if !book_table::is_owner(owner) {
-        return Finding::Refused(Fault::NoEntry);
-    }
-    book_table::first_numbered(book, owner, book_table::number_at(book, 0), number)
+    let claimed = claimed_for(book, owner)?;
+    book_table::first_numbered(book, owner, claimed, number)
 }
 
 // How many entries an owner has, and its running totals and net position, which stand in the head.
-pub fn totals(book: &[u64], owner: u64) -> Tally
+pub fn totals(book: &[u64], owner: u64) -> Tallying
     ensures { result ≡ totals_answer book.now owner }
 {
-    if !book_table::is_book(book) {
-        return Tally::Refused(Fault::Book);
-    }
-    if !book_table::is_owner(owner) {
-        return Tally::Refused(Fault::NoEntry);
-    }
-    let claimed = book_table::number_at(book, 0);
+    let claimed = claimed_for(book, owner)?;
     let entries = book_table::own_rows(book, owner, claimed);
     let block = book_table::block_of(owner);
     let figures = book_table::figures_at(book, block + 1);
-    let position = net::signed_of(book_table::number_at(book, block + 7));
-    Tally::Totals(entries, figures, position)
+    let net = net::signed_of(book_table::number_at(book, block + 7));
+    Ok(Tally {
+        entries,
+        figures,
+        net,
+    })
 }
 
 // The entry that a look-up of an owner's finds leaves the book, unless the net position would then lie beyond its bound.
 fn withdraw_found(book: &mut [u64], owner: u64, number: u64, e: Entry) -> Change
-    requires { (is_book book.old ≡ true) × (is_owner owner ≡ true) × (finding (entries_of owner book.old) number ≡ Found e) }
+    requires { (is_book book.old ≡ true) × (is_owner owner ≡ true) × (finding (entries_of owner book.old) number ≡ Ok e) }
     ensures answer { result ≡ withdrawing (entries_of owner book.old) number }
     ensures book { book.new ≡ book_withdrawn owner number book.old result }
 {
     let figures = e.figures;
     if !book_table::keeps_range_without(book, owner, figures) {
-        return Change::Refused(Fault::Range);
+        return Err(Fault::Range);
     }
     let claimed = book_table::number_at(book, 0);
     book_gaps::clear_row(book, owner, claimed, number);
     book_table::lower_head(book, owner, figures);
-    Change::Done
+    Ok(())
 }
 
 // An owner withdraws one of its entries: its row is free again, its number and its file number are not.
@@ -205,16 +206,14 @@ pub fn withdraw(book: &mut [u64], list: &[u64], owner: u64, number: u64) -> Chan
     ensures answer { result ≡ withdraw_answer book.old list.now owner number }
     ensures book { book.new ≡ book_withdrawn owner number book.old result }
 {
-    if !(book_table::is_book(book) & taken_list::is_list(list)) {
-        return Change::Refused(Fault::Book);
-    }
-    if !book_table::is_owner(owner) {
-        return Change::Refused(Fault::NoEntry);
-    }
-    match book_table::first_numbered(book, owner, book_table::number_at(book, 0), number) {
-        Finding::Refused(fault) => Change::Refused(fault),
-        Finding::Found(e) => withdraw_found(book, owner, number, e),
-    }
+    unless(
+        book_table::is_book(book) & taken_list::is_list(list),
+        Fault::Book,
+    )?;
+    unless(book_table::is_owner(owner), Fault::NoEntry)?;
+    let claimed = book_table::number_at(book, 0);
+    let e = book_table::first_numbered(book, owner, claimed, number)?;
+    withdraw_found(book, owner, number, e)
 }
 
 // Gaps are closed; order, numbers and figures stay.
@@ -222,9 +221,10 @@ pub fn tidy(book: &mut [u64], list: &[u64]) -> Change
     ensures answer { result ≡ tidy_answer book.old list.now }
     ensures book { book.new ≡ book_tidied book.old result }
 {
-    if !(book_table::is_book(book) & taken_list::is_list(list)) {
-        return Change::Refused(Fault::Book);
-    }
+    unless(
+        book_table::is_book(book) & taken_list::is_list(list),
+        Fault::Book,
+    )?;
     book_gaps::tidy(book);
-    Change::Done
+    Ok(())
 }

@@ -1,3 +1,4 @@
 pub mod Laws
 pub mod Closing
 pub mod Placing
+pub mod Stored

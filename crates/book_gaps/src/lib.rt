@@ -25,14 +25,10 @@ pub fn rows_used(book: &[u64], claimed: u64) -> u64
     ensures within { result ≤ claimed }
 {
     let mut count: u64 = 0;
-    let mut at: usize = 17;
-    let mut rows = claimed;
-    while 0 < rows {
-        if book_table::is_owner(book[at]) {
+    for k in 0..claimed as usize {
+        if book_table::is_owner(book[17 + 9 * k]) {
             count += 1;
         }
-        at += 9;
-        rows -= 1;
     }
     count
 }
@@ -42,16 +38,15 @@ pub fn free_row(book: &[u64], place: usize, claimed: u64) -> Spot
     requires { place + 9 * claimed ≤ length book.now }
     ensures { result ≡ spot_from book.now claimed place }
 {
-    let mut at = place;
-    let mut rows = claimed;
-    while 0 < rows {
-        rows -= 1;
+    for k in 0..claimed {
+        let at = place + 9 * (k as usize);
         if !book_table::is_owner(book[at]) {
+            let rows = claimed - 1 - k;
             return Spot { at, rows };
         }
-        at += 9;
     }
-    Spot { at, rows }
+    let at = place + 9 * (claimed as usize);
+    Spot { at, rows: 0 }
 }
 
 // The first of an owner's rows among so many that has the entry number, made a gap of zeros.
@@ -59,9 +54,8 @@ pub fn clear_row(book: &mut [u64], owner: u64, claimed: u64, number: u64)
     requires { claimed ≤ rows_there book.old }
     ensures { book.new ≡ cleared owner number book.old claimed 17 }
 {
-    let mut at: usize = 17;
-    let mut rows = claimed;
-    while 0 < rows {
+    for k in 0..claimed as usize {
+        let at = 17 + 9 * k;
         if (book[at] == owner) & (book[at + 1] == number) {
             let figures = Figures::none();
             let none = Entry {
@@ -72,8 +66,6 @@ pub fn clear_row(book: &mut [u64], owner: u64, claimed: u64, number: u64)
             book_table::put_row(book, at, 0, none);
             return;
         }
-        at += 9;
-        rows -= 1;
     }
 }
 
@@ -82,11 +74,7 @@ fn copy_row(book: &mut [u64], from: usize, to: usize)
     requires { (to ≤ from) × (from + 9 ≤ length book.old) }
     ensures { book.new ≡ sets book.old to (part from 9 book.old) }
 {
-    let mut i: usize = 0;
-    while i < 9 {
-        book[to + i] = book[from + i];
-        i += 1;
-    }
+    book.copy_within(from..from + 9, to);
 }
 
 // The rows of either owner among so many, closed up from the first row on in their order: how far they reach.
@@ -96,15 +84,12 @@ fn close_up(book: &mut [u64], claimed: u64) -> usize
     ensures rows { book.new ≡ sets book.old 17 (used_from book.old claimed 17) }
 {
     let mut to: usize = 17;
-    let mut at: usize = 17;
-    let mut rows = claimed;
-    while 0 < rows {
+    for k in 0..claimed as usize {
+        let at = 17 + 9 * k;
         if book_table::is_owner(book[at]) {
             copy_row(book, at, to);
             to += 9;
         }
-        at += 9;
-        rows -= 1;
     }
     to
 }
@@ -114,11 +99,7 @@ fn put_zeros(book: &mut [u64], from: usize, count: usize)
     requires { from + count ≤ length book.old }
     ensures { book.new ≡ sets book.old from (times count 0) }
 {
-    let mut i: usize = 0;
-    while i < count {
-        book[from + i] = 0;
-        i += 1;
-    }
+    book[from..from + count].fill(0);
 }
 
 // A book without gaps: its rows closed up, those that are freed zeros, and so many claimed as there are.

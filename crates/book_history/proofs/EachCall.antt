@@ -1,5 +1,6 @@
 -- What one act does on a book: an owner's call is answered on what is its own and what is free; a call of no owner is refused and leaves all as it is; a
 -- tidy-up leaves each owner's as it is. Assumes nothing.
+use Rattle.std.specs.Prelude.{Ok}
 use Prim.Native.Nat.{ℕ}
 use native.Mathlib.Omega.{arith}
 use mathlib.Core.Bool.{true, false}
@@ -9,10 +10,7 @@ use lib.ListN.{length}
 use Rattle.passes.specs.Reading.{answer_of}
 use Rattle.letters.specs.Letters.{letters_of}
 use Rattle.book_model.specs.Entering.{Entering}
-use Rattle.book_model.specs.declared.Change.{Change}
-use Rattle.book_model.specs.declared.Change.TheVariants.{Done}
-use Rattle.book_model.specs.declared.Tally.TheVariants.{Totals}
-use Rattle.book_model.specs.PlainList.{Own, position_of, withdrawing, after_entering, after_withdrawing}
+use Rattle.book_model.specs.PlainList.{Change, Own, position_of, withdrawing, after_entering, after_withdrawing}
 use Rattle.book_model.specs.Table.{is_owner, entries_of, own_of, free_rows, free_in, tidied}
 use Rattle.book_model.specs.Calls.{enter_answer, rows_after, book_after, list_after, find_answer, totals_answer, withdraw_answer, book_withdrawn, tidy_answer}
 use Rattle.book_model.proofs.Head.{as-there, still-book}
@@ -55,7 +53,7 @@ module _ (l : Lent) (good : Good l) where
     unfolding reply own_reply find_answer totals_answer
     answered (enter file m table) = ap (λ (a : Entering). entered a (rows_after file table a)) (entering-is file m table)
     answered (find n) = rw (good.book, who) (ap found (h.entries.found n))
-    answered totals = rw (good.book, who) (λ i. told (Totals (h.entries.many i) (h.entries.totals i) (position_of (h.entries.totals i))))
+    answered totals = rw (good.book, who) (λ i. told (Ok (record { entries = h.entries.many i; figures = h.entries.totals i; net = position_of (h.entries.totals i) })))
     answered (withdraw n) = ap changed (withdrawing-is n)
 
     pub called : (c : Call) → Called o l (call_then l o c) own (own_then own (free_in l.book l.list) c)
@@ -74,7 +72,7 @@ module _ (l : Lent) (good : Good l) where
         (after-change o who l good own h n (withdrawing own.entries n) (withdrawing-alike own.last (entries_of o l.book) own.entries n h.entries))
 
   -- a tidy-up
-  pub tidy-done : tidy_answer l.book l.list ≡ Done
+  pub tidy-done : tidy_answer l.book l.list ≡ Ok tt
   unfolding tidy_answer
   tidy-done = rw (good.book, good.list)
 

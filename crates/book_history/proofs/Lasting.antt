@@ -1,4 +1,5 @@
 -- What stays through a history on the plain book: what is found and not withdrawn, what is gone, what is taken. Assumes nothing.
+use Rattle.std.specs.Prelude.{Ok, Err}
 use Prim.Native.Nat.{ℕ, ◌≤◌}
 use native.Mathlib.Omega.{arith}
 use mathlib.Core.Bool.{Bool, true, false, ◌&&◌, ◌||◌, not, cond}
@@ -12,10 +13,7 @@ use Rattle.letters.specs.Letters.{letters_of}
 use Rattle.book_model.specs.declared.Entry.{Entry}
 use Rattle.book_model.specs.Entering.{Entering}
 use Rattle.book_model.specs.Entering.{Entered, Refused}
-use Rattle.book_model.specs.declared.Finding.TheVariants.{Found}
-use Rattle.book_model.specs.declared.Change.{Change}
-use Rattle.book_model.specs.declared.Change.TheVariants as changes
-use Rattle.book_model.specs.PlainList.{Own, Free, is_taken, entries_on, finding, withdrawing, after_entering, after_withdrawing}
+use Rattle.book_model.specs.PlainList.{Change, Own, Free, is_taken, entries_on, finding, withdrawing, after_entering, after_withdrawing}
 use Rattle.book_model.specs.Table.{is_owner}
 use Rattle.book_model.proofs.Laws.{of_either}
 use Rattle.book_model.proofs.Used.{never}
@@ -50,19 +48,19 @@ module _ (P : Own → Type 0) (b : PlainBook) (o : ℕ) where
       by-owner false nobody = rw (nobody-then b p c nobody) h
 
 -- what is found
-found-again : (es fs : List Entry) (m : ℕ) (e : Entry) → finding es m ≡ Found e → finding (es ++ fs) m ≡ Found e
+found-again : (es fs : List Entry) (m : ℕ) (e : Entry) → finding es m ≡ Ok e → finding (es ++ fs) m ≡ Ok e
 unfolding finding
 found-again [] fs m e h = absurd (let z : ◌≡◌ {A = ℕ} 0 1 = cc in omega arith)
 found-again (x ∷ es) fs m e h = by-test (eqb x.number m) (found-again es fs m e) h
   where
-    by-test : (t : Bool) → (finding es m ≡ Found e → finding (es ++ fs) m ≡ Found e) → cond t (Found x) (finding es m) ≡ Found e
-        → cond t (Found x) (finding (es ++ fs) m) ≡ Found e
+    by-test : (t : Bool) → (finding es m ≡ Ok e → finding (es ++ fs) m ≡ Ok e) → cond t (Ok x) (finding es m) ≡ Ok e
+        → cond t (Ok x) (finding (es ++ fs) m) ≡ Ok e
     by-test true again q = q
     by-test false again q = again q
 
 module _ (m : ℕ) (e : Entry) where
   abbrev Finds : Own → Type 0
-  Finds own = finding own.entries m ≡ Found e
+  Finds own = finding own.entries m ≡ Ok e
 
   call-finds : (o p : ℕ) (c : Call) → not (is_withdrawal o m (by p c)) ≡ true → eqb p o ≡ true → (own : Own) (free : Free) → Finds own → Finds (own_then own free c)
   unfolding own_then
@@ -81,8 +79,8 @@ module _ (m : ℕ) (e : Entry) where
       other false t q r = cc
 
       by_answer : (a : Change) → Finds (after_withdrawing own k a)
-      by_answer (changes.Refused fault) = h
-      by_answer changes.Done = others-still k m (other (eqb p o) (eqb k m) kept mine) own.entries ∙ h
+      by_answer (Err fault) = h
+      by_answer (Ok done) = others-still k m (other (eqb p o) (eqb k m) kept mine) own.entries ∙ h
 
   pub lasts : (more : History) (b : PlainBook) (o : ℕ) → is_owner o ≡ true → Finds (list_of o b) → never_withdrawn o m more ≡ true
       → Finds (list_of o (plain_after b more))
@@ -112,8 +110,8 @@ module _ (m : ℕ) where
   call-gone (withdraw k) own free h = by_answer (withdrawing own.entries k)
     where
       by_answer : (a : Change) → Gone (after_withdrawing own k a)
-      by_answer (changes.Refused fault) = h
-      by_answer changes.Done = (h.0, absent-still k m own.entries h.1)
+      by_answer (Err fault) = h
+      by_answer (Ok done) = (h.0, absent-still k m own.entries h.1)
 
   taken-again : (ns ks : List ℕ) → is_taken m ns ≡ true → is_taken m (ns ++ ks) ≡ true
   unfolding is_taken
@@ -139,8 +137,8 @@ module _ (m : ℕ) where
   call-takes (withdraw k) own free h = by_answer (withdrawing own.entries k)
     where
       by_answer : (a : Change) → Takes (after_withdrawing own k a)
-      by_answer (changes.Refused fault) = h
-      by_answer changes.Done = h
+      by_answer (Err fault) = h
+      by_answer (Ok done) = h
 
 -- what every call keeps, every history does
 always : (P : Own → Type 0) → ((c : Call) (own : Own) (free : Free) → P own → P (own_then own free c)) → (more : History) (b : PlainBook) (o : ℕ)

@@ -1,5 +1,6 @@
 -- Two lists with the same entries in whatever order, each number given once and none above the last: they answer alike, and do so with the same entries more
 -- or the same entry less. Assumes nothing.
+use Rattle.std.specs.Prelude.{Ok}
 use Prim.Native.Nat.{ℕ, suc, ◌+◌, ◌≤◌, ◌<◌}
 use native.Mathlib.Omega.{arith}
 use mathlib.Core.Bool.{Bool, true, false, cond}
@@ -11,7 +12,6 @@ use borrow.Author.Tests.{leb-true, leb-false, eqb-true, ne_eqb}
 use Rattle.figures.specs.declared.Figures.{Figures}
 use Rattle.figures.specs.Figures.{plus, all_of}
 use Rattle.book_model.specs.declared.Entry.{Entry}
-use Rattle.book_model.specs.declared.Finding.TheVariants.{Found}
 use Rattle.book_model.specs.PlainList.{totals_of, entries_on, finding, without}
 use Rattle.book_model.proofs.Merged.{Merged, behind, flipped, merged-many, merged-totals, Absent, merged-found, merged-without}
 use Rattle.book_model.proofs.Without.{absent-still, others-still, without-across, found-many, found-totals, plus-cancel}
@@ -109,8 +109,8 @@ module _ (last : ℕ) (es fs : List Entry) (s : Matched last es fs) where
           let h = leb-false n last e in
           merged-found n merged (s.first.above n h) ∙ sym (merged-found n plain (s.second.above n h))
 
-  module _ (n : ℕ) (x : Entry) (there : finding es n ≡ Found x) where
-    there-too : finding fs n ≡ Found x
+  module _ (n : ℕ) (x : Entry) (there : finding es n ≡ Ok x) where
+    there-too : finding fs n ≡ Ok x
     there-too = sym (s.found n) ∙ there
 
     pub totals-fewer : totals_of (without n es) ≡ totals_of (without n fs)

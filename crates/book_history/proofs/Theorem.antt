@@ -1,4 +1,5 @@
 -- After any sequence of acts a book grown from an empty one answers as two plain lists of entries would, one for each owner. Assumes nothing.
+use Rattle.std.specs.Prelude.{Ok}
 use Prim.Native.Nat.{ℕ, ◌≤◌}
 use native.Mathlib.Omega.{arith}
 use mathlib.Core.Bool.{Bool, true, false}
@@ -7,7 +8,6 @@ use mathlib.Core.List.{List, [], ◌∷◌}
 use lib.Dec.{leb}
 use borrow.Author.Tests.{leb-true, leb-false, eq-eqb}
 use Rattle.book_model.specs.declared.Entry.{Entry}
-use Rattle.book_model.specs.declared.Change.TheVariants.{Done}
 use Rattle.book_model.specs.PlainList.{withdrawing}
 use Rattle.book_model.specs.Table.{is_owner}
 use Rattle.book_model.proofs.Merged.{Absent}
@@ -38,14 +38,14 @@ given last es m s t = by-test (leb m last) refl
         absurd (let z : ◌≡◌ {A = ℕ} 0 1 = cc in omega arith)
 
 module _ (o m : ℕ) (who : is_owner o ≡ true) where
-  gone-now : (l : Lent) (b : PlainBook) → Both l b → withdrawing (list_of o b).entries m ≡ Done → Gone m (list_of o (plain_then b (by o (withdraw m))))
+  gone-now : (l : Lent) (b : PlainBook) → Both l b → withdrawing (list_of o b).entries m ≡ Ok tt → Gone m (list_of o (plain_then b (by o (withdraw m))))
   unfolding own_then
   gone-now l b s done =
       let numbered = (holds_of l b s o who).entries.second in
       let now : list_of o (plain_then b (by o (withdraw m))) ≡ own_then (list_of o b) b.free (withdraw m) = list-then b o (withdraw m) o who ∙ rw (eq-eqb o o refl) in
       rw (now, done) (given (list_of o b).last (list_of o b).entries m numbered (there (list_of o b).entries m done), numbered.once m)
 
-  withdrawn-absent : (n k : ℕ) (history more : History) → withdrawing (list_of o (plain_after (empty_book n k) history)).entries m ≡ Done
+  withdrawn-absent : (n k : ℕ) (history more : History) → withdrawing (list_of o (plain_after (empty_book n k) history)).entries m ≡ Ok tt
       → Absent m (list_of o (plain_after (plain_then (plain_after (empty_book n k) history) (by o (withdraw m))) more)).entries
   withdrawn-absent n k history more done =
       let b = plain_after (empty_book n k) history in

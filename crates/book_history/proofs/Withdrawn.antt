@@ -1,4 +1,5 @@
 -- Withdrawing an entry: it is answered on the owner's own list, and what it leaves is that list without the entry. Assumes nothing.
+use Rattle.std.specs.Prelude.{Ok, Err}
 use Prim.Native.Nat.{ℕ, suc, ◌+◌, ◌-◌}
 use native.Mathlib.Omega.{arith}
 use mathlib.Core.Bool.{Bool, true, false}
@@ -12,11 +13,7 @@ use Rattle.passes.specs.declared.Fault.TheVariants.{Range}
 use Rattle.figures.specs.declared.Figures.{Figures}
 use Rattle.net.specs.Net.{within}
 use Rattle.book_model.specs.declared.Entry.{Entry}
-use Rattle.book_model.specs.declared.Finding.{Finding}
-use Rattle.book_model.specs.declared.Finding.TheVariants as findings
-use Rattle.book_model.specs.declared.Change.{Change}
-use Rattle.book_model.specs.declared.Change.TheVariants.{Done, Refused}
-use Rattle.book_model.specs.PlainList.{Own, totals_of, position_of, finding, without, of_finding, withdrawing, after_withdrawing}
+use Rattle.book_model.specs.PlainList.{Finding, Change, Own, totals_of, position_of, finding, without, of_finding, withdrawing, after_withdrawing}
 use Rattle.book_model.specs.Table.{is_owner, entries_of, free_rows, free_places, free_in, without_entry}
 use Rattle.book_model.specs.Calls.{book_withdrawn}
 use Rattle.book_model.proofs.Laws.{sound}
@@ -34,25 +31,25 @@ unfolding withdrawing
 withdrawing-alike last es fs n s = by-finding (finding es n) refl
   where
     by-finding : (a : Finding) → finding es n ≡ a → withdrawing es n ≡ withdrawing fs n
-    by-finding (findings.Found x) e =
-        rw (e, sym (s.found n) ∙ e) (ap (λ (f : Figures). unless (within (position_of f)) (Refused Range) Done) (totals-fewer last es fs s n x e))
-    by-finding (findings.Refused fault) e = rw (e, sym (s.found n) ∙ e)
+    by-finding (Ok x) e =
+        rw (e, sym (s.found n) ∙ e) (ap (λ (f : Figures). unless (within (position_of f)) (Err Range) (Ok tt)) (totals-fewer last es fs s n x e))
+    by-finding (Err fault) e = rw (e, sym (s.found n) ∙ e)
 
 -- what is withdrawn was there, and the rest keeps the net position within its bound
 pub record There (es : List Entry) (n : ℕ) : Type 0 where
   pub entry : Entry
-  pub is : finding es n ≡ findings.Found entry
+  pub is : finding es n ≡ Ok entry
   pub inside : within (position_of (totals_of (without n es))) ≡ true
 
-pub there : (es : List Entry) (n : ℕ) → withdrawing es n ≡ Done → There es n
+pub there : (es : List Entry) (n : ℕ) → withdrawing es n ≡ Ok tt → There es n
 unfolding withdrawing
 there es n e = by-finding (finding es n) refl (within (position_of (totals_of (without n es)))) refl e
   where
     by-finding : (a : Finding) → finding es n ≡ a → (t : Bool) → within (position_of (totals_of (without n es))) ≡ t
-        → of_finding a (unless t (Refused Range) Done) ≡ Done → There es n
-    by-finding (findings.Found x) q true r h = record { entry = x; is = q; inside = r }
-    by-finding (findings.Found x) q false r h = absurd (let z : ◌≡◌ {A = ℕ} 0 1 = cc in omega arith)
-    by-finding (findings.Refused fault) q t r h = absurd (let z : ◌≡◌ {A = ℕ} 0 1 = cc in omega arith)
+        → of_finding a (unless t (Err Range) (Ok tt)) ≡ Ok tt → There es n
+    by-finding (Ok x) q true r h = record { entry = x; is = q; inside = r }
+    by-finding (Ok x) q false r h = absurd (let z : ◌≡◌ {A = ℕ} 0 1 = cc in omega arith)
+    by-finding (Err fault) q t r h = absurd (let z : ◌≡◌ {A = ℕ} 0 1 = cc in omega arith)
 
 module _ (o : ℕ) (who : is_owner o ≡ true) (l : Lent) (good : Good l) (own : Own) (h : Holds o l own) (n : ℕ) where
   module _ (t : There (entries_of o l.book) n) where
@@ -103,5 +100,5 @@ module _ (o : ℕ) (who : is_owner o ≡ true) (l : Lent) (good : Good l) (own :
 
   pub after-change : (a : Change) → withdrawing (entries_of o l.book) n ≡ a
       → Called o l (record { book = book_withdrawn o n l.book a; list = l.list }) own (after_withdrawing own n a)
-  after-change Done e = withdraws (there (entries_of o l.book) n e)
-  after-change (Refused fault) e = unchanged o l own good h
+  after-change (Ok done) e = withdraws (there (entries_of o l.book) n e)
+  after-change (Err fault) e = unchanged o l own good h

@@ -1,6 +1,6 @@
 -- "After any sequence of calls the book answers as a plain list of entries would" (request 6, reading 56): as two plain lists, one for each owner, and what is
 -- free for both (request 8, reading 57), with withdrawals and tidy-ups (request 10, reading 59).
-use Rattle.std.specs.Prelude.{ℕ, ◌+◌, ◌-◌, ◌/◌, ◌≤◌, Bool, true, false, ◌&&◌, not, cond, List, [], ◌∷◌, ◌≡◌, eqb, length}
+use Rattle.std.specs.Prelude.{ℕ, ◌+◌, ◌-◌, ◌/◌, ◌≤◌, Bool, true, false, ◌&&◌, not, cond, List, [], ◌∷◌, ◌≡◌, eqb, length, Ok, Err}
 use Rattle.copying.specs.Times.{times}
 use Rattle.passes.specs.declared.Fault.TheVariants.{NoEntry}
 use Rattle.passes.specs.Reading.{answer_of}
@@ -8,17 +8,9 @@ use Rattle.letters.specs.Letters.{letters_of}
 use Rattle.book_model.specs.declared.Entry.{Entry}
 use Rattle.book_model.specs.Entering.{Entering}
 use Rattle.book_model.specs.Entering.{Refused}
-use Rattle.book_model.specs.declared.Finding.{Finding}
-use Rattle.book_model.specs.declared.Finding.TheVariants.{Found}
-use Rattle.book_model.specs.declared.Tally.{Tally}
-use Rattle.book_model.specs.declared.Change.{Change}
-use Rattle.book_model.specs.declared.Change.TheVariants.{Done}
-use Rattle.book_model.specs.PlainList.{Own, Free, is_taken, entering, after_entering, finding, withdrawing, after_withdrawing, tally}
+use Rattle.book_model.specs.PlainList.{Finding, Tallying, Change, Own, Free, is_taken, entering, after_entering, finding, withdrawing, after_withdrawing, tally}
 use Rattle.book_model.specs.Table.{is_owner}
 use Rattle.book_model.specs.Calls.{enter_answer, rows_after, book_after, list_after, find_answer, totals_answer, withdraw_answer, book_withdrawn, tidy_answer, book_tidied}
-use Rattle.book_model.specs.declared.Finding.TheVariants as findings
-use Rattle.book_model.specs.declared.Tally.TheVariants as tallies
-use Rattle.book_model.specs.declared.Change.TheVariants as changes
 
 -- what an owner asks: a file with the owner's number for it and the row table that is lent; an entry number; the totals; that an entry be withdrawn
 pub data Call : Type 0 where
@@ -31,7 +23,7 @@ pub data Call : Type 0 where
 pub data Reply : Type 0 where
   entered : Entering → List ℕ → Reply
   found : Finding → Reply
-  told : Tally → Reply
+  told : Tallying → Reply
   changed : Change → Reply
 
 -- a history: calls one after the other, each with the number of its owner, and tidy-ups, which are nobody's
@@ -119,13 +111,13 @@ free_then free before after =
 -- "any call with an owner other than 1 or 2" is NOENTRY
 unfoldable pub no_owner : Call → Reply
 no_owner (enter file m table) = entered (Refused NoEntry 0 0) table
-no_owner (find n) = found (findings.Refused NoEntry)
-no_owner totals = told (tallies.Refused NoEntry)
-no_owner (withdraw n) = changed (changes.Refused NoEntry)
+no_owner (find n) = found (Err NoEntry)
+no_owner totals = told (Err NoEntry)
+no_owner (withdraw n) = changed (Err NoEntry)
 
 unfoldable pub plain_reply : PlainBook → Act → Reply
 plain_reply b (by o c) = cond (is_owner o) (own_reply (list_of o b) b.free c) (no_owner c)
-plain_reply b tidy = changed Done
+plain_reply b tidy = changed (Ok tt)
 
 unfoldable pub plain_then : PlainBook → Act → PlainBook
 plain_then b (by o c) =
@@ -175,15 +167,15 @@ pub record AsAPlainList (n k : ℕ) (history : History) : Type 0 where
   -- "every answer and everything found is what the list gives"
   pub replies-alike : replies (zeros n k) history ≡ plain_replies (empty_book n k) history
   -- "later files never alter them": what an owner finds once it finds for ever, unless it withdraws it itself
-  pub lasting : (more : History) (o m : ℕ) (e : Entry) → is_owner o ≡ true → finding (list_of o (plain_after (empty_book n k) history)).entries m ≡ Found e
-      → never_withdrawn o m more ≡ true → finding (list_of o (plain_after (plain_after (empty_book n k) history) more)).entries m ≡ Found e
+  pub lasting : (more : History) (o m : ℕ) (e : Entry) → is_owner o ≡ true → finding (list_of o (plain_after (empty_book n k) history)).entries m ≡ Ok e
+      → never_withdrawn o m more ≡ true → finding (list_of o (plain_after (plain_after (empty_book n k) history) more)).entries m ≡ Ok e
   -- "Entry numbers are not given out a second time": a number that was given and is not found now is never found again
   pub gone : (more : History) (o m : ℕ) → m ≤ (list_of o (plain_after (empty_book n k) history)).last
-      → finding (list_of o (plain_after (empty_book n k) history)).entries m ≡ findings.Refused NoEntry
-      → finding (list_of o (plain_after (plain_after (empty_book n k) history) more)).entries m ≡ findings.Refused NoEntry
+      → finding (list_of o (plain_after (empty_book n k) history)).entries m ≡ Err NoEntry
+      → finding (list_of o (plain_after (plain_after (empty_book n k) history) more)).entries m ≡ Err NoEntry
   -- "A withdrawn entry reads NOENTRY", straight behind its withdrawal and after whatever comes then
-  pub withdrawn : (more : History) (o m : ℕ) → is_owner o ≡ true → withdrawing (list_of o (plain_after (empty_book n k) history)).entries m ≡ Done
-      → finding (list_of o (plain_after (plain_then (plain_after (empty_book n k) history) (by o (withdraw m))) more)).entries m ≡ findings.Refused NoEntry
+  pub withdrawn : (more : History) (o m : ℕ) → is_owner o ≡ true → withdrawing (list_of o (plain_after (empty_book n k) history)).entries m ≡ Ok tt
+      → finding (list_of o (plain_after (plain_then (plain_after (empty_book n k) history) (by o (withdraw m))) more)).entries m ≡ Err NoEntry
   -- "its file number stays taken"
   pub stays-taken : (more : History) (o m : ℕ) → is_taken m (list_of o (plain_after (empty_book n k) history)).taken ≡ true
       → is_taken m (list_of o (plain_after (plain_after (empty_book n k) history) more)).taken ≡ true

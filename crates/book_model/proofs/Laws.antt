@@ -1,4 +1,5 @@
 -- Rows of a book one behind the other, and what each call makes of one row and those behind it. Assumes nothing.
+use Rattle.std.specs.Prelude.{Ok, Err}
 use Prim.Native.Nat.{ℕ, zero, suc, ◌+◌, ◌-◌, ◌*◌, ◌≤◌, ◌<◌}
 use native.Mathlib.Numerals.{sub-one}
 use native.Mathlib.Omega.{arith}
@@ -14,7 +15,6 @@ use Rattle.figures.proofs.Laws.{both, same_true, same_step, none-plus}
 use Rattle.net.specs.Net.{is_net}
 use Rattle.passes.specs.declared.Fault.TheVariants.{NoEntry}
 use Rattle.book_model.specs.declared.Entry.{Entry}
-use Rattle.book_model.specs.declared.Finding.TheVariants.{Found, Refused}
 use Rattle.book_model.specs.PlainList.{totals_of, position_of, finding}
 use Rattle.book_model.specs.Table.{is_owner, block_of, rows_claimed, running_totals, net_number, rows_there, entry_at, own_figures_at, entries_from, entries_of, adds_up, is_book}
 
@@ -32,6 +32,16 @@ module _ (book : List ℕ) (claimed n at : ℕ) (h : claimed ≤ rows_there book
   pub row_here : at < length book
   row_here = omega (arith, row_within)
 
+-- the walk in a loop over the rows claimed, at its row k
+pub walk-at : (claimed k : ℕ) → k ≤ claimed → Walk claimed (claimed - k) (17 + 9 * k)
+walk-at claimed k h = (omega arith, omega arith)
+
+pub fewer : (claimed k : ℕ) → claimed - k - 1 ≡ claimed - (k + 1)
+fewer claimed k = omega arith
+
+pub further : (at k : ℕ) → at + 9 * k + 9 ≡ at + 9 * (k + 1)
+further at k = omega arith
+
 -- where an owner's numbers stand: behind the rows claimed, and before the rows
 pub block_within : (o : ℕ) → (1 ≤ block_of o) × (block_of o ≤ 9)
 unfolding block_of
@@ -43,7 +53,7 @@ block_within o = by-owner (eqb o 2)
 
 -- an entry that is the owner's, or is not, before others
 module _ (e : Entry) (es : List Entry) where
-  found-if : (t : Bool) (m : ℕ) → finding (cond t (e ∷ es) es) m ≡ cond (t && eqb e.number m) (Found e) (finding es m)
+  found-if : (t : Bool) (m : ℕ) → finding (cond t (e ∷ es) es) m ≡ cond (t && eqb e.number m) (Ok e) (finding es m)
   unfolding finding
   found-if true m = refl
   found-if false m = refl
@@ -72,18 +82,18 @@ module _ (o : ℕ) (book : List ℕ) (at : ℕ) where
 
     module _ (m : ℕ) where
       -- an entry number
-      pub found_none : n ≤ 0 → finding (entries_from o book n at) m ≡ Refused NoEntry
+      pub found_none : n ≤ 0 → finding (entries_from o book n at) m ≡ Err NoEntry
       unfolding finding
       found_none h = rw (rows_none n h)
 
       found-more : 0 < n
           → finding (entries_from o book n at) m
-          ≡ cond (eqb (get_or book at 0) o && eqb (get_or book (at + 1) 0) m) (Found (entry_at book at)) (finding (entries_from o book (n - 1) (at + 9)) m)
+          ≡ cond (eqb (get_or book at 0) o && eqb (get_or book (at + 1) 0) m) (Ok (entry_at book at)) (finding (entries_from o book (n - 1) (at + 9)) m)
       unfolding entry_at
       found-more h = rw (rows_more n h) (found-if (entry_at book at) (entries_from o book (n - 1) (at + 9)) (eqb (get_or book at 0) o) m)
 
       pub found_here : 0 < n → eqb (get_or book at 0) o && eqb (get_or book (at + 1) 0) m ≡ true
-          → finding (entries_from o book n at) m ≡ Found (entry_at book at)
+          → finding (entries_from o book n at) m ≡ Ok (entry_at book at)
       found_here h e = found-more h ∙ rw e
 
       pub found-behind : 0 < n → eqb (get_or book at 0) o && eqb (get_or book (at + 1) 0) m ≡ false

@@ -1,4 +1,5 @@
 -- Two lists of entries merged into one, each in its own order, and what is looked up, taken out and summed in the one. Assumes nothing.
+use Rattle.std.specs.Prelude.{Ok, Err}
 use Prim.Native.Nat.{ℕ, ◌+◌}
 use native.Mathlib.Omega.{arith}
 use mathlib.Core.Bool.{Bool, true, false, cond}
@@ -12,7 +13,6 @@ use Rattle.figures.specs.Figures.{figures, plus}
 use Rattle.figures.proofs.Laws.{none-plus, plus-apart}
 use Rattle.passes.specs.declared.Fault.TheVariants.{NoEntry}
 use Rattle.book_model.specs.declared.Entry.{Entry}
-use Rattle.book_model.specs.declared.Finding.TheVariants.{Found, Refused}
 use Rattle.book_model.specs.PlainList.{totals_of, finding, without}
 
 pub data Merged : List Entry → List Entry → List Entry → Type 0 where
@@ -65,7 +65,7 @@ merged-totals (right {e = e} {es = es} {fs = fs} m) = ap (plus e.figures) (merge
 
 -- a number that no entry has
 abbrev pub Absent : ℕ → List Entry → Type 0
-Absent n es = finding es n ≡ Refused NoEntry
+Absent n es = finding es n ≡ Err NoEntry
 
 pub record NotHere (n : ℕ) (e : Entry) (es : List Entry) : Type 0 where
   pub here : eqb e.number n ≡ false
@@ -75,7 +75,7 @@ pub not-here : (n : ℕ) (e : Entry) (es : List Entry) → Absent n (e ∷ es) �
 unfolding finding
 not-here n e es a = by-test (eqb e.number n) refl a
   where
-    by-test : (t : Bool) → eqb e.number n ≡ t → cond t (Found e) (finding es n) ≡ Refused NoEntry → NotHere n e es
+    by-test : (t : Bool) → eqb e.number n ≡ t → cond t (Ok e) (finding es n) ≡ Err NoEntry → NotHere n e es
     by-test true q h = absurd (let z : ◌≡◌ {A = ℕ} 0 1 = cc in omega arith)
     by-test false q h = record { here = q; behind = h }
 

@@ -1,24 +1,20 @@
 -- The head of a book beside its rows, and what an entry that leaves a plain list takes from its sums. Assumes nothing.
+use Rattle.std.specs.Prelude.{Ok}
 use Prim.Native.Nat.{ℕ, suc, ◌+◌, ◌<◌}
 use native.Mathlib.Omega.{arith}
-use mathlib.Core.Bool.{Bool, true, false, cond}
+use mathlib.Core.Bool.{true}
 use mathlib.Core.List.{List, [], ◌∷◌}
 use mathlib.Core.Path.{◌≡◌, refl, sym, ap, ◌∙◌}
-use lib.Dec.{eqb}
 use lib.ListN.{length, get_or, set}
 use lib.Seq.{sets, get_or-set_other}
 use Rattle.figures.specs.declared.Figures.{Figures}
-use Rattle.figures.specs.Figures.{figures, plus, minus, same, covers, all_of, figures_at}
+use Rattle.figures.specs.Figures.{plus, minus, same, covers, all_of, figures_at}
 use Rattle.figures.proofs.Laws.{both, same_true, same_refl, same_step}
-use Rattle.passes.specs.declared.Fault.{Fault}
-use Rattle.passes.specs.declared.Fault.TheVariants.{NoEntry}
-use Rattle.measure.specs.Measures.{sums}
 use Rattle.book_model.specs.declared.Entry.{Entry}
-use Rattle.book_model.specs.declared.Finding.{Finding}
-use Rattle.book_model.specs.declared.Finding.TheVariants.{Found, Refused}
 use Rattle.book_model.specs.PlainList.{totals_of, entries_on, finding, without}
 use Rattle.book_model.specs.Table.{block_of, last_number, running_totals}
 use Rattle.book_model.proofs.Laws.{block_within}
+use Rattle.book_model.proofs.Without.{found-totals}
 
 -- numbers before a run of stores
 pub kept : (l : List ℕ) (i : ℕ) (vs : List ℕ) (j : ℕ) → j < i → get_or (sets l i vs) j 0 ≡ get_or l j 0
@@ -53,46 +49,13 @@ unfolding entries_on totals_of all_of
 entries-sum last m [] = refl
 entries-sum last m (f ∷ fs) = ap (plus f) (entries-sum (last + 1) m fs)
 
--- figures may be added in either order
-plus-swap : (a b c : Figures) → plus a (plus b c) ≡ plus b (plus a c)
-plus-swap a b c =
-    let swap : (x y z : ℕ) → x + (y + z) ≡ y + (x + z) = λ x y z. omega arith in
-    λ i.
-    figures (swap a.bundles b.bundles c.bundles i)
-    (sums (swap a.sums.debits.0 b.sums.debits.0 c.sums.debits.0 i)
-    (swap a.sums.debit.0 b.sums.debit.0 c.sums.debit.0 i)
-    (swap a.sums.credits.0 b.sums.credits.0 c.sums.credits.0 i)
-    (swap a.sums.credit.0 b.sums.credit.0 c.sums.credit.0 i)
-    (swap a.sums.views.0 b.sums.views.0 c.sums.views.0 i))
-
--- the sum of all is the entry found and the sum of the others
-abbrev entry_in : Entry → Finding → Entry
-entry_in d (Found e) = e
-entry_in d (Refused fault) = d
-
-abbrev found_in : Finding → ℕ
-found_in (Found e) = 1
-found_in (Refused fault) = 0
-
-pub not_found : (fault : Fault) (e : Entry) → Refused fault ≡ Found e → ⊥
-not_found fault e q = let none : ◌≡◌ {A = ℕ} 0 1 = ap found_in q in omega arith
-
-found-sum : (es : List Entry) (n : ℕ) (e : Entry) → finding es n ≡ Found e → totals_of es ≡ plus e.figures (totals_of (without n es))
-unfolding finding without totals_of
-found-sum [] n e q = absurd (not_found NoEntry e q)
-found-sum (x ∷ xs) n e q = by_number (eqb x.number n) (found-sum xs n e) q
-  where
-    by_number : (t : Bool) → (finding xs n ≡ Found e → totals_of xs ≡ plus e.figures (totals_of (without n xs))) → cond t (Found x) (finding xs n) ≡ Found e
-        → plus x.figures (totals_of xs) ≡ plus e.figures (totals_of (cond t xs (x ∷ without n xs)))
-    by_number true behind r = ap (λ (y : Entry). plus y.figures (totals_of xs)) (ap (entry_in e) r)
-    by_number false behind r = ap (plus x.figures) (behind r) ∙ plus-swap x.figures e.figures (totals_of (without n xs))
-
-module _ (es : List Entry) (n : ℕ) (e : Entry) (q : finding es n ≡ Found e) where
+-- what the entry found takes from the sum of all
+module _ (es : List Entry) (n : ℕ) (e : Entry) (q : finding es n ≡ Ok e) where
   apart : (covers (totals_of es) e.figures ≡ true) × (same (minus (totals_of es) e.figures) (totals_of (without n es)) ≡ true)
   apart =
       both _ _
       (sym (same_step (totals_of es) e.figures (totals_of (without n es)))
-      ∙ ap (same (totals_of es)) (sym (found-sum es n e q))
+      ∙ ap (same (totals_of es)) (sym (found-totals n e es q))
       ∙ same_refl (totals_of es))
 
   pub found-covered : covers (totals_of es) e.figures ≡ true

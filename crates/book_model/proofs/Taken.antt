@@ -15,6 +15,13 @@ use Rattle.book_model.specs.Table.{places_claimed, places_there, free_places, ta
 abbrev pub Walk : ℕ → ℕ → ℕ → Type 0
 Walk claimed n at = (1 ≤ at) × (at + 2 * n ≡ 1 + 2 * claimed)
 
+-- the walk in a loop over the places claimed, at its place k
+pub walk-at : (claimed k : ℕ) → k ≤ claimed → Walk claimed (claimed - k) (1 + 2 * k)
+walk-at claimed k h = (omega arith, omega arith)
+
+pub further : (k : ℕ) → 1 + 2 * k + 2 ≡ 1 + 2 * (k + 1)
+further k = omega arith
+
 pub place-within : (list : List ℕ) (claimed n at : ℕ) → claimed ≤ places_there list → Walk claimed n at → 0 < n → at + 2 ≤ length list
 place-within list claimed n at h w k = omega arith
 

@@ -1,4 +1,5 @@
 -- A list of entries without the one that a look-up gives. Assumes nothing.
+use Rattle.std.specs.Prelude.{Ok}
 use Prim.Native.Nat.{ℕ, suc, ◌+◌}
 use native.Mathlib.Omega.{arith}
 use mathlib.Core.Bool.{Bool, true, false, cond}
@@ -11,7 +12,6 @@ use Rattle.measure.specs.Measures.{sums}
 use Rattle.figures.specs.declared.Figures.{Figures}
 use Rattle.figures.specs.Figures.{figures, plus}
 use Rattle.book_model.specs.declared.Entry.{Entry}
-use Rattle.book_model.specs.declared.Finding.TheVariants.{Found}
 use Rattle.book_model.specs.PlainList.{totals_of, finding, without}
 use Rattle.book_model.proofs.Merged.{Absent, NotHere, not-here, plus-across}
 
@@ -32,7 +32,7 @@ module _ (n : ℕ) where
   others-still m differ (e ∷ es) = by-test (eqb e.number n) refl (others-still m differ es)
     where
       by-test : (t : Bool) → eqb e.number n ≡ t → finding (without n es) m ≡ finding es m
-          → finding (cond t es (e ∷ without n es)) m ≡ cond (eqb e.number m) (Found e) (finding es m)
+          → finding (cond t es (e ∷ without n es)) m ≡ cond (eqb e.number m) (Ok e) (finding es m)
       by-test true q later = rw (eqb-true e.number n q, differ)
       by-test false q later = rw later
 
@@ -50,23 +50,23 @@ module _ (n : ℕ) where
 
   -- an entry that is there is what is less
   module _ (x : Entry) where
-    pub found-many : (es : List Entry) → finding es n ≡ Found x → length es ≡ suc (length (without n es))
+    pub found-many : (es : List Entry) → finding es n ≡ Ok x → length es ≡ suc (length (without n es))
     unfolding finding without
     found-many [] h = absurd (let z : ◌≡◌ {A = ℕ} 0 1 = cc in omega arith)
     found-many (e ∷ es) h = by-test (eqb e.number n) h (found-many es)
       where
-        by-test : (t : Bool) → cond t (Found e) (finding es n) ≡ Found x → (finding es n ≡ Found x → length es ≡ suc (length (without n es)))
+        by-test : (t : Bool) → cond t (Ok e) (finding es n) ≡ Ok x → (finding es n ≡ Ok x → length es ≡ suc (length (without n es)))
             → suc (length es) ≡ suc (length (cond t es (e ∷ without n es)))
         by-test true q later = refl
         by-test false q later = ap suc (later q)
 
-    pub found-totals : (es : List Entry) → finding es n ≡ Found x → totals_of es ≡ plus x.figures (totals_of (without n es))
+    pub found-totals : (es : List Entry) → finding es n ≡ Ok x → totals_of es ≡ plus x.figures (totals_of (without n es))
     unfolding finding without totals_of
     found-totals [] h = absurd (let z : ◌≡◌ {A = ℕ} 0 1 = cc in omega arith)
     found-totals (e ∷ es) h = by-test (eqb e.number n) h (found-totals es)
       where
-        by-test : (t : Bool) → cond t (Found e) (finding es n) ≡ Found x
-            → (finding es n ≡ Found x → totals_of es ≡ plus x.figures (totals_of (without n es)))
+        by-test : (t : Bool) → cond t (Ok e) (finding es n) ≡ Ok x
+            → (finding es n ≡ Ok x → totals_of es ≡ plus x.figures (totals_of (without n es)))
             → plus e.figures (totals_of es) ≡ plus x.figures (totals_of (cond t es (e ∷ without n es)))
         by-test true q later = let same : e ≡ x = cc in ap (λ (y : Entry). plus y.figures (totals_of es)) same
         by-test false q later = ap (plus e.figures) (later q) ∙ plus-across e.figures x.figures (totals_of (without n es))

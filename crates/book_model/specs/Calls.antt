@@ -1,20 +1,13 @@
 -- What each call on a lent table answers, and what it leaves: on any table, grown from an empty one or not.
-use Rattle.std.specs.Prelude.{ℕ, ◌&&◌, List, Err}
+use Rattle.std.specs.Prelude.{ℕ, ◌&&◌, List, Ok, Err}
 use Rattle.frame.specs.Unless.{unless}
 use Rattle.passes.specs.declared.Fault.TheVariants.{Book, NoEntry}
 use Rattle.passes.specs.Reading.{answer_of, table_of}
 use Rattle.letters.specs.Letters.{letters_of}
 use Rattle.book_model.specs.Entering.{Entering}
 use Rattle.book_model.specs.Entering.{Entered, Refused}
-use Rattle.book_model.specs.declared.Finding.{Finding}
-use Rattle.book_model.specs.declared.Tally.{Tally}
-use Rattle.book_model.specs.declared.Change.{Change}
-use Rattle.book_model.specs.declared.Change.TheVariants.{Done}
-use Rattle.book_model.specs.PlainList.{entering, entries_on, finding, tally, withdrawing}
+use Rattle.book_model.specs.PlainList.{Finding, Tallying, Change, entering, entries_on, finding, tally, withdrawing}
 use Rattle.book_model.specs.Table.{is_owner, last_number, entries_of, own_of, free_in, is_book, is_list, with_entries, with_taken, without_entry, tidied}
-use Rattle.book_model.specs.declared.Finding.TheVariants as findings
-use Rattle.book_model.specs.declared.Tally.TheVariants as tallies
-use Rattle.book_model.specs.declared.Change.TheVariants as changes
 
 -- "BOOK (20) first", of both tables; "straight after BOOK" NOENTRY for "any call with an owner other than 1 or 2"; "then the reader's own; DUPLICATE ..; FULL":
 -- the file with its row table of so many numbers, the caller's file number, and the owner
@@ -39,26 +32,26 @@ list_after m o list (Err r) = list
 -- the entry numbers and the running totals of the owner alone: "an entry number of the other owner is NOENTRY"
 unfoldable pub find_answer : List ℕ → ℕ → ℕ → Finding
 find_answer book o n =
-    unless (is_book book) (findings.Refused Book) (unless (is_owner o) (findings.Refused NoEntry) (finding (entries_of o book) n))
+    unless (is_book book) (Err Book) (unless (is_owner o) (Err NoEntry) (finding (entries_of o book) n))
 
-unfoldable pub totals_answer : List ℕ → ℕ → Tally
+unfoldable pub totals_answer : List ℕ → ℕ → Tallying
 totals_answer book o =
-    unless (is_book book) (tallies.Refused Book) (unless (is_owner o) (tallies.Refused NoEntry) (tally (entries_of o book)))
+    unless (is_book book) (Err Book) (unless (is_owner o) (Err NoEntry) (tally (entries_of o book)))
 
 -- withdrawing: BOOK, NOENTRY, RANGE
 unfoldable pub withdraw_answer : List ℕ → List ℕ → ℕ → ℕ → Change
 withdraw_answer book list o n =
-    unless (is_book book && is_list list) (changes.Refused Book)
-    (unless (is_owner o) (changes.Refused NoEntry) (withdrawing (entries_of o book) n))
+    unless (is_book book && is_list list) (Err Book)
+    (unless (is_owner o) (Err NoEntry) (withdrawing (entries_of o book) n))
 
 abbrev pub book_withdrawn : ℕ → ℕ → List ℕ → Change → List ℕ
-book_withdrawn o n book Done = without_entry o book n
-book_withdrawn o n book (changes.Refused fault) = book
+book_withdrawn o n book (Ok done) = without_entry o book n
+book_withdrawn o n book (Err fault) = book
 
 -- a tidy-up: BOOK
 unfoldable pub tidy_answer : List ℕ → List ℕ → Change
-tidy_answer book list = unless (is_book book && is_list list) (changes.Refused Book) Done
+tidy_answer book list = unless (is_book book && is_list list) (Err Book) (Ok tt)
 
 abbrev pub book_tidied : List ℕ → Change → List ℕ
-book_tidied book Done = tidied book
-book_tidied book (changes.Refused fault) = book
+book_tidied book (Ok done) = tidied book
+book_tidied book (Err fault) = book

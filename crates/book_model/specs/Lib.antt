@@ -1,3 +1,4 @@
+pub mod Entering
 pub mod PlainList
 pub mod Table
 pub mod Calls

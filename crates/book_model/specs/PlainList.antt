@@ -1,22 +1,27 @@
 -- The day book as a plain list of entries for each owner (requests 6, 8, 9 and 10), and what each call answers on the owner's own list.
-use Rattle.std.specs.Prelude.{ℕ, ◌+◌, Bool, false, ◌&&◌, ◌||◌, not, cond, List, [], ◌∷◌, ◌++◌, leb, eqb, ℤ, length, Err}
+use Rattle.std.specs.Prelude.{ℕ, ◌+◌, Bool, false, ◌&&◌, ◌||◌, not, cond, List, [], ◌∷◌, ◌++◌, leb, eqb, ℤ, length, Result, Ok, Err}
 use Rattle.frame.specs.Unless.{unless}
 use Rattle.figures.specs.declared.Figures.{Figures}
 use Rattle.figures.specs.Figures.{no_figures, plus, all_of, fits}
 use Rattle.net.specs.Net.{net_of, within}
+use Rattle.passes.specs.declared.Fault.{Fault}
 use Rattle.passes.specs.declared.Fault.TheVariants.{Duplicate, Full, NoEntry, Range}
 use Rattle.passes.specs.Answers.{Answer}
 use Rattle.book_model.specs.declared.Entry.{Entry}
 use Rattle.book_model.specs.Entering.{Entering}
 use Rattle.book_model.specs.Entering.{Entered, Refused}
-use Rattle.book_model.specs.declared.Finding.{Finding}
 use Rattle.book_model.specs.declared.Tally.{Tally}
-use Rattle.book_model.specs.declared.Change.{Change}
-use Rattle.book_model.specs.declared.Change.TheVariants.{Done}
 use Rattle.passes.specs.Answers as answers
-use Rattle.book_model.specs.declared.Finding.TheVariants as findings
-use Rattle.book_model.specs.declared.Tally.TheVariants as tallies
-use Rattle.book_model.specs.declared.Change.TheVariants as changes
+
+-- what looking up an entry, asking for an owner's tally, and withdrawing an entry or tidying up give: each of them, or the fault
+abbrev pub Finding : Type 0
+Finding = Result Entry Fault
+
+abbrev pub Tallying : Type 0
+Tallying = Result Tally Fault
+
+abbrev pub Change : Type 0
+Change = Result (Unit {0}) Fault
 
 -- what is one owner's own: its present entries, the last entry number it was given, and the file numbers it has ever entered
 pub record Own : Type 0 where
@@ -78,8 +83,8 @@ after_entering own m letters (Entered first t) =
 
 -- "looking up an entry number gives the first row with it, as entered"; "NOENTRY (15) for a number not found"
 unfoldable pub finding : List Entry → ℕ → Finding
-finding [] n = findings.Refused NoEntry
-finding (e ∷ es) n = cond (eqb e.number n) (findings.Found e) (finding es n)
+finding [] n = Err NoEntry
+finding (e ∷ es) n = cond (eqb e.number n) (Ok e) (finding es n)
 
 -- "withdrawal by owner and entry number": the list without the entry that a look-up gives; the others "keep number and figures"
 unfoldable pub without : ℕ → List Entry → List Entry
@@ -88,18 +93,18 @@ without n (e ∷ es) = cond (eqb e.number n) es (e ∷ without n es)
 
 -- NOENTRY; then "RANGE for a withdrawal that would carry the net position beyond its bound"
 abbrev pub of_finding : Finding → Change → Change
-of_finding (findings.Found e) next = next
-of_finding (findings.Refused fault) next = changes.Refused fault
+of_finding (Ok e) next = next
+of_finding (Err fault) next = Err fault
 
 unfoldable pub withdrawing : List Entry → ℕ → Change
 withdrawing es n =
-    of_finding (finding es n) (unless (within (position_of (totals_of (without n es)))) (changes.Refused Range) Done)
+    of_finding (finding es n) (unless (within (position_of (totals_of (without n es)))) (Err Range) (Ok tt))
 
 -- what it leaves: the last number and the file numbers taken stay, so that neither is given out or taken a second time
 abbrev pub after_withdrawing : Own → ℕ → Change → Own
-after_withdrawing own n (changes.Refused fault) = own
-after_withdrawing own n Done = record { entries = without n own.entries; last = own.last; taken = own.taken }
+after_withdrawing own n (Err fault) = own
+after_withdrawing own n (Ok done) = record { entries = without n own.entries; last = own.last; taken = own.taken }
 
 -- how many entries there are, the running totals and the net position
-abbrev pub tally : List Entry → Tally
-tally es = tallies.Totals (length es) (totals_of es) (position_of (totals_of es))
+abbrev pub tally : List Entry → Tallying
+tally es = Ok (record { entries = length es; figures = totals_of es; net = position_of (totals_of es) })

@@ -2,7 +2,7 @@
 #![tactic(auto)]
 
 use figures::Figures;
-use passes::{Fault, Totals};
+use passes::{Fault, Refusal, Totals};
 
 // One cash letter as it was entered: its entry number, the caller's number for its file, its own figures.
 #[derive(Clone, Copy)]
@@ -12,29 +12,20 @@ pub struct Entry {
     pub figures: Figures,
 }
 
-// What entering a file gives: the first entry number given and the totals of the file, or the fault, the record and the offset.
+// What an owner has in the book: how many entries there are, the running totals and the net position.
 #[derive(Clone, Copy)]
-pub enum Entering {
-    Entered(u64, Totals),
-    Refused(Fault, u64, usize),
+pub struct Tally {
+    pub entries: u64,
+    pub figures: Figures,
+    pub net: i64,
 }
 
-#[derive(Clone, Copy)]
-pub enum Finding {
-    Found(Entry),
-    Refused(Fault),
-}
+// What entering a file gives: the first entry number given and the totals of the file, or why and where it is refused.
+pub type Entering = Result<(u64, Totals), Refusal>;
 
-// How many entries there are, the running totals and the net position.
-#[derive(Clone, Copy)]
-pub enum Tally {
-    Totals(u64, Figures, i64),
-    Refused(Fault),
-}
+// What looking up an entry, asking for an owner's tally, and withdrawing an entry or tidying up give: each of them, or the fault.
+pub type Finding = Result<Entry, Fault>;
 
-// What withdrawing an entry and tidying up give.
-#[derive(Clone, Copy)]
-pub enum Change {
-    Done,
-    Refused(Fault),
-}
+pub type Tallying = Result<Tally, Fault>;
+
+pub type Change = Result<(), Fault>;

@@ -17,10 +17,7 @@ use passes::Fault;
 pub fn number_at(book: &[u64], at: usize) -> u64
     ensures { result ≡ get_or book.now at 0 }
 {
-    if at < book.len() {
-        return book[at];
-    }
-    0
+    book.get(at).copied().unwrap_or(0)
 }
 
 // Six figures from a place on.
@@ -62,10 +59,7 @@ fn entry_at(book: &[u64], at: usize) -> Entry
 pub fn rows_there(book: &[u64]) -> u64
     ensures { result ≡ rows_there book.now }
 {
-    if book.len() < 17 {
-        return 0;
-    }
-    ((book.len() - 17) / 9) as u64
+    (book.len().saturating_sub(17) / 9) as u64
 }
 
 // Whether a call may be an owner's: there are two.
@@ -105,16 +99,12 @@ fn are_sums(book: &[u64], owner: u64, claimed: u64) -> bool
     ensures { result ≡ same (running_totals owner book.now) (totals_of (entries_from owner book.now claimed 17)) }
 {
     let mut left = figures_at(book, block_of(owner) + 1);
-    let mut at: usize = 17;
-    let mut rows = claimed;
-    while 0 < rows {
-        let row = own_figures_at(book, owner, at);
+    for k in 0..claimed as usize {
+        let row = own_figures_at(book, owner, 17 + 9 * k);
         if !left.holds(row) {
             return false;
         }
         left = left.without(row);
-        at += 9;
-        rows -= 1;
     }
     left.are_none()
 }
@@ -151,16 +141,13 @@ pub fn first_numbered(book: &[u64], owner: u64, claimed: u64, number: u64) -> Fi
     requires { claimed ≤ rows_there book.now }
     ensures { result ≡ finding (entries_from owner book.now claimed 17) number }
 {
-    let mut at: usize = 17;
-    let mut rows = claimed;
-    while 0 < rows {
+    for k in 0..claimed as usize {
+        let at = 17 + 9 * k;
         if (book[at] == owner) & (book[at + 1] == number) {
-            return Finding::Found(entry_at(book, at));
+            return Ok(entry_at(book, at));
         }
-        at += 9;
-        rows -= 1;
     }
-    Finding::Refused(Fault::NoEntry)
+    Err(Fault::NoEntry)
 }
 
 // How many rows among so many are an owner's.
@@ -169,14 +156,10 @@ pub fn own_rows(book: &[u64], owner: u64, claimed: u64) -> u64
     ensures { result ≡ length (entries_from owner book.now claimed 17) }
 {
     let mut count: u64 = 0;
-    let mut at: usize = 17;
-    let mut rows = claimed;
-    while 0 < rows {
-        if book[at] == owner {
+    for k in 0..claimed as usize {
+        if book[17 + 9 * k] == owner {
             count += 1;
         }
-        at += 9;
-        rows -= 1;
     }
     count
 }

@@ -4,7 +4,7 @@
 #![tactic(auto)]
 
 use std::io;
-use text::{CharacterSet, DataType};
+use text::{CharacterSet, Charset, DataType, InAscii, InEbcdic};
 
 // In the order of the columns.
 const DATA_TYPES: [DataType; 13] = [
@@ -47,43 +47,20 @@ fn say_basic_types(rt: &impl Print, set: CharacterSet, byte: u8) -> io::Result<(
     Ok(())
 }
 
-fn say_data_type(
-    rt: &impl Print,
-    set: CharacterSet,
-    data_type: DataType,
-    byte: u8,
-) -> io::Result<()> {
-    match set {
-        CharacterSet::Ascii => say(rt, text::admits_in_ascii(data_type, byte)),
-        CharacterSet::Ebcdic => say(rt, text::admits_in_ebcdic(data_type, byte)),
-    }
-}
-
-fn say_data_types(rt: &impl Print, set: CharacterSet, byte: u8) -> io::Result<()> {
+fn say_data_types<S: Charset>(rt: &impl Print, byte: u8) -> io::Result<()> {
     for data_type in DATA_TYPES {
-        say_data_type(rt, set, data_type, byte)?;
+        say(rt, text::admits_in::<S>(data_type, byte))?;
     }
     Ok(())
 }
 
-fn name_of(set: CharacterSet) -> &'static str {
-    match set {
-        CharacterSet::Ascii => "ASCII",
-        CharacterSet::Ebcdic => "EBCDIC",
-    }
-}
-
-fn say_answers(rt: &impl Print, set: CharacterSet, byte: u8) -> io::Result<()> {
-    let name = name_of(set);
-    print!(rt; "{name} {byte}")?;
-    say_basic_types(rt, set, byte)?;
-    say_data_types(rt, set, byte)?;
-    println!(rt;)
-}
-
-fn say_set(rt: &impl Print, set: CharacterSet) -> io::Result<()> {
+fn say_set<S: Charset>(rt: &impl Print) -> io::Result<()> {
+    let set = S::SET;
     for byte in 0..=u8::MAX {
-        say_answers(rt, set, byte)?;
+        print!(rt; "{set} {byte}")?;
+        say_basic_types(rt, set, byte)?;
+        say_data_types::<S>(rt, byte)?;
+        println!(rt;)?;
     }
     Ok(())
 }
@@ -91,6 +68,6 @@ fn say_set(rt: &impl Print, set: CharacterSet) -> io::Result<()> {
 fn main(rt: HostRuntime) -> io::Result<()> {
     print!(rt; "set byte A B N Q S Ma Mc Md Mo Mr")?;
     println!(rt; " AB A AN ANS Binary N NB NBD NBQ NBMc NBMcd NBMcdo NBMU")?;
-    say_set(&rt, CharacterSet::Ascii)?;
-    say_set(&rt, CharacterSet::Ebcdic)
+    say_set::<InAscii>(&rt)?;
+    say_set::<InEbcdic>(&rt)
 }

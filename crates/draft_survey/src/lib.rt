@@ -3,7 +3,6 @@
 
 ghost use Rattle.std.specs.Prelude.{List, [], true, ◌≡◌, ℕ, ◌+◌, ◌/◌, ◌≤◌, length, get_or, drop};
 ghost use Rattle.text.specs.declared.character_set.CharacterSet.TheVariants.{Ascii};
-ghost use Rattle.layout.specs.Packing.{Packed};
 ghost use Rattle.standing.specs.History.{Entry};
 ghost use Rattle.standing.specs.Standing.{standing, Roomy};
 ghost use Rattle.order.specs.MayFollow.{is_carried};
@@ -17,6 +16,7 @@ ghost use Rattle.sheet.specs.Sheet.{OnSheet};
 
 use draft::Outcome;
 use draft_rows::Row;
+use layout::Layouts;
 use passes::{Fault, Refusal, Totals, Turn};
 use standing::Standing;
 use text::CharacterSet;
@@ -110,8 +110,7 @@ pub fn rows_ended(s: Standing, bytes: usize) -> Outcome
 }
 
 // The answer to a draft, whatever the buffer; 2^64 - 1 bytes stand for as many or more.
-pub fn survey_draft<'a>(layouts: &'a [u64], text: &'a [u8], draft: &'a [u64]) -> Outcome
-    requires { Packed layouts.now }
+pub fn survey_draft<'a>(layouts: &'a Layouts, text: &'a [u8], draft: &'a [u64]) -> Outcome
     ensures { result ≡ capped_outcome (answer_from (values_of_draft text.now draft.now) [] []) }
 {
     let set = set_of_text(text, draft);
@@ -122,7 +121,7 @@ pub fn survey_draft<'a>(layouts: &'a [u64], text: &'a [u8], draft: &'a [u64]) ->
     // Stays: a record is judged with the rows behind its own, among which its addenda are counted. `chunks_exact` gives the row alone.
     while 10 <= draft.len() - at {
         let rows = &draft[at..];
-        let own = layout::own_numbers(layouts, rows[0]);
+        let own = layouts.own_numbers(rows[0]);
         match judge_row(set, own, text, rows, s, &mut sheet) {
             Err(fault) => {
                 return Err(Refusal {

@@ -6,12 +6,13 @@ ghost use Rattle.std.proofs.lemmas.List.Edits.{sets};
 ghost use Rattle.text.specs.Characters.{is_blank};
 ghost use Rattle.text.specs.DataTypes.{every};
 ghost use Rattle.layout.specs.Layouts.{bundle_control};
-ghost use Rattle.layout.specs.Packing.{Packed, is_whole};
+ghost use Rattle.layout.specs.Packing.{is_whole};
 ghost use Rattle.file_as_records.specs.Framed.{field_of};
 ghost use Rattle.drafting.specs.ByNumbers.{seven_sizes, parts_own};
 ghost use Rattle.drafting.specs.DraftOf.{row_of, draft_rows_of, draft_answer_of, draft_table_of, DraftOfItself};
 
 use frame::{Cursor, Extent};
+use layout::Layouts;
 use passes::{Answer, Fault, Refusal};
 use text::CharacterSet;
 
@@ -55,13 +56,13 @@ fn leaves_micr_blank(set: CharacterSet, kind: u64, body: &[u8]) -> bool
 // A record's row, from `base` on; its body starts at `start` in the file.
 pub fn put_row<'a>(
     set: CharacterSet,
-    layouts: &'a [u64],
+    layouts: &'a Layouts,
     body: &'a [u8],
     start: usize,
     draft: &mut [u64],
     base: usize,
 )
-    requires { Packed layouts.now × (base + 10 ≤ length draft.old) }
+    requires { base + 10 ≤ length draft.old }
     ensures { draft.new ≡ sets draft.old base (row_of set body.now start) }
 {
     let kind = judge::type_of(set, body);
@@ -71,7 +72,7 @@ pub fn put_row<'a>(
     draft[base + 2] = standing::one_if(blank);
     put_sizes(
         set,
-        layout::own_numbers(layouts, kind),
+        layouts.own_numbers(kind),
         body,
         draft,
         base + 3,
@@ -79,8 +80,8 @@ pub fn put_row<'a>(
 }
 
 // The second pass: a row for each record.
-fn fill<'a>(layouts: &'a [u64], file: &'a [u8], draft: &mut [u64])
-    requires { Packed layouts.now × (length file.now ≤ 268_435_456) × (length (draft_rows_of file.now) ≤ length draft.old) }
+fn fill<'a>(layouts: &'a Layouts, file: &'a [u8], draft: &mut [u64])
+    requires { (length file.now ≤ 268_435_456) × (length (draft_rows_of file.now) ≤ length draft.old) }
     ensures { draft.new ≡ draft_rows_of file.now ++ drop (length (draft_rows_of file.now)) draft.old }
 {
     let set = text::set_of(file);

@@ -1,6 +1,6 @@
 -- The forms of a routing number, as the Format lines print them (clause 7.4 and its like). T, A, C, F and N stand for digits, b for a blank. The last is
 -- printed NNNNNNNN, eight of them, in clauses 7.4, 7.5, 8.3, 8.4, 9.3, 9.4, 21.3 and 22.2, and with nine in Annex C alone (reading 21).
-use Rattle.std.specs.Prelude.{ℕ, ◌+◌, ◌*◌, ◌%◌, Bool, true, false, ◌&&◌, ◌||◌, List, [], ◌∷◌, eqb, length, get_or, take, drop}
+use Rattle.std.specs.Prelude.{ℕ, ◌+◌, ◌*◌, ◌%◌, Bool, false, ◌&&◌, ◌||◌, List, [], ◌∷◌, eqb, length, get_or, take, drop}
 use Rattle.text.specs.declared.character_set.CharacterSet.{CharacterSet}
 use Rattle.text.specs.declared.data_types.DataType.TheVariants.{NB}
 use Rattle.text.specs.Characters.{is_blank, is_numeric, is_dash}

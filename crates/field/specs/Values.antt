@@ -1,6 +1,6 @@
 -- The lists of defined values that more than a range makes up, each with the clauses that print it. Values printed as reserved
 -- or user defined are among them (reading 1).
-use Rattle.std.specs.Prelude.{ℕ, Bool, true, false, ◌||◌, leb, eqb}
+use Rattle.std.specs.Prelude.{ℕ, Bool, ◌||◌, leb, eqb}
 use Rattle.text.specs.Ranges.{within}
 use Rattle.field.specs.declared.CodeList.{CodeList}
 use Rattle.field.specs.declared.CodeList.TheVariants.{FileTypes, YesNo, YesNoUnknown, RecordTypeIndicators, CashLetterDocumentation, ItemDocumentation, ReturnAcceptance, ArchiveTypes, TestOverrides, AccountTypes}

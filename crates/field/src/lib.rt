@@ -14,14 +14,14 @@ ghost use Rattle.field.specs.Rules.{digits_with, one_or_two_digits, code, clippi
 use text::{CharacterSet, DataType};
 
 // Clause 6.3.
-#[derive(Clone, Copy)]
+#[derive(Clone, Copy, Debug, PartialEq, Eq)]
 pub enum Usage {
     Mandatory,
     Conditional,
 }
 
 // The lists of one-character codes that more than one range makes up, or that are letters.
-#[derive(Clone, Copy)]
+#[derive(Clone, Copy, Debug, PartialEq, Eq)]
 pub enum CodeList {
     FileTypes,
     YesNo,
@@ -36,7 +36,7 @@ pub enum CodeList {
 }
 
 // The forms of a routing number that a field's Format lines list.
-#[derive(Clone, Copy)]
+#[derive(Clone, Copy, Debug, PartialEq, Eq)]
 pub struct Forms {
     // TTTTAAAAC
     pub checked: bool,
@@ -51,7 +51,7 @@ pub struct Forms {
 }
 
 // A field's Format line or Defined Values (clauses 6.7 and 6.8).
-#[derive(Clone, Copy)]
+#[derive(Clone, Copy, Debug, PartialEq, Eq)]
 pub enum Rule {
     // Neither: the data type alone.
     DataTypeAlone,
@@ -72,55 +72,55 @@ pub enum Rule {
     ClippingCoordinate(usize),
 }
 
+#[tactic(auto, unfolding(crate::specs::Values::is_code))]
 pub fn is_code(list: CodeList, x: u8) -> bool
     ensures { result ≡ is_code list x }
 {
     match list {
-        CodeList::FileTypes => (x == b'P') | ((x == b'T') | ((x == b'A') | (x == b'B'))),
-        CodeList::YesNo => (x == b'Y') | (x == b'N'),
-        CodeList::YesNoUnknown => (x == b'Y') | ((x == b'N') | (x == b'U')),
-        CodeList::RecordTypeIndicators => (x == b'N') | ((x == b'E') | ((x == b'I') | (x == b'F'))),
-        CodeList::CashLetterDocumentation => ((b'A' <= x) & (x <= b'M')) | (x == b'Z'),
-        CodeList::ItemDocumentation => (b'A' <= x) & (x <= b'M'),
-        CodeList::ReturnAcceptance => ((b'0' <= x) & (x <= b'9')) | ((b'A' <= x) & (x <= b'F')),
-        CodeList::ArchiveTypes => (b'A' <= x) & (x <= b'I'),
-        CodeList::TestOverrides => (x == b'0') | ((b'A' <= x) & (x <= b'R')),
-        CodeList::AccountTypes => ((b'1' <= x) & (x <= b'5')) | ((b'A' <= x) & (x <= b'J')),
+        CodeList::FileTypes => matches!(x, b'P' | b'T' | b'A' | b'B'),
+        CodeList::YesNo => matches!(x, b'Y' | b'N'),
+        CodeList::YesNoUnknown => matches!(x, b'Y' | b'N' | b'U'),
+        CodeList::RecordTypeIndicators => matches!(x, b'N' | b'E' | b'I' | b'F'),
+        CodeList::CashLetterDocumentation => matches!(x, b'A'..=b'M' | b'Z'),
+        CodeList::ItemDocumentation => matches!(x, b'A'..=b'M'),
+        CodeList::ReturnAcceptance => matches!(x, b'0'..=b'9' | b'A'..=b'F'),
+        CodeList::ArchiveTypes => matches!(x, b'A'..=b'I'),
+        CodeList::TestOverrides => matches!(x, b'0' | b'A'..=b'R'),
+        CodeList::AccountTypes => matches!(x, b'1'..=b'5' | b'A'..=b'J'),
     }
 }
 
 fn holds_code(set: CharacterSet, list: CodeList, part: &[u8]) -> bool
     ensures { result ≡ code set list part.now }
 {
-    if part.len() != 1 {
-        return false;
+    match part {
+        [x] => is_code(list, text::capital_of(set, *x)),
+        _ => false,
     }
-    is_code(list, text::capital_of(set, part[0]))
 }
 
 fn is_standard_level(n: u64) -> bool
     ensures { result ≡ is_standard_level n }
 {
-    ((1 <= n) & (n <= 3)) | (n == 20)
+    matches!(n, 1..=3 | 20)
 }
 
 fn is_bundle_collection_type(n: u64) -> bool
     ensures { result ≡ is_bundle_collection_type n }
 {
-    (n <= 1)
-        | ((n == 3) | (((5 <= n) & (n <= 7)) | ((n == 9) | ((n == 12) | ((80 <= n) & (n <= 89))))))
+    matches!(n, 0 | 1 | 3 | 5..=7 | 9 | 12 | 80..=89)
 }
 
 fn is_collection_type(n: u64) -> bool
     ensures { result ≡ is_collection_type n }
 {
-    is_bundle_collection_type(n) | ((n == 10) | ((n == 20) | (n == 99)))
+    is_bundle_collection_type(n) | matches!(n, 10 | 20 | 99)
 }
 
 fn is_source_of_work(n: u64) -> bool
     ensures { result ≡ is_source_of_work n }
 {
-    ((1 <= n) & (n <= 11)) | ((21 <= n) & (n <= 99))
+    matches!(n, 1..=11 | 21..=99)
 }
 
 fn number_within(set: CharacterSet, low: u64, high: u64, part: &[u8]) -> bool
@@ -236,22 +236,11 @@ fn fits_rarer(set: CharacterSet, forms: Forms, s: &[u8]) -> bool
 }
 
 // One of the forms that are listed. Nearly all are nine digits with their check digit, so that form is tried first.
+#[tactic(auto, unfolding(crate::specs::RoutingForms::fits_some))]
 pub fn fits_some(set: CharacterSet, forms: Forms, s: &[u8]) -> bool
     ensures { result ≡ fits_some set forms s.now }
 {
-    if forms.checked & is_checked(set, s) {
-        return true;
-    }
-    fits_rarer(set, forms, s)
-}
-
-fn byte_at(s: &[u8], at: usize) -> u8
-    ensures { result ≡ get_or s.now at 0 }
-{
-    if at < s.len() {
-        return s[at];
-    }
-    0
+    forms.checked && is_checked(set, s) || fits_rarer(set, forms, s)
 }
 
 fn is_clipping_coordinate<'a>(
@@ -262,7 +251,8 @@ fn is_clipping_coordinate<'a>(
 ) -> bool
     ensures { result ≡ clipping_coordinate set origin part.now body.now }
 {
-    let clipped = !(text::capital_of(set, byte_at(body, origin)) == b'0');
+    let at_origin = body.get(origin).copied().unwrap_or(0);
+    let clipped = text::capital_of(set, at_origin) != b'0';
     text::all_numeric(set, part) & (clipped | (text::number_in(set, part) == 0))
 }
 
@@ -296,10 +286,7 @@ pub fn follows_rule<'a>(set: CharacterSet, rule: Rule, part: &'a [u8], body: &'a
 pub fn is_left_blank(set: CharacterSet, usage: Usage, part: &[u8]) -> bool
     ensures { result ≡ left_blank set usage part.now }
 {
-    match usage {
-        Usage::Mandatory => false,
-        Usage::Conditional => text::all_blank(set, part),
-    }
+    usage == Usage::Conditional && text::all_blank(set, part)
 }
 
 // What is asked of a field of its data type: its rule, or a mark that leaves the data type alone to judge.
@@ -312,8 +299,5 @@ pub fn rule_holds<'a>(
 ) -> bool
     ensures { result ≡ follows set rule part.now body.now || some (is_mark set t) part.now }
 {
-    if follows_rule(set, rule, part, body) {
-        return true;
-    }
-    text::has_mark(set, t, part)
+    follows_rule(set, rule, part, body) || text::has_mark(set, t, part)
 }

@@ -42,22 +42,12 @@ pub fn part_of(s: &[u8], start: usize, size: usize) -> &[u8]
     part_within(s, start, size)
 }
 
-fn wide(x: u8) -> usize
-    ensures { (result ≡ x) × (result ≤ 255) }
-{
-    x as usize
-}
-
 // The number in the first four bytes, high byte first.
 fn length_in(s: &[u8]) -> usize
     requires { 4 ≤ length s.now }
     ensures { (result ≡ length_in s.now) × (result ≤ 0xFFFF_FFFF) }
 {
-    let first = wide(s[0]);
-    let second = wide(s[1]);
-    let third = wide(s[2]);
-    let fourth = wide(s[3]);
-    first * 0x100_0000 + second * 0x1_0000 + third * 0x100 + fourth
+    u32::from_be_bytes([s[0], s[1], s[2], s[3]]) as usize
 }
 
 impl Cursor {

@@ -1,6 +1,6 @@
 -- What the numbers of a kind in the table say of a record: whatever the kinds are, and however many. Assumes nothing.
 use mathlib.Core.Path.{◌≡◌, refl, sym, ◌∙◌, ap}
-use mathlib.Core.Bool.{Bool, true, false, cond, ◌&&◌}
+use mathlib.Core.Bool.{Bool, true, false, cond}
 use mathlib.Core.List.{List, [], ◌∷◌, map}
 use Prim.Native.Nat.{ℕ, zero, suc, ◌+◌, ◌-◌, ◌≤◌}
 use native.Mathlib.Omega.{arith}
@@ -64,10 +64,6 @@ own-whole (suc n) t (header ∷ rest) e =
 pub table-own : (numbers : List ℕ) → Packed numbers → (t : ℕ) → is_whole (own_in t (length numbers) numbers) ≡ true
 table-own numbers p t = own-whole (length numbers) t numbers p.whole
 
-pub own-nothing : (set : CharacterSet) (own : List ℕ) → length own ≡ 0 → (body : List ℕ) → UnknownType ≡ by_own set own body
-own-nothing set [] e body = refl
-own-nothing set (header ∷ rest) e body = absurd (omega arith)
-
 pub not_none : (n : ℕ) → (n ≡ 0 → ⊥) → 1 ≤ n
 not_none n h = omega arith
 
@@ -87,9 +83,6 @@ whole (header ∷ rest) h e =
       lines = second.1;
     }
 
-at_most : (n : ℕ) (xs : List ℕ) → length (take n xs) ≤ n
-at_most n xs = rw length-take (omega arith)
-
 -- the numbers of the lines and of the parts, as they are lent
 module _ (set : CharacterSet) (own : List ℕ) (parts end : ℕ) (any : 1 ≤ length own) (is : is_whole own ≡ true) (to : end ≡ fields_in (get_or own 0 0) + 1)
     (from : parts ≡ end - parts_in (get_or own 0 0)) where
@@ -101,12 +94,6 @@ module _ (set : CharacterSet) (own : List ℕ) (parts end : ℕ) (any : 1 ≤ le
 
   pub length-lent : length lent ≡ lines_in (get_or own 0 0)
   length-lent = let w = whole own any is in rw lines-lent (simp (length-take, length-drop) (omega arith))
-
-  pub few-lent : length lent + length (take (end - parts) (drop parts own)) ≤ 0x1_0000
-  few-lent =
-      let w = whole own any is in
-      let most = at_most (end - parts) (drop parts own) in
-      omega (arith, length-lent)
 
   pub lines-within : every (lies_within (long_in (get_or own 0 0))) lent ≡ true
   lines-within = rw lines-lent (whole own any is).lines

@@ -26,7 +26,7 @@ use Rattle.judge.specs.Alone.{Sound, WrongLength, WrongField}
 use Rattle.layout.specs.Packing.{line_of, lines_from, lies_within, sized_of, sized_from}
 use Rattle.layout.specs.Fault.{as_field}
 use Rattle.layout.proofs.Fault.{faultless, faulted}
-use Rattle.std.proofs.Common.{Option, None, Some}
+use Rattle.std.proofs.Common.{None, Some}
 use Rattle.frame.specs.Unless.{unless}
 
 pub both_true : (a b : Bool) → a && b ≡ true → (a ≡ true) × (b ≡ true)

@@ -8,10 +8,10 @@ ghost use Rattle.judge.specs.Image.{image_start, image_size};
 ghost use Rattle.layout.specs.Layouts.{image_view_data};
 ghost use Rattle.judge.specs.Alone.{Sound};
 ghost use Rattle.layout.specs.Fault.{as_field};
-ghost use Rattle.layout.specs.Packing.{Packed, is_whole, line_of, lines_from, sized_of, sized_from, lies_within};
+ghost use Rattle.layout.specs.Packing.{is_whole, line_of, lines_from, sized_of, sized_from, lies_within};
 ghost use Rattle.text.specs.DataTypes.{every};
 
-use layout::{ImageViewData, Kind};
+use layout::{ImageViewData, Kind, Layouts};
 use text::CharacterSet;
 
 // What is wrong with a record alone.
@@ -39,6 +39,7 @@ impl Flaw {
     }
 
     // The field at fault, 0 for the whole record.
+    // Stays: document 01 and the C interface number fields so, and `field_of` of specs/Alone.antt does.
     pub fn field(self) -> usize
         ensures { result ≡ field_of (Err self) }
     {
@@ -178,6 +179,7 @@ fn judge_body(set: CharacterSet, fixed: usize, lines: &[u64], parts: &[u64], bod
 }
 
 // The type that a record's first two characters name, or 0.
+// Stays: `type_of` and `judged_as` of specs/Alone.antt say that 0 is no type, and `judge_as` takes it like any other number.
 pub fn type_of(set: CharacterSet, body: &[u8]) -> u64
     ensures { result ≡ type_of set body.now }
 {
@@ -206,11 +208,10 @@ fn judge_by(set: CharacterSet, own: &[u64], body: &[u8]) -> Judged
 }
 
 // A record judged alone as one of a kind, by the layouts that the caller lends.
-pub fn judge_as<'a>(set: CharacterSet, layouts: &'a [u64], kind: u64, body: &'a [u8]) -> Judged
-    requires { Packed layouts.now }
+pub fn judge_as(set: CharacterSet, layouts: &Layouts, kind: u64, body: &[u8]) -> Judged
     ensures { result ≡ judged_as set kind body.now }
 {
-    judge_by(set, layout::own_numbers(layouts, kind), body)
+    judge_by(set, layouts.own_numbers(kind), body)
 }
 
 // A record judged alone, whatever it is.

@@ -1,5 +1,5 @@
 -- What an answer says of the field at fault, and what a field at fault says of the answer. Assumes nothing.
-use Rattle.std.proofs.Common.{ℕ, zero, suc, ◌≡◌, ◌≤◌, Option, None, Some, refl, sym, arith}
+use Rattle.std.proofs.Common.{ℕ, zero, suc, ◌≡◌, ◌≤◌, None, Some, refl, arith}
 use Rattle.layout.specs.Fault.{as_field}
 
 pub no-field : (n : ℕ) → n ≡ 0 → as_field n ≡ None

@@ -1,5 +1,5 @@
 -- The layouts agree with themselves: one test, computed over all of them.
-use Rattle.std.specs.Prelude.{ℕ, ◌+◌, Bool, true, false, ◌&&◌, List, [], ◌∷◌, ◌≡◌, refl, leb, eqb, length}
+use Rattle.std.specs.Prelude.{ℕ, ◌+◌, Bool, true, ◌&&◌, List, [], ◌∷◌, ◌≡◌, refl, leb, eqb, length}
 use Rattle.layout.specs.Layout.{Line, Part, Layout}
 use Rattle.layout.specs.Layouts.{layouts}
 

@@ -1,10 +1,12 @@
 // The carried kinds of record, each a type with its type number, the length of its fixed part and how many fields it has, as its clause says.
 use crate::packing::{ANS, BINARY, FIRST, SIZE};
 
-// The form that document 01 names.
+// The form that document 01 names: what each kind says of itself.
 pub trait Kind {
     const TYPE: u64;
+
     const LENGTH: u64;
+
     const FIELDS: u64;
 }
 
@@ -14,7 +16,9 @@ pub struct FileHeader {}
 
 impl Kind for FileHeader {
     const TYPE: u64 = 1;
+
     const LENGTH: u64 = 80;
+
     const FIELDS: u64 = 14;
 }
 
@@ -24,7 +28,9 @@ pub struct CashLetterHeader {}
 
 impl Kind for CashLetterHeader {
     const TYPE: u64 = 10;
+
     const LENGTH: u64 = 80;
+
     const FIELDS: u64 = 14;
 }
 
@@ -34,7 +40,9 @@ pub struct BundleHeader {}
 
 impl Kind for BundleHeader {
     const TYPE: u64 = 20;
+
     const LENGTH: u64 = 80;
+
     const FIELDS: u64 = 13;
 }
 
@@ -44,7 +52,9 @@ pub struct CheckDetail {}
 
 impl Kind for CheckDetail {
     const TYPE: u64 = 25;
+
     const LENGTH: u64 = 80;
+
     const FIELDS: u64 = 14;
 }
 
@@ -54,7 +64,9 @@ pub struct CheckDetailAddendumA {}
 
 impl Kind for CheckDetailAddendumA {
     const TYPE: u64 = 26;
+
     const LENGTH: u64 = 115;
+
     const FIELDS: u64 = 14;
 }
 
@@ -64,7 +76,9 @@ pub struct CheckDetailAddendumB {}
 
 impl Kind for CheckDetailAddendumB {
     const TYPE: u64 = 27;
+
     const LENGTH: u64 = 73;
+
     const FIELDS: u64 = 18;
 }
 
@@ -74,7 +88,9 @@ pub struct CheckDetailAddendumC {}
 
 impl Kind for CheckDetailAddendumC {
     const TYPE: u64 = 28;
+
     const LENGTH: u64 = 80;
+
     const FIELDS: u64 = 14;
 }
 
@@ -84,7 +100,9 @@ pub struct ReturnRecord {}
 
 impl Kind for ReturnRecord {
     const TYPE: u64 = 31;
+
     const LENGTH: u64 = 80;
+
     const FIELDS: u64 = 9;
 }
 
@@ -94,7 +112,9 @@ pub struct ReturnAddendumA {}
 
 impl Kind for ReturnAddendumA {
     const TYPE: u64 = 32;
+
     const LENGTH: u64 = 115;
+
     const FIELDS: u64 = 14;
 }
 
@@ -104,7 +124,9 @@ pub struct ReturnAddendumB {}
 
 impl Kind for ReturnAddendumB {
     const TYPE: u64 = 33;
+
     const LENGTH: u64 = 80;
+
     const FIELDS: u64 = 11;
 }
 
@@ -114,7 +136,9 @@ pub struct ReturnAddendumC {}
 
 impl Kind for ReturnAddendumC {
     const TYPE: u64 = 34;
+
     const LENGTH: u64 = 73;
+
     const FIELDS: u64 = 18;
 }
 
@@ -124,7 +148,9 @@ pub struct ReturnAddendumD {}
 
 impl Kind for ReturnAddendumD {
     const TYPE: u64 = 35;
+
     const LENGTH: u64 = 80;
+
     const FIELDS: u64 = 14;
 }
 
@@ -134,7 +160,9 @@ pub struct ImageViewDetail {}
 
 impl Kind for ImageViewDetail {
     const TYPE: u64 = 50;
+
     const LENGTH: u64 = 80;
+
     const FIELDS: u64 = 23;
 }
 
@@ -144,7 +172,9 @@ pub struct ImageViewData {}
 
 impl Kind for ImageViewData {
     const TYPE: u64 = 52;
+
     const LENGTH: u64 = 139;
+
     const FIELDS: u64 = 28;
 }
 
@@ -167,7 +197,9 @@ pub struct ImageViewAnalysis {}
 
 impl Kind for ImageViewAnalysis {
     const TYPE: u64 = 54;
+
     const LENGTH: u64 = 80;
+
     const FIELDS: u64 = 47;
 }
 
@@ -177,7 +209,9 @@ pub struct CreditRecord {}
 
 impl Kind for CreditRecord {
     const TYPE: u64 = 61;
+
     const LENGTH: u64 = 84;
+
     const FIELDS: u64 = 12;
 }
 
@@ -187,7 +221,9 @@ pub struct BundleControl {}
 
 impl Kind for BundleControl {
     const TYPE: u64 = 70;
+
     const LENGTH: u64 = 80;
+
     const FIELDS: u64 = 9;
 }
 
@@ -197,7 +233,9 @@ pub struct CashLetterControl {}
 
 impl Kind for CashLetterControl {
     const TYPE: u64 = 90;
+
     const LENGTH: u64 = 85;
+
     const FIELDS: u64 = 9;
 }
 
@@ -207,6 +245,8 @@ pub struct FileControl {}
 
 impl Kind for FileControl {
     const TYPE: u64 = 99;
+
     const LENGTH: u64 = 80;
+
     const FIELDS: u64 = 8;
 }

@@ -189,6 +189,8 @@ pub fn place_of(position: u64) -> usize
     position.saturating_sub(1) as usize
 }
 
+// Stays: `usage_of`, `data_type_of` and `rule_of` are no `From`, since the types that they make are those of other crates; nor is `origin_of` beside them, since each
+// reads a part of a packed number, and a number that is no code has a meaning too.
 pub fn usage_of(code: u64) -> Usage
     ensures { result ≡ usage_of code }
 {

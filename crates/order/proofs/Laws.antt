@@ -1,23 +1,20 @@
 -- What code says of a list of numbers, by tests or by a match. Assumes nothing.
 use Prim.Native.Nat.{ℕ}
-use mathlib.Core.Path.{◌≡◌, refl, sym, ap, ◌∙◌}
+use mathlib.Core.Path.{◌≡◌, refl, ap, ◌∙◌}
 use mathlib.Core.Logic.{inl, inr}
-use mathlib.Core.Bool.{Bool, true, false, ◌&&◌, ◌||◌, or-true, or_assoc, or-false, and-eq-true_iff}
+use mathlib.Core.Bool.{Bool, true, false, cond, ◌&&◌, ◌||◌, or-true, and-eq-true_iff}
 use mathlib.Core.List.{List, [], ◌∷◌}
 use lib.Dec.{eqb}
+use mir.Val.{bool_byte}
 use types.Run.{OneOf}
 use borrow.Author.Tests.{eqb-true, eq-eqb, ne_eqb}
 use Rattle.text.specs.DataTypes.{every}
 use Rattle.order.specs.MayFollow.{is_one_of, follows, one_item_type, may_follow}
 
--- `b | (x == y) | (x == z) | ..`
-abbrev tests : Bool → ℕ → List ℕ → Bool
-tests b x [] = b
-tests b x (y ∷ ys) = tests (b || eqb x y) x ys
-
-pub tested : (b : Bool) (x : ℕ) (ys : List ℕ) → tests b x ys ≡ b || is_one_of x ys
-tested b x [] = sym (or-false b)
-tested b x (y ∷ ys) = tested (b || eqb x y) x ys ∙ or_assoc b (eqb x y) (is_one_of x ys)
+-- whether a bundle is open, as a number
+pub place-is : (b : Bool) → cond b 1 0 ≡ bool_byte b
+place-is true = refl
+place-is false = refl
 
 -- `match x { k | j | .. => .., _ => .. }`
 pub is_key : (ks : List ℕ) (x : ℕ) → OneOf ks x → true ≡ is_one_of x ks

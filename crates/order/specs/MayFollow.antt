@@ -1,5 +1,5 @@
 -- Which record may follow (document 01): clauses 7 to 23, 26, 31, 34, 35 and Figures 1 to 2.
-use Rattle.std.specs.Prelude.{ℕ, Bool, true, false, ◌&&◌, ◌||◌, not, cond, List, [], ◌∷◌, leb, eqb}
+use Rattle.std.specs.Prelude.{ℕ, Bool, true, false, ◌&&◌, ◌||◌, not, cond, List, [], ◌∷◌, eqb}
 use Rattle.text.specs.Ranges.{within}
 
 -- a type, and those that may come after it

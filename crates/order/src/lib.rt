@@ -1,56 +1,36 @@
 // Which record may follow.
 #![tactic(auto)]
 
-ghost use Rattle.std.specs.Prelude.{cond, ◌≡◌, ◌≤◌};
+ghost use Rattle.std.specs.Prelude.{◌≡◌};
 ghost use Rattle.order.specs.MayFollow.{is_carried, follows, is_check_or_return, is_item, is_addendum, may_follow};
 
 pub fn is_check_or_return(kind: u64) -> bool
     ensures { result ≡ is_check_or_return kind }
 {
-    (kind == 25) | (kind == 31)
+    matches!(kind, 25 | 31)
 }
 
 pub fn is_item(kind: u64) -> bool
     ensures { result ≡ is_item kind }
 {
-    ((kind == 25) | (kind == 31)) | (kind == 61)
+    is_check_or_return(kind) | (kind == 61)
 }
 
 pub fn is_addendum(kind: u64) -> bool
     ensures { result ≡ is_addendum kind }
 {
-    ((26 <= kind) & (kind <= 28)) | ((32 <= kind) & (kind <= 35))
+    matches!(kind, 26..=28 | 32..=35)
 }
 
 // The record types that are carried.
+#[tactic(auto, unfolding(crate::specs::MayFollow::is_carried))]
 pub fn is_carried(kind: u64) -> bool
     ensures { result ≡ is_carried kind }
 {
-    (kind == 1)
-        | (kind == 10)
-        | (kind == 20)
-        | (kind == 25)
-        | (kind == 26)
-        | (kind == 27)
-        | (kind == 28)
-        | (kind == 31)
-        | (kind == 32)
-        | (kind == 33)
-        | (kind == 34)
-        | (kind == 35)
-        | (kind == 50)
-        | (kind == 52)
-        | (kind == 54)
-        | (kind == 61)
-        | (kind == 70)
-        | (kind == 90)
-        | (kind == 99)
-}
-
-fn place_of(inside: bool) -> u64
-    ensures { (result ≡ cond inside 1 0) × (result ≤ 1) }
-{
-    if inside { 1 } else { 0 }
+    matches!(
+        kind,
+        1 | 10 | 20 | 25..=28 | 31..=35 | 50 | 52 | 54 | 61 | 70 | 90 | 99
+    )
 }
 
 // The tables of document 01 and request 2 by their pairs, each written LAST_NEXT_0 where no bundle is open and 1_LAST_NEXT_0 in a bundle; a LAST
@@ -60,7 +40,7 @@ fn follows_last(inside: bool, last: u64, next: u64) -> bool
     ensures { result ≡ follows inside last next }
 {
     if (last < 100) & (next < 100) {
-        match ((place_of(inside) * 100 + last) * 100 + next) * 10 {
+        match ((u64::from(inside) * 100 + last) * 100 + next) * 10 {
             00_01_0
             | 01_10_0
             | (10_20_0 | 10_61_0 | 10_90_0)

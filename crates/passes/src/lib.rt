@@ -3,7 +3,6 @@
 
 ghost use Rattle.std.specs.Prelude.{cond, ◌≡◌, List, [], ◌∷◌, ◌++◌, ℕ, ◌+◌, ◌*◌, ◌<◌, ◌≤◌, length, drop, Err};
 ghost use Rattle.std.proofs.lemmas.List.Edits.{sets};
-ghost use Rattle.layout.specs.Packing.{Packed};
 ghost use Rattle.standing.specs.Standing.{capped_figures, Roomy};
 ghost use Rattle.passes.specs.Answers.{Refused, number_of, field_of};
 ghost use Rattle.passes.specs.CheckOrder.{agreement, fault_of, turn_of};
@@ -12,6 +11,7 @@ ghost use Rattle.passes.specs.Reading.{step_of, ended_with, surveyed, Counted};
 
 use frame::{Cursor, Extent};
 use judge::Flaw;
+use layout::Layouts;
 use measure::{Items, Records, Sums};
 use standing::Standing;
 use text::CharacterSet;
@@ -145,13 +145,13 @@ pub fn agrees(set: CharacterSet, file: &[u8], s: Standing, at: usize, kind: u64)
 // The checks of one record in its place, in document 01's order.
 pub fn judge_next<'a>(
     set: CharacterSet,
-    layouts: &'a [u64],
+    layouts: &'a Layouts,
     file: &'a [u8],
     s: Standing,
     at: usize,
     body: &'a [u8],
 ) -> Turn
-    requires { Packed layouts.now × Roomy s }
+    requires { Roomy s }
     ensures { result ≡ turn_of set file.now s at body.now }
 {
     if body.len() < 2 {
@@ -170,12 +170,12 @@ pub fn judge_next<'a>(
 
 fn record_at<'a>(
     set: CharacterSet,
-    layouts: &'a [u64],
+    layouts: &'a Layouts,
     file: &'a [u8],
     s: Standing,
     at: usize,
 ) -> Step
-    requires { Packed layouts.now × Roomy s }
+    requires { Roomy s }
     ensures { result ≡ step_of set file.now s at }
 {
     if s.last == 99 {
@@ -211,8 +211,7 @@ fn ended_at(s: Standing, at: usize) -> Answer
 }
 
 // The first pass, by the layouts that the caller lends.
-fn survey_by<'a>(layouts: &'a [u64], file: &'a [u8]) -> Answer
-    requires { Packed layouts.now }
+fn survey_by<'a>(layouts: &'a Layouts, file: &'a [u8]) -> Answer
     ensures { (result ≡ surveyed file.now) × Counted file.now result }
 {
     if file.len() < 1 {

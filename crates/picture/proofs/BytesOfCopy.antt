@@ -6,7 +6,7 @@ use mathlib.Core.List.{List}
 use lib.Dec.{leb, eqb}
 use lib.ListN.{length}
 use borrow.Author.Tests.{eqb-true}
-use Rattle.std.specs.Prelude.{Some}
+use Rattle.std.specs.Prelude.{Some, Err}
 use Rattle.text.specs.declared.character_set.CharacterSet.TheVariants.{Ebcdic}
 use Rattle.text.specs.CharacterSet.{set_of}
 use Rattle.frame.specs.Frames.{Frame}
@@ -15,15 +15,14 @@ use Rattle.frame.specs.Frames.{part, frame_at}
 use Rattle.frame.specs.Unless.{unless}
 use Rattle.layout.specs.Layouts.{image_view_data}
 use Rattle.judge.specs.Alone.{Judged}
-use Rattle.judge.specs.Alone.{Sound, WrongLength, UnknownType, WrongField}
+use Rattle.judge.specs.Alone.{Sound}
 use Rattle.judge.specs.Alone.{type_of, alone}
 use Rattle.judge.specs.Image.{image_start, image_size}
 use Rattle.ascii_copy.specs.AsciiCopy.{ascii_copy, Begins}
 use Rattle.ascii_copy.proofs.Frames.{Ahead}
 use Rattle.ascii_copy.proofs.Copies.{CopyOf, itself, unread, translates, copy_of}
 use Rattle.ascii_copy.proofs.ImageKept.{image-ahead}
-use Rattle.picture.specs.declared.Found.{Found}
-use Rattle.picture.specs.declared.Found.TheVariants.{At, SizeRefused, LengthRefused, TypeRefused}
+use Rattle.picture.specs.Picture.{Found, At, SizeRefused, LengthRefused, TypeRefused}
 use Rattle.picture.specs.Picture.{bytes_of, size_allowed, when_sound, in_body, in_frame, picture_at}
 use Rattle.picture.proofs.OfCopy.{picture-of-copy}
 
@@ -38,10 +37,8 @@ module _ (file copy : List ℕ) where
   past-test false fault next refused passed = refused
 
   when-sound : (j : Judged) (found : Found) → (j ≡ Sound → Kept found) → Kept (when_sound j found)
-  when-sound Sound found sound = sound refl
-  when-sound WrongLength found sound = refl
-  when-sound UnknownType found sound = refl
-  when-sound (WrongField n) found sound = refl
+  when-sound Sound at kept = kept refl
+  when-sound (Err flaw) at kept = refl
 
   module _ (at : ℕ) (a : Ahead file copy at) where
     body_kept : (start size : ℕ) → frame_at file at ≡ Whole start size → Kept (in_body Ebcdic start (part start size file))

@@ -10,7 +10,7 @@ use Rattle.std.specs.Prelude.{Some}
 use Rattle.text.specs.declared.character_set.CharacterSet.TheVariants.{Ascii, Ebcdic}
 use Rattle.text.specs.CharacterSet.{set_of}
 use Rattle.frame.specs.Frames.{Frame}
-use Rattle.frame.specs.Frames.{Cut, Whole}
+use Rattle.frame.specs.Frames.{Cut}
 use Rattle.frame.specs.Frames.{part, frame_at}
 use Rattle.frame.specs.Unless.{unless}
 use Rattle.layout.specs.Layouts.{image_view_data}
@@ -20,8 +20,7 @@ use Rattle.ascii_copy.specs.AsciiCopy.{copied_body, ascii_copy, Begins}
 use Rattle.ascii_copy.proofs.Records.{length-copied, type-copied, alone-copied, image-start-copied, image-size-copied}
 use Rattle.ascii_copy.proofs.Frames.{Ahead, ahead-frame, ahead-body}
 use Rattle.ascii_copy.proofs.Copies.{CopyOf, itself, unread, translates, copy_of}
-use Rattle.picture.specs.declared.Found.{Found}
-use Rattle.picture.specs.declared.Found.TheVariants.{At, SizeRefused, LengthRefused, TypeRefused}
+use Rattle.picture.specs.Picture.{Found, At, SizeRefused, LengthRefused, TypeRefused}
 use Rattle.picture.specs.Picture.{size_allowed, when_sound, in_body, in_frame, picture_at}
 
 body-of-copy : (start : ℕ) (b : List ℕ) → in_body Ascii start (copied_body b) ≡ in_body Ebcdic start b

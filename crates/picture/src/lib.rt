@@ -3,80 +3,61 @@
 
 ghost use Rattle.std.specs.Prelude.{◌≡◌, ◌+◌, ◌≤◌, length};
 ghost use Rattle.ascii_copy.specs.AsciiCopy.{ascii_copy, Begins};
-ghost use Rattle.picture.specs.Picture.{number_of, field_of, start_of, size_of, bytes_of, in_body, picture_at};
+ghost use Rattle.picture.specs.Picture.{unfound_of, number_of, field_of, bytes_of, in_body, picture_at};
 
-use frame::{Cursor, Frame};
-use judge::Judged;
-use layout::ImageViewData;
+use frame::{Cursor, Extent};
+use judge::Flaw;
+use layout::{ImageViewData, Kind};
 use text::CharacterSet;
 
-// What the picture call finds at an offset of a file.
+// Why the picture call finds none.
 #[derive(Clone, Copy)]
-pub enum Found {
-    // The Image Data part: where it starts in the file, and how long it is.
-    At(usize, usize),
-    SizeRefused,
-    CutRefused,
-    LengthRefused,
-    TypeRefused,
+pub enum Unfound {
+    Size,
+    Cut,
+    Length,
+    // Any type but 52.
+    AnotherType,
     // The number of the field at fault.
-    FieldRefused(usize),
+    Field(usize),
 }
 
-impl Found {
+// What the picture call finds at an offset of a file: the Image Data part, where it starts in the file and how long it is, or why there is none.
+pub type Found = Result<Extent, Unfound>;
+
+impl From<Flaw> for Unfound {
+    ghost from_gives = { λ flaw unfound. unfound ≡ unfound_of flaw };
+
+    fn from(flaw: Flaw) -> Self {
+        match flaw {
+            Flaw::Length => Unfound::Length,
+            Flaw::UnknownType => Unfound::AnotherType,
+            Flaw::Field(n) => Unfound::Field(n),
+        }
+    }
+}
+
+impl Unfound {
     // Document 01's number for the answer.
     pub fn number(self) -> u64
-        ensures { result ≡ number_of self }
+        ensures { result ≡ number_of (Err self) }
     {
         match self {
-            Found::At(_, _) => 0,
-            Found::SizeRefused => 1,
-            Found::CutRefused => 3,
-            Found::LengthRefused => 4,
-            Found::TypeRefused => 5,
-            Found::FieldRefused(_) => 7,
+            Unfound::Size => 1,
+            Unfound::Cut => 3,
+            Unfound::Length => 4,
+            Unfound::AnotherType => 5,
+            Unfound::Field(_) => 7,
         }
     }
 
     // The field at fault, 0 for any other answer.
     pub fn field(self) -> usize
-        ensures { result ≡ field_of self }
+        ensures { result ≡ field_of (Err self) }
     {
         match self {
-            Found::At(_, _) => 0,
-            Found::SizeRefused => 0,
-            Found::CutRefused => 0,
-            Found::LengthRefused => 0,
-            Found::TypeRefused => 0,
-            Found::FieldRefused(n) => n,
-        }
-    }
-
-    // Where the part starts in the file, 0 where there is none.
-    pub fn start(self) -> usize
-        ensures { result ≡ start_of self }
-    {
-        match self {
-            Found::At(start, _) => start,
-            Found::SizeRefused => 0,
-            Found::CutRefused => 0,
-            Found::LengthRefused => 0,
-            Found::TypeRefused => 0,
-            Found::FieldRefused(_) => 0,
-        }
-    }
-
-    // How long it is.
-    pub fn size(self) -> usize
-        ensures { result ≡ size_of self }
-    {
-        match self {
-            Found::At(_, size) => size,
-            Found::SizeRefused => 0,
-            Found::CutRefused => 0,
-            Found::LengthRefused => 0,
-            Found::TypeRefused => 0,
-            Found::FieldRefused(_) => 0,
+            Unfound::Size | Unfound::Cut | Unfound::Length | Unfound::AnotherType => 0,
+            Unfound::Field(n) => n,
         }
     }
 }
@@ -87,20 +68,16 @@ fn in_body(set: CharacterSet, start: usize, body: &[u8]) -> Found
     ensures { result ≡ in_body set start body.now }
 {
     if body.len() < 2 {
-        return Found::LengthRefused;
+        return Err(Unfound::Length);
     }
     if judge::type_of(set, body) != ImageViewData::TYPE {
-        return Found::TypeRefused;
+        return Err(Unfound::AnotherType);
     }
-    match judge::judge_image(set, body) {
-        Judged::Sound => Found::At(
-            start + judge::image_start(set, body),
-            judge::image_size(set, body),
-        ),
-        Judged::WrongLength => Found::LengthRefused,
-        Judged::UnknownType => Found::TypeRefused,
-        Judged::WrongField(n) => Found::FieldRefused(n),
-    }
+    judge::judge_image(set, body)?;
+    Ok(Extent {
+        start: start + judge::image_start(set, body),
+        size: judge::image_size(set, body),
+    })
 }
 
 // What stands at an offset. Any file and any offset get their answer.
@@ -108,16 +85,14 @@ fn found_at(file: &[u8], offset: usize) -> Found
     ensures { result ≡ picture_at file.now offset }
 {
     if file.len() < 1 {
-        return Found::SizeRefused;
+        return Err(Unfound::Size);
     }
     if 268_435_456 < file.len() {
-        return Found::SizeRefused;
+        return Err(Unfound::Size);
     }
     let set = text::set_of(file);
-    match Cursor::at(offset).frame(file) {
-        Frame::Cut => Found::CutRefused,
-        Frame::Whole(start, size) => in_body(set, start, frame::part_of(file, start, size)),
-    }
+    let Extent { start, size } = Cursor::at(offset).frame(file).ok_or(Unfound::Cut)?;
+    in_body(set, start, frame::part_of(file, start, size))
 }
 
 // The companion call: what the picture call finds. At every offset where a record begins as the lengths frame the file, it is what is found in
@@ -135,6 +110,8 @@ pub fn picture(file: &[u8], offset: usize) -> &[u8]
     ensures bytes { result.now ≡ bytes_of file.now (picture_at file.now offset) }
     ensures copy { Begins file.now offset → result.now ≡ bytes_of (ascii_copy file.now) (picture_at (ascii_copy file.now) offset) }
 {
-    let found = found_at(file, offset);
-    frame::part_of(file, found.start(), found.size())
+    match found_at(file, offset) {
+        Ok(part) => frame::part_of(file, part.start, part.size),
+        Err(_) => &[],
+    }
 }

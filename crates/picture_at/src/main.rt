@@ -30,12 +30,8 @@ fn offset_asked(rt: &impl Env) -> u64 {
 
 fn say_found(rt: &impl Print, found: Found) -> io::Result<()> {
     match found {
-        Found::At(start, size) => println!(rt; "picture start {start} length {size}"),
-        _ => {
-            let number = found.number();
-            let field = found.field();
-            println!(rt; "refused {number} field {field}")
-        }
+        Ok(part) => println!(rt; "picture start {} length {}", part.start, part.size),
+        Err(unfound) => println!(rt; "refused {} field {}", unfound.number(), unfound.field()),
     }
 }
 

@@ -2,7 +2,6 @@
 #![tactic(auto)]
 
 ghost use Rattle.std.specs.Prelude.{true, ◌&&◌, ◌≡◌, leb, length};
-ghost use Rattle.layout.specs.Packing.{Packed};
 ghost use Rattle.salvage_model.specs.Walked.{walked};
 ghost use Rattle.salvage_model.specs.Kept.{is_anything};
 ghost use Rattle.salvage_model.specs.Salvaged.{salvage_outcome, salvage_buffer, salvage_list};
@@ -10,6 +9,7 @@ ghost use Rattle.salvage_model.specs.Promises.{Promised};
 ghost use Rattle.salvage.specs.Steps.{WalkedTo, SalvagedAs};
 
 use draft::Outcome;
+use layout::Layouts;
 use passes::{Fault, Refusal};
 use salvage_next::Cue;
 use salvage_walk::Way;
@@ -23,8 +23,8 @@ fn is_of_size(bytes: usize) -> bool
 }
 
 // Whether the file header is sound and any cash letter is left.
-fn is_anything<'a>(set: CharacterSet, layouts: &'a [u64], file: &'a [u8], end: usize) -> bool
-    requires { Packed layouts.now × WalkedTo set file.now end }
+fn is_anything<'a>(set: CharacterSet, layouts: &'a Layouts, file: &'a [u8], end: usize) -> bool
+    requires { WalkedTo set file.now end }
     ensures { result ≡ is_anything set (walked file.now) }
 {
     if end == 0 {
@@ -42,13 +42,13 @@ fn is_anything<'a>(set: CharacterSet, layouts: &'a [u64], file: &'a [u8], end: u
 // Of a file of which anything is left: the writer's answer, and the new file and the list where there is room for both.
 fn salvage_left<'a>(
     set: CharacterSet,
-    layouts: &'a [u64],
+    layouts: &'a Layouts,
     file: &'a [u8],
     way: Way,
     out: &mut [u8],
     list: &mut [u64],
 ) -> Outcome
-    requires { Packed layouts.now × WalkedTo set file.now way.end × (way.count ≡ length (walked file.now)) × (is_anything set (walked file.now) ≡ true) }
+    requires { WalkedTo set file.now way.end × (way.count ≡ length (walked file.now)) × (is_anything set (walked file.now) ≡ true) }
     ensures { SalvagedAs file.now out.old list.old result out.new list.new }
 {
     let end = way.end;

@@ -2,11 +2,11 @@
 #![tactic(auto)]
 
 ghost use Rattle.std.specs.Prelude.{◌≤◌, length};
-ghost use Rattle.layout.specs.Packing.{Packed};
 ghost use Rattle.draft.specs.Values.{values_of_row};
 ghost use Rattle.salvage_entry.specs.Entered.{Entering, EnteredAs};
 
 use draft_rows::Row;
+use layout::Layouts;
 use passes::Refusal;
 use standing::Standing;
 use text::CharacterSet;
@@ -24,18 +24,18 @@ pub type Entered = Result<Pen, Refusal>;
 // One record more, with so many addenda behind it: `text` and `row` say it as a draft does.
 pub fn enter<'a>(
     set: CharacterSet,
-    layouts: &'a [u64],
+    layouts: &'a Layouts,
     text: &'a [u8],
     row: &'a [u64],
     addenda: u64,
     pen: Pen,
     sheet: &mut [u8],
 ) -> Entered
-    requires { Packed layouts.now × (10 ≤ length row.now) × Entering (values_of_row set text.now row.now) addenda sheet.old pen }
+    requires { (10 ≤ length row.now) × Entering (values_of_row set text.now row.now) addenda sheet.old pen }
     ensures { (e : Entering (values_of_row set text.now row.now) addenda sheet.old pen) → EnteredAs (values_of_row set text.now row.now) e.others e.begun.file e.begun.past result sheet.new }
 {
     let s = pen.standing;
-    let own = layout::own_numbers(layouts, row[0]);
+    let own = layouts.own_numbers(row[0]);
     match draft_survey::judge_counted(set, own, text, row, addenda, s, sheet) {
         Err(fault) => Err(Refusal {
             fault,

@@ -3,25 +3,25 @@
 
 ghost use Rattle.std.specs.Prelude.{List, [], ◌∷◌, ◌++◌, ◌≡◌, ◌+◌, ◌≤◌, length, drop};
 ghost use Rattle.std.proofs.lemmas.List.Edits.{sets};
-ghost use Rattle.layout.specs.Packing.{Packed};
 ghost use Rattle.salvage_model.specs.Kept.{Marked};
 ghost use Rattle.salvage_model.specs.Salvaged.{status_of, fault_number, listed};
 ghost use Rattle.salvage_marks.specs.Left.{meant, Left, Planned};
 ghost use Rattle.salvage_made.specs.ByMarks.{any_marked};
 ghost use Rattle.salvage_list.specs.Listable.{Listable};
 
+use layout::Layouts;
 use salvage_marks::{Marking, Plan};
 use text::CharacterSet;
 
 // Whether any record from here on is kept.
 pub fn is_any_kept<'a>(
     set: CharacterSet,
-    layouts: &'a [u64],
+    layouts: &'a Layouts,
     file: &'a [u8],
     end: usize,
     from: Plan,
 ) -> bool
-    requires { Packed layouts.now × Planned set file.now end from }
+    requires { Planned set file.now end from }
     ensures { (ms : List Marked) → Left set file.now end from ms → result ≡ any_marked ms }
 {
     let mut plan = from;
@@ -50,13 +50,13 @@ fn put_row(list: &mut [u64], row: usize, at: usize, mark: Marking)
 // Offset, type, status and number of each record from here on.
 pub fn put_list<'a>(
     set: CharacterSet,
-    layouts: &'a [u64],
+    layouts: &'a Layouts,
     file: &'a [u8],
     end: usize,
     from: Plan,
     list: &mut [u64],
 )
-    requires { Packed layouts.now × Listable set file.now end from (length list.old) }
+    requires { Listable set file.now end from (length list.old) }
     ensures { (ms : List Marked) → Left set file.now end from ms → list.new ≡ listed set from.at ms ++ drop (length (listed set from.at ms)) list.old }
 {
     let mut plan = from;

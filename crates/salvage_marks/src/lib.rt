@@ -2,7 +2,6 @@
 #![tactic(auto)]
 
 ghost use Rattle.std.specs.Prelude.{true, false, ◌||◌, cond, List, ◌∷◌, ◌≡◌, ℕ, ◌≤◌, ◌<◌, eqb, length};
-ghost use Rattle.layout.specs.Packing.{Packed};
 ghost use Rattle.file_as_records.specs.Framed.{Body};
 ghost use Rattle.arrangement.specs.Sound.{indicator, N};
 ghost use Rattle.salvage_model.specs.Runs.{groups_of};
@@ -12,6 +11,7 @@ ghost use Rattle.salvage_walk.specs.Spans.{Stands, Spans, SeenAs};
 ghost use Rattle.salvage_runs.specs.RunAt.{RunAt};
 ghost use Rattle.salvage_marks.specs.Left.{meant, is_kept, is_dropped, Left, Planned, NextMark, GroupFate};
 
+use layout::Layouts;
 use passes::Fault;
 use salvage_runs::Grouped;
 use salvage_walk::Seen;
@@ -128,7 +128,7 @@ pub fn plan_of_file(set: CharacterSet, file: &[u8], end: usize) -> Plan
 // A header that is sound alone, of a letter of N or, as Annex B has it, with a sound bundle.
 fn is_letter_kept<'a>(
     set: CharacterSet,
-    layouts: &'a [u64],
+    layouts: &'a Layouts,
     file: &'a [u8],
     heading: usize,
     from: usize,
@@ -136,7 +136,7 @@ fn is_letter_kept<'a>(
     body: &'a [u8],
     sound: bool,
 ) -> bool
-    requires { Packed layouts.now × (sound ≡ true → RunAt set file.now heading from stop) }
+    requires { sound ≡ true → RunAt set file.now heading from stop }
     ensures { (sound ≡ false → result ≡ false) × (sound ≡ true → (w : RunAt set file.now heading from stop) → body.now ≡ w.header → result ≡ (eqb (indicator set w.header) N || any_bundle set w.header (groups_of set w.bodies))) }
 {
     if !sound {
@@ -151,13 +151,13 @@ fn is_letter_kept<'a>(
 // A cash letter header.
 fn letter_begun<'a>(
     set: CharacterSet,
-    layouts: &'a [u64],
+    layouts: &'a Layouts,
     file: &'a [u8],
     end: usize,
     seen: Seen,
     plan: Plan,
 ) -> Marking
-    requires { Packed layouts.now × (plan.group ≤ plan.at) × (plan.stop ≤ plan.at) × (plan.at < end) × (seen.kind ≡ 10) × Planned set file.now end plan × ((b : Body) → Stands file.now plan.at b → SeenAs set plan.at b seen) }
+    requires { (plan.group ≤ plan.at) × (plan.stop ≤ plan.at) × (plan.at < end) × (seen.kind ≡ 10) × Planned set file.now end plan × ((b : Body) → Stands file.now plan.at b → SeenAs set plan.at b seen) }
     ensures { (ms : List Marked) → Left set file.now end plan ms → NextMark set file.now end plan ms result }
 {
     let at = plan.at;
@@ -189,13 +189,13 @@ fn letter_begun<'a>(
 // A record that lies under no header.
 fn outside_letters<'a>(
     set: CharacterSet,
-    layouts: &'a [u64],
+    layouts: &'a Layouts,
     file: &'a [u8],
     end: usize,
     seen: Seen,
     plan: Plan,
 ) -> Marking
-    requires { Packed layouts.now × (plan.group ≤ plan.at) × (plan.stop ≤ plan.at) × (plan.at < end) × Planned set file.now end plan × ((b : Body) → Stands file.now plan.at b → SeenAs set plan.at b seen) }
+    requires { (plan.group ≤ plan.at) × (plan.stop ≤ plan.at) × (plan.at < end) × Planned set file.now end plan × ((b : Body) → Stands file.now plan.at b → SeenAs set plan.at b seen) }
     ensures { (ms : List Marked) → Left set file.now end plan ms → NextMark set file.now end plan ms result }
 {
     let kind = seen.kind;
@@ -220,12 +220,12 @@ fn outside_letters<'a>(
 // What becomes of the records of a group.
 fn group_fate<'a>(
     set: CharacterSet,
-    layouts: &'a [u64],
+    layouts: &'a Layouts,
     file: &'a [u8],
     plan: Plan,
     group: Grouped,
 ) -> Fate
-    requires { Packed layouts.now × (plan.sound ≡ true → RunAt set file.now plan.heading plan.at group.end) }
+    requires { plan.sound ≡ true → RunAt set file.now plan.heading plan.at group.end }
     ensures { GroupFate set file.now plan group result }
 {
     if !(group.group.is_run() & plan.sound) {
@@ -240,13 +240,13 @@ fn group_fate<'a>(
 // The first record of a group under a header.
 fn group_begun<'a>(
     set: CharacterSet,
-    layouts: &'a [u64],
+    layouts: &'a Layouts,
     file: &'a [u8],
     seen: Seen,
     plan: Plan,
     end: usize,
 ) -> Marking
-    requires { Packed layouts.now × (plan.group ≤ plan.at) × (plan.at < plan.stop) × Planned set file.now end plan × ((b : Body) → Stands file.now plan.at b → SeenAs set plan.at b seen) }
+    requires { (plan.group ≤ plan.at) × (plan.at < plan.stop) × Planned set file.now end plan × ((b : Body) → Stands file.now plan.at b → SeenAs set plan.at b seen) }
     ensures { (ms : List Marked) → Left set file.now end plan ms → NextMark set file.now end plan ms result }
 {
     let group = salvage_runs::group_at(set, file, plan.at, plan.stop);
@@ -269,12 +269,12 @@ fn group_begun<'a>(
 // The next record marked.
 pub fn mark_next<'a>(
     set: CharacterSet,
-    layouts: &'a [u64],
+    layouts: &'a Layouts,
     file: &'a [u8],
     end: usize,
     plan: Plan,
 ) -> Marking
-    requires { Packed layouts.now × (plan.at < end) × Planned set file.now end plan }
+    requires { (plan.at < end) × Planned set file.now end plan }
     ensures { (ms : List Marked) → Left set file.now end plan ms → NextMark set file.now end plan ms result }
 {
     let at = plan.at;

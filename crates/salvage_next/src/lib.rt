@@ -2,7 +2,6 @@
 #![tactic(auto)]
 
 ghost use Rattle.std.specs.Prelude.{false, List, ◌≡◌, eqb};
-ghost use Rattle.layout.specs.Packing.{Packed};
 ghost use Rattle.file_as_records.specs.Framed.{Body};
 ghost use Rattle.draft.specs.Values.{Values};
 ghost use Rattle.salvage_model.specs.Kept.{Marked};
@@ -11,6 +10,7 @@ ghost use Rattle.salvage_marks.specs.Left.{is_kept};
 ghost use Rattle.salvage_made.specs.ByMarks.{addenda_among};
 ghost use Rattle.salvage_next.specs.Cued.{Going, Underway, NextLeft, closes_first, new_control, kept_entry, Cued, Cueing, NextEntry};
 
+use layout::Layouts;
 use salvage_marks::{Fate, Marking, Plan};
 use text::CharacterSet;
 
@@ -37,12 +37,12 @@ pub struct Entry {
 // The next record that is not dropped, from here on. Where there is none: the file's control, as though one of no characters had been walked.
 fn next_left<'a>(
     set: CharacterSet,
-    layouts: &'a [u64],
+    layouts: &'a Layouts,
     file: &'a [u8],
     end: usize,
     from: Plan,
 ) -> Marking
-    requires { Packed layouts.now × Underway set file.now end from }
+    requires { Underway set file.now end from }
     ensures { (ms : List Marked) → Going set file.now end from ms → NextLeft set file.now end from ms result }
 {
     let mut plan = from;
@@ -117,12 +117,12 @@ fn kept_entry(set: CharacterSet, file: &[u8], end: usize, opened: bool, mark: Ma
 // The next record of the new file: a letter that is open is closed before another begins and before the file ends.
 pub fn next_entry<'a>(
     set: CharacterSet,
-    layouts: &'a [u64],
+    layouts: &'a Layouts,
     file: &'a [u8],
     end: usize,
     cue: Cue,
 ) -> Entry
-    requires { Packed layouts.now × (cue.done ≡ false) × Cueing set file.now end cue }
+    requires { (cue.done ≡ false) × Cueing set file.now end cue }
     ensures { (vs : List Values) → Cued set file.now end cue vs → NextEntry set file.now end cue vs result }
 {
     let plan = cue.plan;

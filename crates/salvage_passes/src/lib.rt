@@ -2,7 +2,6 @@
 #![tactic(auto)]
 
 ghost use Rattle.std.specs.Prelude.{List, [], ◌∷◌, ◌++◌, ◌≡◌, length, drop};
-ghost use Rattle.layout.specs.Packing.{Packed};
 ghost use Rattle.draft.specs.Values.{Values};
 ghost use Rattle.draft.specs.Drafted.{answer_from, made};
 ghost use Rattle.draft_survey.specs.CappedOutcome.{capped_outcome};
@@ -13,6 +12,7 @@ ghost use Rattle.salvage_passes.specs.Says.{NextEntered, NextWritten};
 ghost use Rattle.salvage_passes.specs.Writable.{Writable};
 
 use draft::Outcome;
+use layout::Layouts;
 use salvage_entry::{Entered, Pen};
 use salvage_next::{Cue, Entry};
 use set_out::Progress;
@@ -22,7 +22,7 @@ use text::CharacterSet;
 // One record more of the new file, judged on the sheet; `text` and `row` are lent to say it as a draft does.
 fn enter_next<'a>(
     set: CharacterSet,
-    layouts: &'a [u64],
+    layouts: &'a Layouts,
     file: &'a [u8],
     entry: Entry,
     pen: Pen,
@@ -30,7 +30,7 @@ fn enter_next<'a>(
     row: &mut [u64],
     sheet: &mut [u8],
 ) -> Entered
-    requires { Packed layouts.now × (length text.old ≡ 85) × (length row.old ≡ 10) × NextEntered set file.now entry sheet.old pen }
+    requires { (length text.old ≡ 85) × (length row.old ≡ 10) × NextEntered set file.now entry sheet.old pen }
     ensures { (length text.new ≡ 85) × (length row.new ≡ 10) × ((e : NextEntered set file.now entry sheet.old pen) → EnteredAs e.value e.entering.others e.entering.begun.file e.entering.begun.past result sheet.new) }
 {
     let body = frame::part_of(file, entry.start, entry.size);
@@ -53,7 +53,7 @@ fn enter_next<'a>(
 // One record more of the new file, written.
 fn write_next<'a>(
     set: CharacterSet,
-    layouts: &'a [u64],
+    layouts: &'a Layouts,
     file: &'a [u8],
     entry: Entry,
     s: Standing,
@@ -62,7 +62,7 @@ fn write_next<'a>(
     sheet: &mut [u8],
     out: &mut [u8],
 ) -> Progress
-    requires { Packed layouts.now × (length text.old ≡ 85) × (length row.old ≡ 10) × NextWritten set file.now entry sheet.old s (length out.old) }
+    requires { (length text.old ≡ 85) × (length row.old ≡ 10) × NextWritten set file.now entry sheet.old s (length out.old) }
     ensures { (length text.new ≡ 85) × (length row.new ≡ 10) × ((w : NextWritten set file.now entry sheet.old s (length out.old)) → Onward (w.value ∷ w.ready.others) w.ready.ready.file w.ready.ready.past out.old w.ready.others sheet.new result.standing result.bytes out.new) }
 {
     let body = frame::part_of(file, entry.start, entry.size);
@@ -86,12 +86,12 @@ fn write_next<'a>(
 // The answer to what is left, whatever the buffer; 2^64 - 1 bytes stand for as many or more.
 pub fn decide<'a>(
     set: CharacterSet,
-    layouts: &'a [u64],
+    layouts: &'a Layouts,
     file: &'a [u8],
     end: usize,
     cue: Cue,
 ) -> Outcome
-    requires { Packed layouts.now × Cueing set file.now end cue }
+    requires { Cueing set file.now end cue }
     ensures { (vs : List Values) → Cued set file.now end cue vs → result ≡ capped_outcome (answer_from vs [] []) }
 {
     let mut sheet: [u8; 800] = [0; 800];
@@ -115,13 +115,13 @@ pub fn decide<'a>(
 // What is left set out in the buffer, record behind record.
 pub fn write_left<'a>(
     set: CharacterSet,
-    layouts: &'a [u64],
+    layouts: &'a Layouts,
     file: &'a [u8],
     end: usize,
     cue: Cue,
     out: &mut [u8],
 )
-    requires { Packed layouts.now × Writable set file.now end cue (length out.old) }
+    requires { Writable set file.now end cue (length out.old) }
     ensures { (w : Writable set file.now end cue (length out.old)) → out.new ≡ made w.values ++ drop (length (made w.values)) out.old }
 {
     let mut sheet: [u8; 800] = [0; 800];

@@ -5,18 +5,19 @@ ghost use Rattle.std.specs.Prelude.{true, ◌&&◌, ◌≡◌, ℕ, ◌+◌, ◌
 ghost use Rattle.std.proofs.Math.Option.{some};
 ghost use Rattle.std.proofs.lemmas.List.Edits.{sets};
 ghost use Rattle.text.specs.declared.character_set.CharacterSet.TheVariants.{Ascii};
-ghost use Rattle.layout.specs.Packing.{Packed, line_of};
+ghost use Rattle.layout.specs.Packing.{line_of};
 ghost use Rattle.judge.specs.Alone.{line_holds};
 ghost use Rattle.draft.specs.Values.{layout_of, values_of_row, values_of_body};
 ghost use Rattle.draft.specs.Completed.{characters_of};
 ghost use Rattle.salvage_model.specs.Kept.{free_field, control_values};
 ghost use Rattle.salvage_made.specs.ByMarks.{is_control};
 
+use layout::Layouts;
 use text::CharacterSet;
 
 // A record that is kept: its own body is the text.
-pub fn put_kept<'a>(set: CharacterSet, layouts: &'a [u64], body: &'a [u8], row: &mut [u64])
-    requires { Packed layouts.now × (length row.old ≡ 10) }
+pub fn put_kept<'a>(set: CharacterSet, layouts: &'a Layouts, body: &'a [u8], row: &mut [u64])
+    requires { length row.old ≡ 10 }
     ensures { (length row.new ≡ 10) × (values_of_row set body.now row.new ≡ values_of_body set body.now) }
 {
     drafting::put_row(set, layouts, body, 0, row, 0);
@@ -54,16 +55,16 @@ fn put_free(set: CharacterSet, packed: u64, body: &[u8], text: &mut [u8])
 // the start: neither has parts, and only a 70 can leave a total blank. Whoever walked no control lends no characters.
 pub fn put_control<'a>(
     set: CharacterSet,
-    layouts: &'a [u64],
+    layouts: &'a Layouts,
     kind: u64,
     body: &'a [u8],
     text: &mut [u8],
     row: &mut [u64],
 )
-    requires { Packed layouts.now × (is_control kind ≡ true) × (length text.old ≡ 85) × (length row.old ≡ 10) }
+    requires { (is_control kind ≡ true) × (length text.old ≡ 85) × (length row.old ≡ 10) }
     ensures { (length text.new ≡ 85) × (length row.new ≡ 10) × (values_of_row Ascii text.new row.new ≡ control_values set (layout_of kind) (some body.now)) }
 {
-    let own = layout::own_numbers(layouts, kind);
+    let own = layouts.own_numbers(kind);
     put_free(set, own[6], body, text);
     put_free(set, own[7], body, text);
     row[0] = kind;

@@ -2,7 +2,6 @@
 #![tactic(auto)]
 
 ghost use Rattle.std.specs.Prelude.{true, List, [], ◌≡◌, ℕ, ◌<◌, get_or};
-ghost use Rattle.layout.specs.Packing.{Packed};
 ghost use Rattle.standing.specs.Standing.{standing, onward, capped_figures};
 ghost use Rattle.file_as_records.specs.Framed.{Body};
 ghost use Rattle.arrangement.specs.Sound.{indicator};
@@ -12,6 +11,7 @@ ghost use Rattle.salvage_walk.specs.Spans.{Spans};
 ghost use Rattle.salvage_runs.specs.Places.{placed_at};
 ghost use Rattle.salvage_runs.specs.RunAt.{read_through, is_run, is_bundle, RunAt, GroupAt};
 
+use layout::Layouts;
 use passes::Fault;
 use standing::Standing;
 use text::CharacterSet;
@@ -46,8 +46,7 @@ pub struct Grouped {
 }
 
 // Whether a record is one of a type and sound alone.
-pub fn is_sound_alone<'a>(set: CharacterSet, layouts: &'a [u64], kind: u64, body: &'a [u8]) -> bool
-    requires { Packed layouts.now }
+pub fn is_sound_alone<'a>(set: CharacterSet, layouts: &'a Layouts, kind: u64, body: &'a [u8]) -> bool
     ensures { result ≡ sound_alone set kind body.now }
 {
     if body.len() < 2 {
@@ -75,13 +74,13 @@ fn behind_header(set: CharacterSet, file: &[u8], heading: usize) -> Standing
 // A run's first fault under a header that is sound alone, where the reader would not read it through.
 pub fn run_fault<'a>(
     set: CharacterSet,
-    layouts: &'a [u64],
+    layouts: &'a Layouts,
     file: &'a [u8],
     heading: usize,
     from: usize,
     end: usize,
 ) -> Result<(), Fault>
-    requires { Packed layouts.now × RunAt set file.now heading from end }
+    requires { RunAt set file.now heading from end }
     ensures { (w : RunAt set file.now heading from end) → result ≡ read_through (run_fault set w.header w.bodies) }
 {
     let mut s = behind_header(set, file, heading);
@@ -145,13 +144,13 @@ pub fn group_at(set: CharacterSet, file: &[u8], at: usize, end: usize) -> Groupe
 // Whether a bundle under a header is sound.
 pub fn any_bundle<'a>(
     set: CharacterSet,
-    layouts: &'a [u64],
+    layouts: &'a Layouts,
     file: &'a [u8],
     heading: usize,
     from: usize,
     end: usize,
 ) -> bool
-    requires { Packed layouts.now × RunAt set file.now heading from end }
+    requires { RunAt set file.now heading from end }
     ensures { (w : RunAt set file.now heading from end) → result ≡ any_bundle set w.header (groups_of set w.bodies) }
 {
     let mut at = from;

@@ -4,7 +4,6 @@
 
 ghost use Rattle.std.specs.Prelude.{[], ◌∷◌, ◌++◌, ◌≡◌, ◌+◌, ◌≤◌, length, get_or, drop};
 ghost use Rattle.std.proofs.lemmas.List.Edits.{sets};
-ghost use Rattle.layout.specs.Packing.{Packed};
 ghost use Rattle.file_as_records.specs.Framed.{length_field, framed};
 ghost use Rattle.draft.specs.Values.{layout_of, values_of_row};
 ghost use Rattle.draft.specs.Completed.{all_parts, all_sizes};
@@ -12,6 +11,7 @@ ghost use Rattle.draft.specs.Drafted.{made};
 ghost use Rattle.set_out.specs.SetOut.{values_in, Fits, Ready, Onward, RowsSetOut, ReadyOne};
 
 use draft_rows::Row;
+use layout::Layouts;
 use standing::Standing;
 use text::CharacterSet;
 
@@ -67,7 +67,7 @@ pub fn write_record<'a>(
 // The record of the first row, with so many addenda behind it: completed on the sheet, and written.
 pub fn write_counted<'a>(
     set: CharacterSet,
-    layouts: &'a [u64],
+    layouts: &'a Layouts,
     text: &[u8],
     rows: &'a [u64],
     addenda: u64,
@@ -75,11 +75,11 @@ pub fn write_counted<'a>(
     sheet: &mut [u8],
     out: &mut [u8],
 ) -> Progress
-    requires { Packed layouts.now × (10 ≤ length rows.now) × ReadyOne (values_of_row set text.now rows.now) addenda sheet.old s (length out.old) }
+    requires { (10 ≤ length rows.now) × ReadyOne (values_of_row set text.now rows.now) addenda sheet.old s (length out.old) }
     ensures { (result.numbers ≡ 10) × ((b : ReadyOne (values_of_row set text.now rows.now) addenda sheet.old s (length out.old)) → Onward (values_of_row set text.now rows.now ∷ b.others) b.ready.file b.ready.past out.old b.others sheet.new result.standing result.bytes out.new) }
 {
     let kind = rows[0];
-    let own = layout::own_numbers(layouts, kind);
+    let own = layouts.own_numbers(kind);
     let row = Row { own, rows };
     let at = sheet::slot_of(kind);
     let body = at + 4;
@@ -97,14 +97,14 @@ pub fn write_counted<'a>(
 // The same, its addenda counted in the rows behind it.
 fn write_row<'a>(
     set: CharacterSet,
-    layouts: &'a [u64],
+    layouts: &'a Layouts,
     text: &[u8],
     rows: &'a [u64],
     s: Standing,
     sheet: &mut [u8],
     out: &mut [u8],
 ) -> Progress
-    requires { Packed layouts.now × (10 ≤ length rows.now) × Ready (values_in set text.now rows.now) sheet.old s (length out.old) }
+    requires { (10 ≤ length rows.now) × Ready (values_in set text.now rows.now) sheet.old s (length out.old) }
     ensures { RowsSetOut set text.now rows.now sheet.old out.old s result sheet.new out.new }
 {
     let addenda = draft_rows::addenda_behind(rows);
@@ -114,14 +114,14 @@ fn write_row<'a>(
 // A bundle: the records from the first row through the next 70, or to the end of the rows.
 fn write_bundle<'a>(
     set: CharacterSet,
-    layouts: &'a [u64],
+    layouts: &'a Layouts,
     text: &[u8],
     rows: &'a [u64],
     s: Standing,
     sheet: &mut [u8],
     out: &mut [u8],
 ) -> Progress
-    requires { Packed layouts.now × (10 ≤ length rows.now) × Ready (values_in set text.now rows.now) sheet.old s (length out.old) }
+    requires { (10 ≤ length rows.now) × Ready (values_in set text.now rows.now) sheet.old s (length out.old) }
     ensures { RowsSetOut set text.now rows.now sheet.old out.old s result sheet.new out.new }
 {
     let mut standing = s;
@@ -154,12 +154,12 @@ fn write_bundle<'a>(
 // The whole file, bundle by bundle; records outside a bundle one by one.
 pub fn write_rows<'a>(
     set: CharacterSet,
-    layouts: &'a [u64],
+    layouts: &'a Layouts,
     text: &[u8],
     draft: &'a [u64],
     out: &mut [u8],
 )
-    requires { Packed layouts.now × Fits (values_in set text.now draft.now) [] [] (length out.old) }
+    requires { Fits (values_in set text.now draft.now) [] [] (length out.old) }
     ensures { out.new ≡ made (values_in set text.now draft.now) ++ drop (length (made (values_in set text.now draft.now))) out.old }
 {
     let mut sheet: [u8; 800] = [0; 800];

@@ -3,6 +3,8 @@
 // against those before it, and calls for what the figures show behind it. A record that it does not call for has no place there.
 // The names are the standard's, cut short. `own_` is what stands directly in a cash letter: a credit of its own, with its views, which Figure 1c
 // leaves out "in order to enhance clarity".
+// Stays: each function matches on the type that is called for and calls the function of that record. That is the form that request 12 names: a function
+// for each box of the figures, which call each other in a cycle with fewer bytes left at each call.
 #![tactic(auto)]
 
 ghost use Rattle.std.specs.Prelude.{◌≡◌, true, false, ◌≤◌, length};
@@ -10,7 +12,7 @@ ghost use Rattle.text.specs.CharacterSet.{set_of};
 ghost use Rattle.slow_step.specs.Places.{IsAnswer, Called};
 
 use passes::Answer;
-use slow_step::{Entered, enter, not_called_for};
+use slow_step::{enter, not_called_for};
 use standing::Standing;
 use text::CharacterSet;
 
@@ -19,12 +21,10 @@ fn file_header(set: CharacterSet, file: &[u8], s: Standing, at: usize) -> Answer
     requires { Called set file.now s at false 1 }
     ensures { IsAnswer set file.now result }
 {
-    match enter(set, file, s, 1, at) {
-        Entered::Stop(answer) => answer,
-        Entered::On(here, next, called) => match called {
-            10 => letter(set, file, here, next),
-            _ => not_called_for(set, file, here, next),
-        },
+    let (here, next, called) = enter(set, file, s, 1, at)?;
+    match called {
+        Some(10) => letter(set, file, here, next),
+        _ => not_called_for(set, file, here, next),
     }
 }
 
@@ -34,14 +34,12 @@ fn letter(set: CharacterSet, file: &[u8], s: Standing, at: usize) -> Answer
     requires { Called set file.now s at false 10 }
     ensures { IsAnswer set file.now result }
 {
-    match enter(set, file, s, 10, at) {
-        Entered::Stop(answer) => answer,
-        Entered::On(here, next, called) => match called {
-            20 => bundle(set, file, here, next),
-            61 => own_credit(set, file, here, next),
-            90 => letter_control(set, file, here, next),
-            _ => not_called_for(set, file, here, next),
-        },
+    let (here, next, called) = enter(set, file, s, 10, at)?;
+    match called {
+        Some(20) => bundle(set, file, here, next),
+        Some(61) => own_credit(set, file, here, next),
+        Some(90) => letter_control(set, file, here, next),
+        _ => not_called_for(set, file, here, next),
     }
 }
 
@@ -51,14 +49,12 @@ fn bundle(set: CharacterSet, file: &[u8], s: Standing, at: usize) -> Answer
     requires { Called set file.now s at false 20 }
     ensures { IsAnswer set file.now result }
 {
-    match enter(set, file, s, 20, at) {
-        Entered::Stop(answer) => answer,
-        Entered::On(here, next, called) => match called {
-            25 => check(set, file, here, next),
-            31 => returned(set, file, here, next),
-            61 => credit(set, file, here, next),
-            _ => not_called_for(set, file, here, next),
-        },
+    let (here, next, called) = enter(set, file, s, 20, at)?;
+    match called {
+        Some(25) => check(set, file, here, next),
+        Some(31) => returned(set, file, here, next),
+        Some(61) => credit(set, file, here, next),
+        _ => not_called_for(set, file, here, next),
     }
 }
 
@@ -68,18 +64,16 @@ fn check(set: CharacterSet, file: &[u8], s: Standing, at: usize) -> Answer
     requires { Called set file.now s at true 25 }
     ensures { IsAnswer set file.now result }
 {
-    match enter(set, file, s, 25, at) {
-        Entered::Stop(answer) => answer,
-        Entered::On(here, next, called) => match called {
-            26 => check_a(set, file, here, next),
-            27 => check_b(set, file, here, next),
-            28 => check_c(set, file, here, next),
-            50 => view(set, file, here, next),
-            25 => check(set, file, here, next),
-            61 => credit(set, file, here, next),
-            70 => bundle_control(set, file, here, next),
-            _ => not_called_for(set, file, here, next),
-        },
+    let (here, next, called) = enter(set, file, s, 25, at)?;
+    match called {
+        Some(26) => check_a(set, file, here, next),
+        Some(27) => check_b(set, file, here, next),
+        Some(28) => check_c(set, file, here, next),
+        Some(50) => view(set, file, here, next),
+        Some(25) => check(set, file, here, next),
+        Some(61) => credit(set, file, here, next),
+        Some(70) => bundle_control(set, file, here, next),
+        _ => not_called_for(set, file, here, next),
     }
 }
 
@@ -89,18 +83,16 @@ fn check_a(set: CharacterSet, file: &[u8], s: Standing, at: usize) -> Answer
     requires { Called set file.now s at true 26 }
     ensures { IsAnswer set file.now result }
 {
-    match enter(set, file, s, 26, at) {
-        Entered::Stop(answer) => answer,
-        Entered::On(here, next, called) => match called {
-            26 => check_a(set, file, here, next),
-            27 => check_b(set, file, here, next),
-            28 => check_c(set, file, here, next),
-            50 => view(set, file, here, next),
-            25 => check(set, file, here, next),
-            61 => credit(set, file, here, next),
-            70 => bundle_control(set, file, here, next),
-            _ => not_called_for(set, file, here, next),
-        },
+    let (here, next, called) = enter(set, file, s, 26, at)?;
+    match called {
+        Some(26) => check_a(set, file, here, next),
+        Some(27) => check_b(set, file, here, next),
+        Some(28) => check_c(set, file, here, next),
+        Some(50) => view(set, file, here, next),
+        Some(25) => check(set, file, here, next),
+        Some(61) => credit(set, file, here, next),
+        Some(70) => bundle_control(set, file, here, next),
+        _ => not_called_for(set, file, here, next),
     }
 }
 
@@ -110,16 +102,14 @@ fn check_b(set: CharacterSet, file: &[u8], s: Standing, at: usize) -> Answer
     requires { Called set file.now s at true 27 }
     ensures { IsAnswer set file.now result }
 {
-    match enter(set, file, s, 27, at) {
-        Entered::Stop(answer) => answer,
-        Entered::On(here, next, called) => match called {
-            28 => check_c(set, file, here, next),
-            50 => view(set, file, here, next),
-            25 => check(set, file, here, next),
-            61 => credit(set, file, here, next),
-            70 => bundle_control(set, file, here, next),
-            _ => not_called_for(set, file, here, next),
-        },
+    let (here, next, called) = enter(set, file, s, 27, at)?;
+    match called {
+        Some(28) => check_c(set, file, here, next),
+        Some(50) => view(set, file, here, next),
+        Some(25) => check(set, file, here, next),
+        Some(61) => credit(set, file, here, next),
+        Some(70) => bundle_control(set, file, here, next),
+        _ => not_called_for(set, file, here, next),
     }
 }
 
@@ -129,16 +119,14 @@ fn check_c(set: CharacterSet, file: &[u8], s: Standing, at: usize) -> Answer
     requires { Called set file.now s at true 28 }
     ensures { IsAnswer set file.now result }
 {
-    match enter(set, file, s, 28, at) {
-        Entered::Stop(answer) => answer,
-        Entered::On(here, next, called) => match called {
-            28 => check_c(set, file, here, next),
-            50 => view(set, file, here, next),
-            25 => check(set, file, here, next),
-            61 => credit(set, file, here, next),
-            70 => bundle_control(set, file, here, next),
-            _ => not_called_for(set, file, here, next),
-        },
+    let (here, next, called) = enter(set, file, s, 28, at)?;
+    match called {
+        Some(28) => check_c(set, file, here, next),
+        Some(50) => view(set, file, here, next),
+        Some(25) => check(set, file, here, next),
+        Some(61) => credit(set, file, here, next),
+        Some(70) => bundle_control(set, file, here, next),
+        _ => not_called_for(set, file, here, next),
     }
 }
 
@@ -148,13 +136,11 @@ fn returned(set: CharacterSet, file: &[u8], s: Standing, at: usize) -> Answer
     requires { Called set file.now s at true 31 }
     ensures { IsAnswer set file.now result }
 {
-    match enter(set, file, s, 31, at) {
-        Entered::Stop(answer) => answer,
-        Entered::On(here, next, called) => match called {
-            32 => return_a(set, file, here, next),
-            33 => return_b(set, file, here, next),
-            _ => not_called_for(set, file, here, next),
-        },
+    let (here, next, called) = enter(set, file, s, 31, at)?;
+    match called {
+        Some(32) => return_a(set, file, here, next),
+        Some(33) => return_b(set, file, here, next),
+        _ => not_called_for(set, file, here, next),
     }
 }
 
@@ -164,13 +150,11 @@ fn return_a(set: CharacterSet, file: &[u8], s: Standing, at: usize) -> Answer
     requires { Called set file.now s at true 32 }
     ensures { IsAnswer set file.now result }
 {
-    match enter(set, file, s, 32, at) {
-        Entered::Stop(answer) => answer,
-        Entered::On(here, next, called) => match called {
-            32 => return_a(set, file, here, next),
-            33 => return_b(set, file, here, next),
-            _ => not_called_for(set, file, here, next),
-        },
+    let (here, next, called) = enter(set, file, s, 32, at)?;
+    match called {
+        Some(32) => return_a(set, file, here, next),
+        Some(33) => return_b(set, file, here, next),
+        _ => not_called_for(set, file, here, next),
     }
 }
 
@@ -180,17 +164,15 @@ fn return_b(set: CharacterSet, file: &[u8], s: Standing, at: usize) -> Answer
     requires { Called set file.now s at true 33 }
     ensures { IsAnswer set file.now result }
 {
-    match enter(set, file, s, 33, at) {
-        Entered::Stop(answer) => answer,
-        Entered::On(here, next, called) => match called {
-            34 => return_c(set, file, here, next),
-            35 => return_d(set, file, here, next),
-            50 => view(set, file, here, next),
-            31 => returned(set, file, here, next),
-            61 => credit(set, file, here, next),
-            70 => bundle_control(set, file, here, next),
-            _ => not_called_for(set, file, here, next),
-        },
+    let (here, next, called) = enter(set, file, s, 33, at)?;
+    match called {
+        Some(34) => return_c(set, file, here, next),
+        Some(35) => return_d(set, file, here, next),
+        Some(50) => view(set, file, here, next),
+        Some(31) => returned(set, file, here, next),
+        Some(61) => credit(set, file, here, next),
+        Some(70) => bundle_control(set, file, here, next),
+        _ => not_called_for(set, file, here, next),
     }
 }
 
@@ -200,16 +182,14 @@ fn return_c(set: CharacterSet, file: &[u8], s: Standing, at: usize) -> Answer
     requires { Called set file.now s at true 34 }
     ensures { IsAnswer set file.now result }
 {
-    match enter(set, file, s, 34, at) {
-        Entered::Stop(answer) => answer,
-        Entered::On(here, next, called) => match called {
-            35 => return_d(set, file, here, next),
-            50 => view(set, file, here, next),
-            31 => returned(set, file, here, next),
-            61 => credit(set, file, here, next),
-            70 => bundle_control(set, file, here, next),
-            _ => not_called_for(set, file, here, next),
-        },
+    let (here, next, called) = enter(set, file, s, 34, at)?;
+    match called {
+        Some(35) => return_d(set, file, here, next),
+        Some(50) => view(set, file, here, next),
+        Some(31) => returned(set, file, here, next),
+        Some(61) => credit(set, file, here, next),
+        Some(70) => bundle_control(set, file, here, next),
+        _ => not_called_for(set, file, here, next),
     }
 }
 
@@ -219,16 +199,14 @@ fn return_d(set: CharacterSet, file: &[u8], s: Standing, at: usize) -> Answer
     requires { Called set file.now s at true 35 }
     ensures { IsAnswer set file.now result }
 {
-    match enter(set, file, s, 35, at) {
-        Entered::Stop(answer) => answer,
-        Entered::On(here, next, called) => match called {
-            35 => return_d(set, file, here, next),
-            50 => view(set, file, here, next),
-            31 => returned(set, file, here, next),
-            61 => credit(set, file, here, next),
-            70 => bundle_control(set, file, here, next),
-            _ => not_called_for(set, file, here, next),
-        },
+    let (here, next, called) = enter(set, file, s, 35, at)?;
+    match called {
+        Some(35) => return_d(set, file, here, next),
+        Some(50) => view(set, file, here, next),
+        Some(31) => returned(set, file, here, next),
+        Some(61) => credit(set, file, here, next),
+        Some(70) => bundle_control(set, file, here, next),
+        _ => not_called_for(set, file, here, next),
     }
 }
 
@@ -238,12 +216,10 @@ fn view(set: CharacterSet, file: &[u8], s: Standing, at: usize) -> Answer
     requires { Called set file.now s at true 50 }
     ensures { IsAnswer set file.now result }
 {
-    match enter(set, file, s, 50, at) {
-        Entered::Stop(answer) => answer,
-        Entered::On(here, next, called) => match called {
-            52 => view_data(set, file, here, next),
-            _ => not_called_for(set, file, here, next),
-        },
+    let (here, next, called) = enter(set, file, s, 50, at)?;
+    match called {
+        Some(52) => view_data(set, file, here, next),
+        _ => not_called_for(set, file, here, next),
     }
 }
 
@@ -253,17 +229,15 @@ fn view_data(set: CharacterSet, file: &[u8], s: Standing, at: usize) -> Answer
     requires { Called set file.now s at true 52 }
     ensures { IsAnswer set file.now result }
 {
-    match enter(set, file, s, 52, at) {
-        Entered::Stop(answer) => answer,
-        Entered::On(here, next, called) => match called {
-            50 => view(set, file, here, next),
-            54 => analysis(set, file, here, next),
-            25 => check(set, file, here, next),
-            31 => returned(set, file, here, next),
-            61 => credit(set, file, here, next),
-            70 => bundle_control(set, file, here, next),
-            _ => not_called_for(set, file, here, next),
-        },
+    let (here, next, called) = enter(set, file, s, 52, at)?;
+    match called {
+        Some(50) => view(set, file, here, next),
+        Some(54) => analysis(set, file, here, next),
+        Some(25) => check(set, file, here, next),
+        Some(31) => returned(set, file, here, next),
+        Some(61) => credit(set, file, here, next),
+        Some(70) => bundle_control(set, file, here, next),
+        _ => not_called_for(set, file, here, next),
     }
 }
 
@@ -273,16 +247,14 @@ fn analysis(set: CharacterSet, file: &[u8], s: Standing, at: usize) -> Answer
     requires { Called set file.now s at true 54 }
     ensures { IsAnswer set file.now result }
 {
-    match enter(set, file, s, 54, at) {
-        Entered::Stop(answer) => answer,
-        Entered::On(here, next, called) => match called {
-            50 => view(set, file, here, next),
-            25 => check(set, file, here, next),
-            31 => returned(set, file, here, next),
-            61 => credit(set, file, here, next),
-            70 => bundle_control(set, file, here, next),
-            _ => not_called_for(set, file, here, next),
-        },
+    let (here, next, called) = enter(set, file, s, 54, at)?;
+    match called {
+        Some(50) => view(set, file, here, next),
+        Some(25) => check(set, file, here, next),
+        Some(31) => returned(set, file, here, next),
+        Some(61) => credit(set, file, here, next),
+        Some(70) => bundle_control(set, file, here, next),
+        _ => not_called_for(set, file, here, next),
     }
 }
 
@@ -292,16 +264,14 @@ fn credit(set: CharacterSet, file: &[u8], s: Standing, at: usize) -> Answer
     requires { Called set file.now s at true 61 }
     ensures { IsAnswer set file.now result }
 {
-    match enter(set, file, s, 61, at) {
-        Entered::Stop(answer) => answer,
-        Entered::On(here, next, called) => match called {
-            50 => view(set, file, here, next),
-            61 => credit(set, file, here, next),
-            25 => check(set, file, here, next),
-            31 => returned(set, file, here, next),
-            70 => bundle_control(set, file, here, next),
-            _ => not_called_for(set, file, here, next),
-        },
+    let (here, next, called) = enter(set, file, s, 61, at)?;
+    match called {
+        Some(50) => view(set, file, here, next),
+        Some(61) => credit(set, file, here, next),
+        Some(25) => check(set, file, here, next),
+        Some(31) => returned(set, file, here, next),
+        Some(70) => bundle_control(set, file, here, next),
+        _ => not_called_for(set, file, here, next),
     }
 }
 
@@ -311,14 +281,12 @@ fn bundle_control(set: CharacterSet, file: &[u8], s: Standing, at: usize) -> Ans
     requires { Called set file.now s at true 70 }
     ensures { IsAnswer set file.now result }
 {
-    match enter(set, file, s, 70, at) {
-        Entered::Stop(answer) => answer,
-        Entered::On(here, next, called) => match called {
-            20 => bundle(set, file, here, next),
-            61 => own_credit(set, file, here, next),
-            90 => letter_control(set, file, here, next),
-            _ => not_called_for(set, file, here, next),
-        },
+    let (here, next, called) = enter(set, file, s, 70, at)?;
+    match called {
+        Some(20) => bundle(set, file, here, next),
+        Some(61) => own_credit(set, file, here, next),
+        Some(90) => letter_control(set, file, here, next),
+        _ => not_called_for(set, file, here, next),
     }
 }
 
@@ -328,15 +296,13 @@ fn own_credit(set: CharacterSet, file: &[u8], s: Standing, at: usize) -> Answer
     requires { Called set file.now s at false 61 }
     ensures { IsAnswer set file.now result }
 {
-    match enter(set, file, s, 61, at) {
-        Entered::Stop(answer) => answer,
-        Entered::On(here, next, called) => match called {
-            50 => own_view(set, file, here, next),
-            61 => own_credit(set, file, here, next),
-            20 => bundle(set, file, here, next),
-            90 => letter_control(set, file, here, next),
-            _ => not_called_for(set, file, here, next),
-        },
+    let (here, next, called) = enter(set, file, s, 61, at)?;
+    match called {
+        Some(50) => own_view(set, file, here, next),
+        Some(61) => own_credit(set, file, here, next),
+        Some(20) => bundle(set, file, here, next),
+        Some(90) => letter_control(set, file, here, next),
+        _ => not_called_for(set, file, here, next),
     }
 }
 
@@ -346,12 +312,10 @@ fn own_view(set: CharacterSet, file: &[u8], s: Standing, at: usize) -> Answer
     requires { Called set file.now s at false 50 }
     ensures { IsAnswer set file.now result }
 {
-    match enter(set, file, s, 50, at) {
-        Entered::Stop(answer) => answer,
-        Entered::On(here, next, called) => match called {
-            52 => own_data(set, file, here, next),
-            _ => not_called_for(set, file, here, next),
-        },
+    let (here, next, called) = enter(set, file, s, 50, at)?;
+    match called {
+        Some(52) => own_data(set, file, here, next),
+        _ => not_called_for(set, file, here, next),
     }
 }
 
@@ -361,16 +325,14 @@ fn own_data(set: CharacterSet, file: &[u8], s: Standing, at: usize) -> Answer
     requires { Called set file.now s at false 52 }
     ensures { IsAnswer set file.now result }
 {
-    match enter(set, file, s, 52, at) {
-        Entered::Stop(answer) => answer,
-        Entered::On(here, next, called) => match called {
-            50 => own_view(set, file, here, next),
-            54 => own_analysis(set, file, here, next),
-            61 => own_credit(set, file, here, next),
-            20 => bundle(set, file, here, next),
-            90 => letter_control(set, file, here, next),
-            _ => not_called_for(set, file, here, next),
-        },
+    let (here, next, called) = enter(set, file, s, 52, at)?;
+    match called {
+        Some(50) => own_view(set, file, here, next),
+        Some(54) => own_analysis(set, file, here, next),
+        Some(61) => own_credit(set, file, here, next),
+        Some(20) => bundle(set, file, here, next),
+        Some(90) => letter_control(set, file, here, next),
+        _ => not_called_for(set, file, here, next),
     }
 }
 
@@ -380,15 +342,13 @@ fn own_analysis(set: CharacterSet, file: &[u8], s: Standing, at: usize) -> Answe
     requires { Called set file.now s at false 54 }
     ensures { IsAnswer set file.now result }
 {
-    match enter(set, file, s, 54, at) {
-        Entered::Stop(answer) => answer,
-        Entered::On(here, next, called) => match called {
-            50 => own_view(set, file, here, next),
-            61 => own_credit(set, file, here, next),
-            20 => bundle(set, file, here, next),
-            90 => letter_control(set, file, here, next),
-            _ => not_called_for(set, file, here, next),
-        },
+    let (here, next, called) = enter(set, file, s, 54, at)?;
+    match called {
+        Some(50) => own_view(set, file, here, next),
+        Some(61) => own_credit(set, file, here, next),
+        Some(20) => bundle(set, file, here, next),
+        Some(90) => letter_control(set, file, here, next),
+        _ => not_called_for(set, file, here, next),
     }
 }
 
@@ -398,13 +358,11 @@ fn letter_control(set: CharacterSet, file: &[u8], s: Standing, at: usize) -> Ans
     requires { Called set file.now s at false 90 }
     ensures { IsAnswer set file.now result }
 {
-    match enter(set, file, s, 90, at) {
-        Entered::Stop(answer) => answer,
-        Entered::On(here, next, called) => match called {
-            10 => letter(set, file, here, next),
-            99 => file_control(set, file, here, next),
-            _ => not_called_for(set, file, here, next),
-        },
+    let (here, next, called) = enter(set, file, s, 90, at)?;
+    match called {
+        Some(10) => letter(set, file, here, next),
+        Some(99) => file_control(set, file, here, next),
+        _ => not_called_for(set, file, here, next),
     }
 }
 
@@ -413,10 +371,8 @@ fn file_control(set: CharacterSet, file: &[u8], s: Standing, at: usize) -> Answe
     requires { Called set file.now s at false 99 }
     ensures { IsAnswer set file.now result }
 {
-    match enter(set, file, s, 99, at) {
-        Entered::Stop(answer) => answer,
-        Entered::On(here, next, _) => not_called_for(set, file, here, next),
-    }
+    let (here, next, _) = enter(set, file, s, 99, at)?;
+    not_called_for(set, file, here, next)
 }
 
 // The answer to a file of up to 65,536 bytes, whatever the table: at its start a file header is called for.
@@ -426,7 +382,7 @@ pub fn answer(set: CharacterSet, file: &[u8]) -> Answer
 {
     let s = slow_figures::start();
     match slow_step::type_at(set, file, 0) {
-        1 => file_header(set, file, s, 0),
+        Some(1) => file_header(set, file, s, 0),
         _ => not_called_for(set, file, s, 0),
     }
 }

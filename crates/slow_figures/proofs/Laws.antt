@@ -1,16 +1,15 @@
 -- The three types of item, sums that have stopped, and amounts. Assumes nothing.
-use Prim.Native.Nat.{ℕ, ◌+◌, ◌<◌, ◌≤◌}
+use Prim.Native.Nat.{ℕ, ◌≤◌}
 use native.Mathlib.Omega.{arith}
-use mathlib.Core.Bool.{Bool, true, false, ◌&&◌, ◌||◌, not, cond}
+use mathlib.Core.Bool.{Bool, true, false}
 use mathlib.Core.Path.{◌≡◌, refl, sym, ap, ◌∙◌, subst}
-use mathlib.Core.List.{List}
 use lib.Dec.{leb, eqb}
 use borrow.Author.Tests.{eqb-true, le-leb}
-use Rattle.text.specs.declared.character_set.CharacterSet.{CharacterSet}
-use Rattle.measure.specs.Measures.{sums, unstatable, capped, Small}
+use Rattle.measure.specs.Measures.{unstatable, capped}
 use Rattle.measure.proofs.Capped.{capped_small}
 use Rattle.order.specs.MayFollow.{is_item}
-use Rattle.standing.specs.History.{is_debit, amount_of, adds}
+use mir.Val.{bool_byte}
+use Rattle.standing.specs.History.{one}
 use Rattle.standing.specs.Standing.{capped_figures}
 use Rattle.standing.specs.declared.Standing.{Standing}
 
@@ -42,21 +41,6 @@ no_other t e =
     of-item NoOther t e (record { letter = refl; bundle = refl; view = refl; control = refl })
     (record { letter = refl; bundle = refl; view = refl; control = refl }) (record { letter = refl; bundle = refl; view = refl; control = refl })
 
--- it is a debit or a credit
-module _ (set : CharacterSet) (file : List ℕ) (t offset : ℕ) (e : is_item t ≡ true) where
-  pub debit-adds : is_debit set file t offset ≡ true → sums 1 (amount_of set file t offset) 0 0 0 ≡ adds set file t offset
-  debit-adds =
-      of-item (λ (u : ℕ). is_debit set file u offset ≡ true → sums 1 (amount_of set file u offset) 0 0 0 ≡ adds set file u offset) t e (λ d. refl)
-      (λ d. refl) (λ d. rw d)
-
-  pub credit-adds : is_debit set file t offset ≡ false → sums 0 0 1 (amount_of set file t offset) 0 ≡ adds set file t offset
-  credit-adds =
-      of-item (λ (u : ℕ). is_debit set file u offset ≡ false → sums 0 0 1 (amount_of set file u offset) 0 ≡ adds set file u offset) t e (λ d. never d)
-      (λ d. never d) (λ d. rw d)
-    where
-      never : {A : Type 0} → true ≡ false → A
-      never d = let y : ◌≡◌ {A = ℕ} 0 1 = cc in absurd (omega arith)
-
 -- sums of cents that have stopped already
 pub record Stopped (s : Standing) : Type 0 where
   pub whole-debit : leb s.whole.debit.0 unstatable ≡ true
@@ -82,5 +66,7 @@ stopped s e =
       micr = fixed _ s.micr.0 (ap (λ (u : Standing). u.micr.0) e);
     }
 
-pub one-view-small : Small (sums 0 0 0 0 1)
-one-view-small = record { debits = omega arith; debit = omega arith; credits = omega arith; credit = omega arith; views = omega arith }
+-- a test, as the library turns it into a number
+pub counted : (n : ℕ) (b : Bool) → n ≡ bool_byte b → n ≡ one b
+counted n true e = e
+counted n false e = e

@@ -1,12 +1,13 @@
 // The figures that the slow reader keeps of the records read so far, and what each record does to them.
+// Stays: some of it does what a function of `standing` does, since the two readers are to stand on separate code (request 12).
 #![tactic(auto)]
 
-ghost use Rattle.std.specs.Prelude.{◌≡◌, true, false, cond, List, [], ◌∷◌, ℕ, ◌+◌, ◌<◌, ◌≤◌, get_or};
+ghost use Rattle.std.specs.Prelude.{◌≡◌, true, false, cond, List, [], ◌∷◌, ℕ, ◌+◌, ◌<◌, ◌≤◌};
 ghost use Rattle.text.specs.declared.character_set.CharacterSet.{CharacterSet};
 ghost use Rattle.text.specs.Number.{number};
 ghost use Rattle.measure.specs.Measures.{cents, sums, capped, no_sums, together, capped_sums, Small};
-ghost use Rattle.order.specs.MayFollow.{is_one_of, is_check_or_return, is_item};
-ghost use Rattle.standing.specs.History.{characters, amount_of, is_debit, micr_of, stated_by, indicator_in, adds, one};
+ghost use Rattle.order.specs.MayFollow.{is_one_of, is_check_or_return, is_item, is_addendum};
+ghost use Rattle.standing.specs.History.{characters, amount_of, is_debit, micr_of, stated_by, indicator_in, adds, is_bofd_addendum, is_endorser_addendum};
 ghost use Rattle.standing.specs.Standing.{standing, onward, capped_figures, Roomy};
 
 use measure::{Cents, Items, Records, Sums, Views};
@@ -18,10 +19,7 @@ pub fn field_at(file: &[u8], offset: usize, first: usize, size: usize) -> &[u8]
     requires { (1 ≤ first) × (first ≤ 200) }
     ensures { result.now ≡ characters file.now offset first size }
 {
-    if file.len() < offset {
-        return slow_record::part_of(file, offset, 0);
-    }
-    slow_record::part_of(file, offset + 3 + first, size)
+    slow_record::part_of(slow_text::behind(file, offset), 3 + first, size)
 }
 
 // The number in a field.
@@ -37,8 +35,7 @@ pub fn amount_at(set: CharacterSet, file: &[u8], kind: u64, offset: usize) -> u6
     ensures { (result ≡ amount_of set file.now kind offset) × (result < 100_000_000_000_000) }
 {
     match kind {
-        25 => number_at(set, file, offset, 48, 10),
-        31 => number_at(set, file, offset, 48, 10),
+        25 | 31 => number_at(set, file, offset, 48, 10),
         61 => number_at(set, file, offset, 49, 14),
         _ => 0,
     }
@@ -49,20 +46,15 @@ fn is_debit(set: CharacterSet, file: &[u8], kind: u64, offset: usize) -> bool
     requires { is_item kind ≡ true }
     ensures { result ≡ is_debit set file.now kind offset }
 {
-    if kind == 61 {
-        return number_at(set, file, offset, 3, 1) == 9;
-    }
-    true
+    kind != 61 || number_at(set, file, offset, 3, 1) == 9
 }
 
 // The cents of a 25 whose MICR Valid Indicator (field 10, position 75) is 1.
 fn micr_at(set: CharacterSet, file: &[u8], kind: u64, offset: usize) -> u64
     ensures { (result ≡ micr_of set file.now kind offset) × (result < 100_000_000_000_000) }
 {
-    if kind == 25 {
-        if number_at(set, file, offset, 75, 1) == 1 {
-            return amount_at(set, file, kind, offset);
-        }
+    if kind == 25 && number_at(set, file, offset, 75, 1) == 1 {
+        return amount_at(set, file, kind, offset);
     }
     0
 }
@@ -78,20 +70,11 @@ fn stated_at(set: CharacterSet, file: &[u8], kind: u64, offset: usize) -> u64
     }
 }
 
-fn first_of(s: &[u8]) -> u8
-    ensures { result ≡ get_or s.now 0 0 }
-{
-    if 0 < s.len() {
-        return s[0];
-    }
-    0
-}
-
 // Field 8 of a cash letter header (position 43), in capitals.
 fn indicator_at(set: CharacterSet, file: &[u8], offset: usize) -> u8
     ensures { result ≡ indicator_in set file.now offset }
 {
-    slow_text::capital_of(set, first_of(field_at(file, offset, 43, 1)))
+    slow_text::capital_of(set, slow_text::byte_at(field_at(file, offset, 43, 1), 0))
 }
 
 fn no_sums() -> Sums
@@ -116,17 +99,13 @@ fn item_sums(set: CharacterSet, file: &[u8], kind: u64, offset: usize) -> Sums
         return Sums {
             debits: Items(1),
             debit: Cents(amount),
-            credits: Items(0),
-            credit: Cents(0),
-            views: Views(0),
+            ..no_sums()
         };
     }
     Sums {
-        debits: Items(0),
-        debit: Cents(0),
         credits: Items(1),
         credit: Cents(amount),
-        views: Views(0),
+        ..no_sums()
     }
 }
 
@@ -134,11 +113,8 @@ fn view_sums() -> Sums
     ensures { result ≡ sums 0 0 0 0 1 }
 {
     Sums {
-        debits: Items(0),
-        debit: Cents(0),
-        credits: Items(0),
-        credit: Cents(0),
         views: Views(1),
+        ..no_sums()
     }
 }
 
@@ -147,11 +123,7 @@ fn cents_and(sum: Cents, more: u64) -> Cents
     requires { (sum.0 < 0x4000_0000_0000_0000) × (more < 0x4000_0000_0000_0000) }
     ensures { result ≡ cents (capped (more + sum.0)) }
 {
-    let all = more + sum.0;
-    if 10_000_000_000_000_000 < all {
-        return Cents(10_000_000_000_000_000);
-    }
-    Cents(all)
+    Cents((more + sum.0).min(10_000_000_000_000_000))
 }
 
 // Like is added to like.
@@ -159,18 +131,17 @@ fn sums_and(sums: Sums, more: Sums) -> Sums
     requires { Small sums × Small more }
     ensures { result ≡ capped_sums (together more sums) }
 {
-    let debit = cents_and(sums.debit, more.debit.0);
-    let credit = cents_and(sums.credit, more.credit.0);
     Sums {
         debits: Items(more.debits.0 + sums.debits.0),
-        debit,
+        debit: cents_and(sums.debit, more.debit.0),
         credits: Items(more.credits.0 + sums.credits.0),
-        credit,
+        credit: cents_and(sums.credit, more.credit.0),
         views: Views(more.views.0 + sums.views.0),
     }
 }
 
 // Before the first record.
+#[tactic(auto, unfolding(standing::specs::Standing::standing))]
 pub fn start() -> Standing
     ensures { (set : CharacterSet) (file : List ℕ) → result ≡ capped_figures (standing set file []) }
 {
@@ -203,47 +174,42 @@ pub fn start() -> Standing
 }
 
 // A 10 begins a cash letter: no bundle in it yet, and nothing added up.
-fn with_cash_letter(set: CharacterSet, file: &[u8], mut s: Standing, offset: usize) -> Standing
+fn with_cash_letter(set: CharacterSet, file: &[u8], s: Standing, offset: usize) -> Standing
     requires { Roomy s × (capped_figures s ≡ s) }
     ensures { result ≡ capped_figures (onward set file.now s 10 offset) }
 {
-    let records = Records(s.records.0 + 1);
-    let letters = 1 + s.letters;
-    let letter = no_sums();
-    let indicator = indicator_at(set, file, offset);
-    s.last = 10;
-    s.records = records;
-    s.letters = letters;
-    s.letter = letter;
-    s.heading = offset;
-    s.indicator = indicator;
-    s.opened = 0;
-    s.holder = 0;
-    s
+    Standing {
+        last: 10,
+        records: Records(s.records.0 + 1),
+        letters: 1 + s.letters,
+        letter: no_sums(),
+        heading: offset,
+        indicator: indicator_at(set, file, offset),
+        opened: 0,
+        holder: 0,
+        ..s
+    }
 }
 
 // A 20 begins a bundle: no item in it yet, and nothing added up.
-fn with_bundle(mut s: Standing, offset: usize) -> Standing
+fn with_bundle(s: Standing, offset: usize) -> Standing
     requires { Roomy s × (capped_figures s ≡ s) }
     ensures { (set : CharacterSet) (file : List ℕ) → result ≡ capped_figures (onward set file s 20 offset) }
 {
-    let records = Records(s.records.0 + 1);
-    let bundles = 1 + s.bundles;
-    let opened = 1 + s.opened;
-    let bundle = no_sums();
-    let micr = Cents(0);
-    s.last = 20;
-    s.records = records;
-    s.bundles = bundles;
-    s.opened = opened;
-    s.bundle = bundle;
-    s.header = offset;
-    s.inside = true;
-    s.present = 0;
-    s.holder = 0;
-    s.ordinal = 0;
-    s.micr = micr;
-    s
+    Standing {
+        last: 20,
+        records: Records(s.records.0 + 1),
+        bundles: 1 + s.bundles,
+        opened: 1 + s.opened,
+        bundle: no_sums(),
+        header: offset,
+        inside: true,
+        present: 0,
+        holder: 0,
+        ordinal: 0,
+        micr: Cents(0),
+        ..s
+    }
 }
 
 // A bundle's items are all 25 or all 31, as the first; 61s do not count for that.
@@ -251,104 +217,101 @@ fn item_type(kind: u64, older: u64) -> u64
     requires { is_item kind ≡ true }
     ensures { result ≡ cond (is_check_or_return kind) kind older }
 {
-    if kind == 61 {
-        return older;
-    }
-    kind
+    if kind == 61 { older } else { kind }
 }
 
 // An item, a 25, a 31 or a 61, has no addenda and no views yet. It is added to the bundle, to the cash letter and to the file.
-fn with_item(set: CharacterSet, file: &[u8], mut s: Standing, kind: u64, offset: usize) -> Standing
+fn with_item(set: CharacterSet, file: &[u8], s: Standing, kind: u64, offset: usize) -> Standing
     requires { Roomy s × (capped_figures s ≡ s) × (is_item kind ≡ true) }
     ensures { result ≡ capped_figures (onward set file.now s kind offset) }
 {
-    let records = Records(s.records.0 + 1);
-    let items = Items(1 + s.items.0);
-    let ordinal = 1 + s.ordinal;
-    let present = item_type(kind, s.present);
     let sums = item_sums(set, file, kind, offset);
-    let whole = sums_and(s.whole, sums);
-    let letter = sums_and(s.letter, sums);
-    let bundle = sums_and(s.bundle, sums);
-    let micr = cents_and(s.micr, micr_at(set, file, kind, offset));
-    let stated = stated_at(set, file, kind, offset);
-    s.last = kind;
-    s.records = records;
-    s.items = items;
-    s.ordinal = ordinal;
-    s.present = present;
-    s.holder = kind;
-    s.item = offset;
-    s.whole = whole;
-    s.letter = letter;
-    s.bundle = bundle;
-    s.micr = micr;
-    s.stated = stated;
-    s.addenda = 0;
-    s.bofd = 0;
-    s.endorser = 0;
-    s.shown = 0;
-    s
+    Standing {
+        last: kind,
+        records: Records(s.records.0 + 1),
+        items: Items(1 + s.items.0),
+        ordinal: 1 + s.ordinal,
+        present: item_type(kind, s.present),
+        holder: kind,
+        item: offset,
+        whole: sums_and(s.whole, sums),
+        letter: sums_and(s.letter, sums),
+        bundle: sums_and(s.bundle, sums),
+        micr: cents_and(s.micr, micr_at(set, file, kind, offset)),
+        stated: stated_at(set, file, kind, offset),
+        addenda: 0,
+        bofd: 0,
+        endorser: 0,
+        shown: 0, // no view yet
+        ..s
+    }
 }
 
 // A 50 is a view of the item, whether or not it holds image bytes.
-fn with_view(set: CharacterSet, file: &[u8], mut s: Standing, offset: usize) -> Standing
+fn with_view(set: CharacterSet, file: &[u8], s: Standing, offset: usize) -> Standing
     requires { Roomy s × (capped_figures s ≡ s) }
     ensures { result ≡ capped_figures (onward set file.now s 50 offset) }
 {
-    let records = Records(s.records.0 + 1);
     let view = view_sums();
-    let whole = sums_and(s.whole, view);
-    let letter = sums_and(s.letter, view);
-    let bundle = sums_and(s.bundle, view);
-    let shown = 1 + s.shown;
-    let signature = number_at(set, file, offset, 29, 1);
-    s.last = 50;
-    s.records = records;
-    s.whole = whole;
-    s.letter = letter;
-    s.bundle = bundle;
-    s.shown = shown;
-    s.signature = signature;
-    s
+    Standing {
+        last: 50,
+        records: Records(s.records.0 + 1),
+        whole: sums_and(s.whole, view),
+        letter: sums_and(s.letter, view),
+        bundle: sums_and(s.bundle, view),
+        shown: 1 + s.shown,
+        signature: number_at(set, file, offset, 29, 1),
+        ..s
+    }
 }
 
 // A 70 closes its bundle.
-fn without_bundle(mut s: Standing) -> Standing
+fn without_bundle(s: Standing) -> Standing
     requires { Roomy s × (capped_figures s ≡ s) }
     ensures { (set : CharacterSet) (file : List ℕ) (offset : ℕ) → result ≡ capped_figures (onward set file s 70 offset) }
 {
-    let records = Records(s.records.0 + 1);
-    s.last = 70;
-    s.records = records;
-    s.inside = false;
-    s.holder = 0;
-    s
+    Standing {
+        last: 70,
+        records: Records(s.records.0 + 1),
+        inside: false,
+        holder: 0,
+        ..s
+    }
 }
 
-fn one_if(test: bool) -> u64
-    ensures { (result ≡ one test) × (result ≤ 1) }
+// The addenda of a check, 26 to 28, and of a return, 32 to 35.
+pub fn is_addendum(kind: u64) -> bool
+    ensures { result ≡ is_addendum kind }
 {
-    if test { 1 } else { 0 }
+    matches!(kind, 26..=28 | 32..=35)
+}
+
+// Those that are numbered from 1 in each item: 26 and 32, and by themselves 28 and 35.
+fn is_bofd_addendum(kind: u64) -> bool
+    ensures { result ≡ is_bofd_addendum kind }
+{
+    matches!(kind, 26 | 32)
+}
+
+fn is_endorser_addendum(kind: u64) -> bool
+    ensures { result ≡ is_endorser_addendum kind }
+{
+    matches!(kind, 28 | 35)
 }
 
 // An addendum of the item, or a record that is only counted. 26 and 32 are numbered on by themselves, and so are 28 and 35.
-fn with_addendum_or_other(mut s: Standing, kind: u64) -> Standing
+fn with_addendum_or_other(s: Standing, kind: u64) -> Standing
     requires { Roomy s × (capped_figures s ≡ s) × (is_one_of kind (10 ∷ 20 ∷ 25 ∷ 31 ∷ 50 ∷ 61 ∷ 70 ∷ []) ≡ false) }
     ensures { (set : CharacterSet) (file : List ℕ) (offset : ℕ) → result ≡ capped_figures (onward set file s kind offset) }
 {
-    let of_check = (26 <= kind) & (kind <= 28);
-    let of_return = (32 <= kind) & (kind <= 35);
-    let records = Records(s.records.0 + 1);
-    let addenda = one_if(of_check | of_return) + s.addenda;
-    let bofd = one_if((kind == 26) | (kind == 32)) + s.bofd;
-    let endorser = one_if((kind == 28) | (kind == 35)) + s.endorser;
-    s.last = kind;
-    s.records = records;
-    s.addenda = addenda;
-    s.bofd = bofd;
-    s.endorser = endorser;
-    s
+    Standing {
+        last: kind,
+        records: Records(s.records.0 + 1),
+        addenda: u64::from(is_addendum(kind)) + s.addenda,
+        bofd: u64::from(is_bofd_addendum(kind)) + s.bofd,
+        endorser: u64::from(is_endorser_addendum(kind)) + s.endorser,
+        ..s
+    }
 }
 
 // The figures with one record more, whose length field stands at an offset.
@@ -359,10 +322,8 @@ pub fn moved_on(set: CharacterSet, file: &[u8], s: Standing, kind: u64, offset: 
     match kind {
         10 => with_cash_letter(set, file, s, offset),
         20 => with_bundle(s, offset),
-        25 => with_item(set, file, s, kind, offset),
-        31 => with_item(set, file, s, kind, offset),
+        25 | 31 | 61 => with_item(set, file, s, kind, offset),
         50 => with_view(set, file, s, offset),
-        61 => with_item(set, file, s, kind, offset),
         70 => without_bundle(s),
         _ => with_addendum_or_other(s, kind),
     }

@@ -1,4 +1,5 @@
 // The slow reader: the answer of the cycle, and in the lent table the rows of an accepted file.
+// Stays: some of it does what a function of `passes` does, since the two readers are to stand on separate code (request 12).
 #![tactic(auto)]
 
 ghost use Rattle.std.specs.Prelude.{cond, ◌≡◌, ◌++◌, ◌+◌, ◌≤◌, length, drop};
@@ -9,8 +10,8 @@ ghost use Rattle.passes.specs.Rows.{outside_letter, amount_in, row_of, rows_of};
 ghost use Rattle.arrangement.specs.Arranged.{Arranged};
 ghost use Rattle.slow_reader.specs.Slowly.{slow_answer, slow_table};
 
-use frame::Frame;
-use passes::{Answer, Fault};
+use frame::Extent;
+use passes::{Answer, Fault, Refusal};
 use standing::Standing;
 use text::CharacterSet;
 
@@ -25,8 +26,7 @@ fn within(level: bool, number: u64) -> u64
 fn letter_of(s: Standing, kind: u64) -> u64
     ensures { result ≡ cond (outside_letter kind) 0 s.letters }
 {
-    let outside = (kind == 1) | (kind == 99);
-    if outside { 0 } else { s.letters }
+    if matches!(kind, 1 | 99) { 0 } else { s.letters }
 }
 
 // An item's amount; of a control record the debit cents as its part adds up.
@@ -57,7 +57,7 @@ fn write_row(
     ensures { table.new ≡ sets table.old base (row_of set file.now s kind offset size) }
 {
     let letter = letter_of(s, kind);
-    let bundle = within(s.inside | (kind == 70), s.opened);
+    let bundle = within(s.inside || kind == 70, s.opened);
     let item = within(s.inside, s.ordinal);
     let amount = amount_of(set, file, s, kind, offset);
     table[base] = kind;
@@ -77,19 +77,13 @@ fn write_rows(set: CharacterSet, file: &[u8], table: &mut [u64])
     let mut s = slow_figures::start();
     let mut at: usize = 0;
     let mut base: usize = 0;
-    while at < file.len() {
-        match slow_record::frame_at(file, at) {
-            Frame::Cut => {
-                return;
-            }
-            Frame::Whole(start, size) => {
-                let kind = slow_record::type_of(set, slow_record::part_of(file, start, size));
-                s = slow_figures::moved_on(set, file, s, kind, at);
-                write_row(set, table, base, file, s, kind, at, size);
-                base += 7;
-                at = start + size;
-            }
-        }
+    while let Some(Extent { start, size }) = slow_record::frame_at(file, at) {
+        let body = slow_record::part_of(file, start, size);
+        let kind = slow_record::type_of(set, body).unwrap_or(0);
+        s = slow_figures::moved_on(set, file, s, kind, at);
+        write_row(set, table, base, file, s, kind, at, size);
+        base += 7;
+        at = start + size;
     }
 }
 
@@ -100,22 +94,17 @@ pub fn read_slowly(file: &[u8], table: &mut [u64]) -> Answer
     ensures arranged { length file.now ≤ 65_536 → Arranged file.now table.old result table.new }
 {
     if 65_536 < file.len() {
-        return Answer::Refused(Fault::Size, 0, 0);
+        return Err(Refusal::of_file(Fault::Size, 0));
     }
-    if file.len() == 0 {
-        return Answer::Refused(Fault::Size, 0, 0);
+    if file.is_empty() {
+        return Err(Refusal::of_file(Fault::Size, 0));
     }
     let set = slow_text::set_of(file);
-    let answer = slow_cycle::answer(set, file);
-    match answer {
-        Answer::Accepted(totals) => {
-            let needed = totals.records.0;
-            if (table.len() as u64) / 7 < needed {
-                return Answer::Refused(Fault::Room, needed, 0);
-            }
-            write_rows(set, file, table);
-            answer
-        }
-        Answer::Refused(_, _, _) => answer,
+    let totals = slow_cycle::answer(set, file)?;
+    let needed = totals.records.0;
+    if (table.len() as u64) / 7 < needed {
+        return Err(Refusal::of_file(Fault::Room, needed));
     }
+    write_rows(set, file, table);
+    Ok(totals)
 }

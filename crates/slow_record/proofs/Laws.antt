@@ -1,13 +1,20 @@
 -- One turn of each loop over the lines of the table, on plain values. Assumes nothing.
-use mathlib.Core.Path.{◌≡◌, refl, sym, ◌∙◌}
+use mathlib.Core.Path.{◌≡◌, refl, sym, ap, ◌∙◌}
 use mathlib.Core.Bool.{Bool, true, false, cond, ◌&&◌, not}
-use mathlib.Core.List.{List, ◌∷◌, map}
-use Prim.Native.Nat.{ℕ, ◌+◌, ◌≤◌, ◌<◌}
+use mathlib.Core.List.{List, [], ◌∷◌, map}
+use Prim.Native.Nat.{ℕ, zero, suc, ◌+◌, ◌≤◌, ◌<◌}
 use native.Mathlib.Nat.{zero-add}
 use lib.ListN.{length, get_or, take, drop, drop_of_length-le}
 use Rattle.text.specs.declared.character_set.CharacterSet.{CharacterSet}
 use Rattle.text.specs.DataTypes.{of_type}
 use Rattle.text.proofs.Laws.{rest}
+use denote.Ref.{Bor}
+use Rattle.std.specs.Prelude.{Option, None, Some, MatchOption}
+use Rattle.std.specs.List.{AllWithin, HoldsAt}
+use Rattle.std.specs.Int.{w32, from_be_bytes}
+use native.Mathlib.Omega.{arith}
+use Rattle.frame.specs.Frames.{length_in}
+use Rattle.layout.specs.Fault.{as_field}
 use Rattle.slow_record.specs.Rows.{Entry, entry_of, is_field, is_part, is_record, field_holds, stated_in, fields_of, parts_of, length_of, wrong_field, stated, wrong_part}
 
 -- an entry that is passed over, that is right, or that is wrong
@@ -59,19 +66,74 @@ module _ (set : CharacterSet) (e : Entry) (es : List Entry) (body : List ℕ) wh
         right false t = cc
     part-pass false t = refl
 
-module _ (kind : ℕ) (lines : List ℕ) (i : ℕ) where
-  pub length-here : i < length lines → is_record kind (entry_of (get_or lines i 0)) ≡ true → length_of kind (map entry_of (drop i lines)) ≡ (entry_of (get_or lines i 0)).size
-  unfolding length_of
-  length-here h e = rw (rest lines i h, e)
+-- What `find` tells of a definition that stops at the first number that passes a test.
+module _ (test : ℕ → Bool) where
+  abbrev Passes : ℕ → Type 0
+  Passes x = test x ≡ true
 
-  pub length-later : i < length lines → is_record kind (entry_of (get_or lines i 0)) ≡ false
-      → length_of kind (map entry_of (drop i lines)) ≡ length_of kind (map entry_of (drop (i + 1) lines))
-  unfolding length_of
-  length-later h e = rw (rest lines i h, e)
+  abbrev Fails : ℕ → Type 0
+  Fails x = test x ≡ false
 
-  pub length_none : length lines ≤ i → length_of kind (map entry_of (drop i lines)) ≡ 0
+  -- a number that is the first in the list to pass, or none
+  abbrev FirstFound : List ℕ → Option (Bor ℕ) → Type 0
+  FirstFound xs r =
+      MatchOption r (AllWithin Fails xs 0 (length xs)) (λ x. Passes x.now × (i : ℕ) × (i < length xs) × HoldsAt (λ y. y ≡ x.now) xs i × AllWithin Fails xs 0 i)
+
+  module _ (F : List ℕ → ℕ) (v : ℕ → ℕ) (none : F [] ≡ 0)
+      (hit : (x : ℕ) (xs : List ℕ) → Passes x → F (x ∷ xs) ≡ v x) (miss : (x : ℕ) (xs : List ℕ) → Fails x → F (x ∷ xs) ≡ F xs) where
+    passed : (xs : List ℕ) → AllWithin Fails xs 0 (length xs) → F xs ≡ 0
+    passed [] h = none
+    passed (x ∷ xs) h = miss x xs (h 0 0 (omega arith) (omega arith)) ∙ passed xs (λ k d _ l. h (suc k) d (omega arith) (omega arith))
+
+    stopped : (xs : List ℕ) (i x : ℕ) → i < length xs → Passes x → HoldsAt (λ y. y ≡ x) xs i → AllWithin Fails xs 0 i → F xs ≡ v x
+    stopped [] i x l p at h = absurd (omega arith)
+    stopped (y ∷ ys) zero x l p at h = let same : y ≡ x = at 0 in hit y ys (rw same p) ∙ ap v same
+    stopped (y ∷ ys) (suc i) x l p at h =
+        miss y ys (h 0 0 (omega arith) (omega arith)) ∙ stopped ys i x (omega arith) p at (λ k d _ l. h (suc k) d (omega arith) (omega arith))
+
+    pub found : (xs : List ℕ) (r : Option (Bor ℕ)) → FirstFound xs r → MatchOption r (F xs ≡ 0) (λ x. F xs ≡ v x.now)
+    found xs None h = passed xs h
+    found xs (Some x) h = stopped xs h.1 x.now h.2 h.0 h.3 h.4
+
+-- the number of a line that was found, as it is told
+pub found-number : {P : Type 0} {Q : Bor ℕ → Type 0} (r : Option (Bor ℕ)) (n : ℕ) (v : ℕ → ℕ) (o : Option ℕ) → MatchOption r (n ≡ 0) (λ x. n ≡ v x.now)
+    → MatchOption r P Q → (P → o ≡ None) → ((x : Bor ℕ) → Q x → o ≡ as_field (v x.now)) → o ≡ as_field n
+found-number None n v o h k p q = rw h (p k)
+found-number (Some x) n v o h k p q = rw h (q x k)
+
+-- four bytes, the high one first
+pub high_first : (xs : List ℕ) → 4 ≤ length xs → from_be_bytes w32 (take 4 xs) ≡ length_in xs
+high_first (a ∷ b ∷ c ∷ d ∷ xs) h = omega arith
+high_first [] h = absurd (omega arith)
+high_first (a ∷ []) h = absurd (omega arith)
+high_first (a ∷ b ∷ []) h = absurd (omega arith)
+high_first (a ∷ b ∷ c ∷ []) h = absurd (omega arith)
+
+module _ (set : CharacterSet) (kind : ℕ) (body : List ℕ) where
+  abbrev is_wrong : ℕ → Bool
+  is_wrong line = is_field kind (entry_of line) && not (field_holds set (entry_of line) body)
+
+  abbrev wrong_in : List ℕ → ℕ
+  wrong_in lines = wrong_field set (fields_of kind (map entry_of lines)) body
+
+  pub wrong-first : (lines : List ℕ) (r : Option (Bor ℕ)) → FirstFound is_wrong lines r
+      → MatchOption r (wrong_in lines ≡ 0) (λ x. wrong_in lines ≡ (entry_of x.now).number)
+  unfolding wrong_field
+  wrong-first = found is_wrong wrong_in (λ x. (entry_of x).number) refl
+      (λ x xs t. wrong-stop set (entry_of x) (fields_of kind (map entry_of xs)) body (is_field kind (entry_of x)) t)
+      (λ x xs t. wrong-pass set (entry_of x) (fields_of kind (map entry_of xs)) body (is_field kind (entry_of x)) t)
+
+module _ (kind : ℕ) where
+  abbrev names_it : ℕ → Bool
+  names_it line = is_record kind (entry_of line)
+
+  abbrev length_among : List ℕ → ℕ
+  length_among lines = length_of kind (map entry_of lines)
+
+  pub length-first : (lines : List ℕ) (r : Option (Bor ℕ)) → FirstFound names_it lines r
+      → MatchOption r (length_among lines ≡ 0) (λ x. length_among lines ≡ (entry_of x.now).size)
   unfolding length_of
-  length_none h = rw (drop_of_length-le lines h)
+  length-first = found names_it length_among (λ x. (entry_of x).size) refl (λ x xs t. rw t) (λ x xs t. rw t)
 
 module _ (set : CharacterSet) (kind : ℕ) (lines body : List ℕ) (i : ℕ) where
   abbrev line : Entry
@@ -82,17 +144,6 @@ module _ (set : CharacterSet) (kind : ℕ) (lines body : List ℕ) (i : ℕ) whe
 
   abbrev later : List Entry
   later = map entry_of (drop (i + 1) lines)
-
-  pub wrong-here : i < length lines → is_field kind line && not (field_holds set line body) ≡ true → wrong_field set (fields_of kind left) body ≡ line.number
-  wrong-here h t = rw (rest lines i h) (wrong-stop set line (fields_of kind later) body (is_field kind line) t)
-
-  pub wrong-later : i < length lines → is_field kind line && not (field_holds set line body) ≡ false
-      → wrong_field set (fields_of kind left) body ≡ wrong_field set (fields_of kind later) body
-  wrong-later h t = rw (rest lines i h) (wrong-pass set line (fields_of kind later) body (is_field kind line) t)
-
-  pub wrong-none : length lines ≤ i → wrong_field set (fields_of kind left) body ≡ 0
-  unfolding wrong_field
-  wrong-none h = rw (drop_of_length-le lines h)
 
   pub stated-line : i < length lines
       → stated set (parts_of kind left) body ≡ cond (is_part kind line) (stated_in set line body) 0 + stated set (parts_of kind later) body

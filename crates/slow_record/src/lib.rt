@@ -1,15 +1,16 @@
 // One record alone, for the slow reader (request 12): where it stands in the file, its type, and its fields. It calls nothing of `frame`, `layout` or
 // `judge` and shares their types and definitions.
+// Stays: some of it does what a function of these does, since the two readers are to stand on separate code (request 12).
 #![tactic(auto)]
 
 mod lines;
 mod table;
 
-ghost use Rattle.std.specs.Prelude.{◌≡◌, ◌&&◌, not, cond, map, ◌≤◌, eqb, take};
+ghost use Rattle.std.specs.Prelude.{◌≡◌, ◌&&◌, not, cond, map, eqb, unwrap_or, MatchOption};
 ghost use Rattle.text.specs.DataTypes.{of_type};
-ghost use Rattle.frame.specs.Frames.{part, length_in, frame_at};
-ghost use Rattle.judge.specs.Alone.{unless_field, type_of, judged_as};
-ghost use Rattle.judge.specs.Alone.{Sound};
+ghost use Rattle.frame.specs.Frames.{part, frame_at};
+ghost use Rattle.layout.specs.Fault.{as_field};
+ghost use Rattle.judge.specs.Alone.{Sound, WrongField, type_of, judged_as};
 ghost use Rattle.slow_record.specs.Rows.{entry_of, is_field, is_part, field_holds, stated_in, fields_of, parts_of, length_of, wrong_field, stated, wrong_part, judged_by};
 
 use crate::lines::{
@@ -17,8 +18,8 @@ use crate::lines::{
     usage_in,
 };
 use crate::table::fields;
-use frame::Frame;
-use judge::Judged;
+use frame::{Extent, Frame};
+use judge::{Flaw, Judged};
 use text::CharacterSet;
 
 // The bytes from a place on, as many as the size says or as there are.
@@ -28,54 +29,33 @@ pub fn part_of(s: &[u8], start: usize, size: usize) -> &[u8]
     slow_text::part_of(s, start, size)
 }
 
-fn wide(x: u8) -> usize
-    ensures { (result ≡ x) × (result ≤ 255) }
-{
-    x as usize
-}
-
-// Annex D: the length of a record, four bytes, the high one first
-fn length_in(s: &[u8]) -> usize
-    ensures { (result ≡ length_in s.now) × (result ≤ 0xFFFF_FFFF) }
-{
-    let first = wide(slow_text::byte_at(s, 0));
-    let second = wide(slow_text::byte_at(s, 1));
-    let third = wide(slow_text::byte_at(s, 2));
-    let fourth = wide(slow_text::byte_at(s, 3));
-    first * 0x100_0000 + second * 0x1_0000 + third * 0x100 + fourth
-}
-
-// The record whose length stands at a place of the file.
+// The record whose length stands at a place of the file (Annex D: four bytes, the high one first).
+#[tactic(auto, using(crate::proofs::Laws::high_first), unfolding(frame::specs::Frames::frame_at))]
 pub fn frame_at(file: &[u8], at: usize) -> Frame
     ensures { result ≡ frame_at file.now at }
 {
-    let rest = slow_text::behind(file, at);
-    if rest.len() < 4 {
-        return Frame::Cut;
+    let (length, rest) = slow_text::behind(file, at).split_first_chunk::<4>()?;
+    let size = u32::from_be_bytes(*length) as usize;
+    if rest.len() < size {
+        return None;
     }
-    let length = length_in(rest);
-    if rest.len() - 4 < length {
-        return Frame::Cut;
-    }
-    let start = at + 4;
-    Frame::Whole(start, length)
+    Some(Extent {
+        start: at + 4,
+        size,
+    })
 }
 
-// The type that a record's first two characters name; 0 where they are no digits.
-pub fn type_of(set: CharacterSet, body: &[u8]) -> u64
-    ensures { result ≡ type_of set body.now }
+// The type that a record's first two characters name, where they are digits.
+#[tactic(auto, unfolding(judge::specs::Alone::type_of))]
+pub fn type_of(set: CharacterSet, body: &[u8]) -> Option<u64>
+    ensures { unwrap_or result 0 ≡ type_of set body.now }
 {
-    let characters = slow_text::part_of(body, 0, 2);
-    if body.len() < 2 {
-        return 0;
-    }
-    if !slow_text::all_digits(set, characters) {
-        return 0;
-    }
-    slow_text::number_in(set, characters)
+    let characters = body.get(..2)?;
+    slow_text::all_digits(set, characters).then(|| slow_text::number_in(set, characters))
 }
 
 // A field of the fixed part is right.
+#[tactic(auto, unfolding(crate::specs::Rows::field_holds))]
 fn field_holds(set: CharacterSet, line: u64, body: &[u8]) -> bool
     ensures { result ≡ field_holds set (entry_of line) body.now }
 {
@@ -90,24 +70,17 @@ fn field_holds(set: CharacterSet, line: u64, body: &[u8]) -> bool
 fn is_wrong(set: CharacterSet, kind: u64, line: u64, body: &[u8]) -> bool
     ensures { result ≡ is_field kind (entry_of line) && not (field_holds set (entry_of line) body.now) }
 {
-    if is_field(kind, line) {
-        return !field_holds(set, line, body);
-    }
-    false
+    is_field(kind, line) && !field_holds(set, line, body)
 }
 
-// The number of the first field of the fixed part that is not right, or 0.
-fn first_wrong<'a>(set: CharacterSet, kind: u64, lines: &'a [u64], body: &'a [u8]) -> usize
-    ensures { result ≡ wrong_field set (fields_of kind (map entry_of lines.now)) body.now }
+// The number of the first field of the fixed part that is not right.
+fn first_wrong(set: CharacterSet, kind: u64, lines: &[u64], body: &[u8]) -> Option<usize>
+    ensures { result ≡ as_field (wrong_field set (fields_of kind (map entry_of lines.now)) body.now) }
 {
-    let mut i = 0;
-    while i < lines.len() {
-        if is_wrong(set, kind, lines[i], body) {
-            return field_in(lines[i]);
-        }
-        i += 1;
-    }
-    0
+    lines
+        .iter()
+        .find(|line| is_wrong(set, kind, **line, body))
+        .and_then(|line| field_in(*line))
 }
 
 // The size that the record states for a field behind its fixed part; 0 for any other line.
@@ -126,14 +99,11 @@ fn sizes_fill<'a>(set: CharacterSet, kind: u64, lines: &'a [u64], body: &'a [u8]
     ensures { result ≡ eqb left (stated set (parts_of kind (map entry_of lines.now)) body.now) }
 {
     let mut rest = left;
-    let mut i = 0;
-    while i < lines.len() {
-        let size = stated_size(set, kind, lines[i], body);
-        if rest < size {
+    for line in lines {
+        let Some(behind) = rest.checked_sub(stated_size(set, kind, *line, body)) else {
             return false;
-        }
-        rest -= size;
-        i += 1;
+        };
+        rest = behind;
     }
     rest == 0
 }
@@ -142,80 +112,68 @@ fn sizes_fill<'a>(set: CharacterSet, kind: u64, lines: &'a [u64], body: &'a [u8]
 fn is_wrong_part(set: CharacterSet, kind: u64, line: u64, characters: &[u8]) -> bool
     ensures { result ≡ is_part kind (entry_of line) && not (of_type set (entry_of line).data_type characters.now) }
 {
-    if is_part(kind, line) {
-        return !slow_text::of_type(set, data_type_in(line), characters);
-    }
-    false
+    is_part(kind, line) && !slow_text::of_type(set, data_type_in(line), characters)
 }
 
-// The number of the first field behind the fixed part that is not of its data type, or 0. These fields stand one after the other.
+// The number of the first field behind the fixed part that is not of its data type. These fields stand one after the other.
 fn first_wrong_part<'a>(
     set: CharacterSet,
     kind: u64,
     lines: &'a [u64],
     body: &'a [u8],
     parts: &'a [u8],
-) -> usize
-    ensures { result ≡ wrong_part set (parts_of kind (map entry_of lines.now)) body.now parts.now }
+) -> Option<usize>
+    ensures { result ≡ as_field (wrong_part set (parts_of kind (map entry_of lines.now)) body.now parts.now) }
 {
     let mut rest = parts;
-    let mut i = 0;
-    while i < lines.len() {
-        let size = stated_size(set, kind, lines[i], body) as usize;
-        if is_wrong_part(set, kind, lines[i], slow_text::part_of(rest, 0, size)) {
-            return field_in(lines[i]);
+    for line in lines {
+        let size = stated_size(set, kind, *line, body) as usize;
+        if is_wrong_part(set, kind, *line, slow_text::part_of(rest, 0, size)) {
+            return field_in(*line);
         }
-        let behind = slow_text::behind(rest, size);
-        rest = behind;
-        i += 1;
+        rest = slow_text::behind(rest, size);
     }
-    0
+    None
 }
 
-// The length of the kind's fixed part; 0 where the kind is not carried.
-fn fixed_length(kind: u64, lines: &[u64]) -> usize
-    ensures { result ≡ length_of kind (map entry_of lines.now) }
+// The length of the kind's fixed part, where the kind is carried.
+fn fixed_length(kind: u64, lines: &[u64]) -> Option<usize>
+    ensures { result ≡ as_field (length_of kind (map entry_of lines.now)) }
 {
-    let mut i = 0;
-    while i < lines.len() {
-        if is_record(kind, lines[i]) {
-            return size_in(lines[i]);
-        }
-        i += 1;
-    }
-    0
+    lines
+        .iter()
+        .find(|line| is_record(kind, **line))
+        .and_then(|line| match size_in(*line) {
+            0 => None,
+            size => Some(size),
+        })
 }
 
 // Sound, unless a field is at fault.
-fn sound_unless(wrong: usize) -> Judged
-    ensures { result ≡ unless_field wrong Sound }
+fn sound_unless(wrong: Option<usize>) -> Judged
+    ensures { MatchOption wrong (result ≡ Sound) (λ n. result ≡ WrongField n) }
 {
-    if wrong == 0 {
-        return Judged::Sound;
+    match wrong {
+        Some(field) => Err(Flaw::Field(field)),
+        None => Ok(()),
     }
-    Judged::WrongField(wrong)
 }
 
 // The checks of one record alone, in document 01's order.
+#[tactic(auto, unfolding(crate::specs::Rows::judged_by))]
 fn judge_by<'a>(set: CharacterSet, kind: u64, lines: &'a [u64], body: &'a [u8]) -> Judged
     ensures { result ≡ judged_by set kind (map entry_of lines.now) body.now }
 {
-    let fixed = fixed_length(kind, lines);
-    if fixed == 0 {
-        return Judged::UnknownType;
-    }
+    let fixed = fixed_length(kind, lines).ok_or(Flaw::UnknownType)?;
     if body.len() < fixed {
-        return Judged::WrongLength;
+        return Err(Flaw::Length);
     }
-    if !(is_variable(kind) | (body.len() <= fixed)) {
-        return Judged::WrongLength;
+    if !(is_variable(kind) || body.len() <= fixed) {
+        return Err(Flaw::Length);
     }
-    let wrong = first_wrong(set, kind, lines, body);
-    if wrong != 0 {
-        return Judged::WrongField(wrong);
-    }
+    sound_unless(first_wrong(set, kind, lines, body))?;
     if !sizes_fill(set, kind, lines, body, (body.len() - fixed) as u64) {
-        return Judged::WrongLength;
+        return Err(Flaw::Length);
     }
     sound_unless(first_wrong_part(set, kind, lines, body, slow_text::behind(body, fixed)))
 }

@@ -1,41 +1,60 @@
 // What a line of the table says.
+// Stays: the functions from codes to `Usage`, `DataType`, `CodeList` and `Rule`. The types are `text`'s and `field`'s, and From and u64 are the library's:
+// no crate may write that impl here. The codes are this table's alone.
 ghost use Rattle.std.specs.Prelude.{◌≡◌, ◌-◌};
+ghost use Rattle.layout.specs.Fault.{as_field};
 ghost use Rattle.layout.specs.Packing.{usage_of, data_type_of, forms_in};
 ghost use Rattle.slow_record.specs.Rows.{list_of, rule_of, entry_of, is_field, is_part, is_record, is_variable};
 
 use field::{CodeList, Forms, Rule, Usage};
 use text::DataType;
 
+fn kind_in(line: u64) -> u64
+    ensures { result ≡ (entry_of line).kind }
+{
+    line / 100_000_000_000_000_000
+}
+
+fn role_in(line: u64) -> u64
+    ensures { result ≡ (entry_of line).role }
+{
+    line / 100_000_000 % 10
+}
+
 // The line has a field of the fixed part of a kind, a field behind it, or the record itself.
 pub fn is_field(kind: u64, line: u64) -> bool
     ensures { result ≡ is_field kind (entry_of line) }
 {
-    (line / 100_000_000 % 10 <= 1) & (kind == line / 100_000_000_000_000_000)
+    role_in(line) <= 1 && kind == kind_in(line)
 }
 
 pub fn is_part(kind: u64, line: u64) -> bool
     ensures { result ≡ is_part kind (entry_of line) }
 {
-    (line / 100_000_000 % 10 == 2) & (kind == line / 100_000_000_000_000_000)
+    role_in(line) == 2 && kind == kind_in(line)
 }
 
 pub fn is_record(kind: u64, line: u64) -> bool
     ensures { result ≡ is_record kind (entry_of line) }
 {
-    (line / 100_000_000 % 10 == 3) & (kind == line / 100_000_000_000_000_000)
+    role_in(line) == 3 && kind == kind_in(line)
 }
 
 // Records 27, 34 and 52 have fields behind their fixed part.
 pub fn is_variable(kind: u64) -> bool
     ensures { result ≡ is_variable kind }
 {
-    (kind == 27) | ((kind == 34) | (kind == 52))
+    matches!(kind, 27 | 34 | 52)
 }
 
-pub fn field_in(line: u64) -> usize
-    ensures { result ≡ (entry_of line).number }
+// The field's number, which the record itself has not.
+pub fn field_in(line: u64) -> Option<usize>
+    ensures { result ≡ as_field (entry_of line).number }
 {
-    (line / 1_000_000_000_000_000 % 100) as usize
+    match line / 1_000_000_000_000_000 % 100 {
+        0 => None,
+        number => Some(number as usize),
+    }
 }
 
 // The first position counts from 1, a place from 0.
@@ -43,10 +62,7 @@ pub fn place_in(line: u64) -> usize
     ensures { result ≡ (entry_of line).first - 1 }
 {
     let first = (line / 1_000_000_000_000 % 1_000) as usize;
-    if first == 0 {
-        return 0;
-    }
-    first - 1
+    first.saturating_sub(1)
 }
 
 pub fn size_in(line: u64) -> usize
@@ -58,7 +74,7 @@ pub fn size_in(line: u64) -> usize
 pub fn usage_in(line: u64) -> Usage
     ensures { result ≡ usage_of (entry_of line).role }
 {
-    match line / 100_000_000 % 10 {
+    match role_in(line) {
         0 => Usage::Mandatory,
         _ => Usage::Conditional,
     }
@@ -104,15 +120,6 @@ fn forms_in(n: u64) -> Forms
     }
 }
 
-fn coordinate_under(position: u64) -> usize
-    ensures { result ≡ position - 1 }
-{
-    if position == 0 {
-        return 0;
-    }
-    (position - 1) as usize
-}
-
 // 6.8: the lists of codes
 fn list_of(n: u64) -> CodeList
     ensures { result ≡ list_of n }
@@ -147,7 +154,7 @@ pub fn rule_of(code: u64, low: u64, high: u64) -> Rule
         9 => Rule::HoursMinutes,
         10 => Rule::HoursMinutesSeconds,
         11 => Rule::Routing(forms_in(high)),
-        12 => Rule::ClippingCoordinate(coordinate_under(high)),
+        12 => Rule::ClippingCoordinate(high.saturating_sub(1) as usize),
         13 => Rule::Code(list_of(high)),
         _ => Rule::DataTypeAlone,
     }

@@ -9,9 +9,9 @@ use lib.ListN.{length}
 use Rattle.text.specs.declared.character_set.CharacterSet.{CharacterSet}
 use Rattle.order.specs.MayFollow.{table, in_table, follows}
 use Rattle.standing.specs.declared.Standing.{Standing}
-use Rattle.passes.specs.Answers.{Answer}
-use Rattle.slow_step.specs.Entered.{Entered}
-use Rattle.slow_step.specs.Entered.{Stop, On}
+use Rattle.std.specs.Prelude.{Option, Err, unwrap_or}
+use Rattle.passes.specs.declared.Refusal.{Refusal}
+use Rattle.slow_step.specs.Entered.{Entered, On}
 use Rattle.slow_step.specs.Places.{type_at, IsAnswer, Reached, Called, GoesOn, Enters}
 
 -- in a bundle or outside, behind a record of a type
@@ -28,15 +28,15 @@ module _ {set : CharacterSet} {file : List ℕ} {s : Standing} {at : ℕ} {b : B
   enters = record { reached = p.reached; level = refl; type = p.type; place = rw p.level p.place }
 
   module _ {r : Entered} (e : Enters set file s at kind r) where
-    pub stopped : {answer : Answer} → r ≡ Stop answer → IsAnswer set file answer
+    pub stopped : {refusal : Refusal} → r ≡ Err refusal → IsAnswer set file (Err refusal)
     stopped q = subst (Enters set file s at kind) q e
 
-    module _ {here : Standing} {next called : ℕ} (q : r ≡ On here next called) where
-      goes : GoesOn set file s at kind here next called
+    module _ {here : Standing} {next : ℕ} {called : Option ℕ} (q : r ≡ On here next called) where
+      goes : GoesOn set file s at kind here next (unwrap_or called 0)
       goes = subst (Enters set file s at kind) q e
 
       -- with fewer bytes left
-      pub calls : (k t : ℕ) → length file - at ≡ t → called ≡ k → in_table (table (behind b kind)) kind k ≡ true
+      pub calls : (k t : ℕ) → length file - at ≡ t → unwrap_or called 0 ≡ k → in_table (table (behind b kind)) kind k ≡ true
           → (length file - next < t) × Called set file here next (behind b kind) k
       calls k t m c f = (
         omega (arith, goes.fewer, goes.reached.within),
@@ -48,6 +48,6 @@ module _ {set : CharacterSet} {file : List ℕ} {s : Standing} {at : ℕ} {b : B
         },
       )
 
-      pub turns-away : in_table (table (behind b kind)) kind called ≡ false
+      pub turns-away : in_table (table (behind b kind)) kind (unwrap_or called 0) ≡ false
           → Reached set file next here × (follows here.inside here.last (type_at set file next) ≡ false)
-      turns-away f = (goes.reached, rw (goes.level, p.level, goes.last, sym goes.type) (said (behind b kind) kind called f))
+      turns-away f = (goes.reached, rw (goes.level, p.level, goes.last, sym goes.type) (said (behind b kind) kind (unwrap_or called 0) f))

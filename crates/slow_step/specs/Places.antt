@@ -1,5 +1,5 @@
 -- What the slow reader's functions promise each other. Each stands at an offset of the file and gives the answer to the whole file.
-use Rattle.std.specs.Prelude.{ℕ, ◌+◌, ◌*◌, ◌≤◌, ◌<◌, Bool, true, false, ◌&&◌, cond, ◌≡◌, List, [], leb, eqb, length, Some}
+use Rattle.std.specs.Prelude.{ℕ, ◌+◌, ◌*◌, ◌≤◌, ◌<◌, Bool, true, false, ◌&&◌, cond, ◌≡◌, List, [], leb, eqb, length, Some, Err, unwrap_or}
 use Rattle.text.specs.declared.character_set.CharacterSet.{CharacterSet}
 use Rattle.frame.specs.Frames.{Frame}
 use Rattle.frame.specs.Frames.{Cut, Whole}
@@ -12,8 +12,7 @@ use Rattle.standing.specs.declared.Standing.{Standing}
 use Rattle.passes.specs.Answers.{Answer}
 use Rattle.passes.specs.Rows.{rows_of, rows_from}
 use Rattle.passes.specs.Reading.{run, Counted}
-use Rattle.slow_step.specs.Entered.{Entered}
-use Rattle.slow_step.specs.Entered.{Stop, On}
+use Rattle.slow_step.specs.Entered.{Entered, On}
 
 -- the type of a record, where it can be told: 0 where LENGTH or UNKNOWN TYPE comes first
 abbrev pub type_in : CharacterSet → List ℕ → ℕ
@@ -60,5 +59,5 @@ pub record GoesOn (set : CharacterSet) (file : List ℕ) (s : Standing) (at kind
   pub type : called ≡ type_at set file next
 
 abbrev pub Enters : CharacterSet → List ℕ → Standing → ℕ → ℕ → Entered → Type 0
-Enters set file s at kind (Stop answer) = IsAnswer set file answer
-Enters set file s at kind (On here next called) = GoesOn set file s at kind here next called
+Enters set file s at kind (Err refusal) = IsAnswer set file (Err refusal)
+Enters set file s at kind (On here next called) = GoesOn set file s at kind here next (unwrap_or called 0)

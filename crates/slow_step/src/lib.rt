@@ -1,7 +1,8 @@
 // One record that was called for, and what stands behind it.
+// Stays: some of it does what a function of `passes` or `order` does, since the two readers are to stand on separate code (request 12).
 #![tactic(auto)]
 
-ghost use Rattle.std.specs.Prelude.{◌≡◌, false, leb, length};
+ghost use Rattle.std.specs.Prelude.{◌≡◌, false, leb, length, unwrap_or};
 ghost use Rattle.frame.specs.Unless.{unless};
 ghost use Rattle.judge.specs.Alone.{type_of, judged_as};
 ghost use Rattle.order.specs.MayFollow.{is_carried, follows, one_item_type};
@@ -13,91 +14,59 @@ ghost use Rattle.passes.specs.CheckOrder.{unless_alone, agreement};
 ghost use Rattle.passes.specs.Reading.{step_of, ended_with};
 ghost use Rattle.slow_step.specs.Places.{type_in, type_at, IsAnswer, Reached, Called, Enters};
 
-use frame::Frame;
-use judge::Judged;
-use passes::{Answer, Fault, Step, Totals, Turn};
+use frame::Extent;
+use passes::{Answer, Fault, Refusal, Step, Totals, Turn};
 use standing::Standing;
 use text::CharacterSet;
 
-// A record that was called for: the answer where it has a fault; else the figures with it, the offset behind it, and the type of the
-// record that stands there.
-#[derive(Clone, Copy)]
-pub enum Entered {
-    Stop(Answer),
-    On(Standing, usize, u64),
-}
+// A record that was called for: the figures with it, the offset behind it, and the type of the record that stands there, if it can be told.
+pub type Entered = Result<(Standing, usize, Option<u64>), Refusal>;
 
 // The record types that are carried.
+#[tactic(auto, unfolding(order::specs::MayFollow::is_carried))]
 fn is_carried(kind: u64) -> bool
     ensures { result ≡ is_carried kind }
 {
-    (kind == 1)
-        | (kind == 10)
-        | (kind == 20)
-        | (kind == 25)
-        | (kind == 26)
-        | (kind == 27)
-        | (kind == 28)
-        | (kind == 31)
-        | (kind == 32)
-        | (kind == 33)
-        | (kind == 34)
-        | (kind == 35)
-        | (kind == 50)
-        | (kind == 52)
-        | (kind == 54)
-        | (kind == 61)
-        | (kind == 70)
-        | (kind == 90)
-        | (kind == 99)
+    matches!(kind, 1 | 10 | 20 | 25..=28 | 31..=35 | 50 | 52 | 54 | 61 | 70 | 90 | 99)
 }
 
-// The type of a record, or 0 where it cannot be told or is not carried.
-fn type_in(set: CharacterSet, body: &[u8]) -> u64
-    ensures { result ≡ type_in set body.now }
+// The type of a record, where it can be told and is carried.
+#[tactic(auto, unfolding(judge::specs::Alone::type_of))]
+fn type_in(set: CharacterSet, body: &[u8]) -> Option<u64>
+    ensures { unwrap_or result 0 ≡ type_in set body.now }
 {
-    if body.len() < 2 {
-        return 0;
-    }
-    let kind = slow_record::type_of(set, body);
-    if is_carried(kind) {
-        return kind;
-    }
-    0
+    slow_record::type_of(set, body).filter(|kind| is_carried(*kind))
 }
 
-// The type of the record at an offset; 0 also where the bytes end there or are cut.
-pub fn type_at(set: CharacterSet, file: &[u8], at: usize) -> u64
-    ensures { result ≡ type_at set file.now at }
+// The type of the record at an offset; none also where the bytes end there or are cut.
+#[tactic(auto, unfolding(crate::specs::Places::type_at))]
+pub fn type_at(set: CharacterSet, file: &[u8], at: usize) -> Option<u64>
+    ensures { unwrap_or result 0 ≡ type_at set file.now at }
 {
-    match slow_record::frame_at(file, at) {
-        Frame::Cut => 0,
-        Frame::Whole(start, size) => type_in(set, slow_record::part_of(file, start, size)),
-    }
+    let Extent { start, size } = slow_record::frame_at(file, at)?;
+    type_in(set, slow_record::part_of(file, start, size))
 }
 
 // LINK, then TOTAL.
+#[tactic(auto, unfolding(passes::specs::CheckOrder::agreement))]
 fn agrees(set: CharacterSet, file: &[u8], s: Standing, at: usize, kind: u64) -> Turn
     requires { Roomy s }
     ensures { result ≡ agreement set file.now s at kind }
 {
-    let link = slow_links::link_fault(set, file, s, kind, at);
-    if link != 0 {
-        return Turn::Faulty(Fault::Link(link));
+    if let Some(field) = slow_links::link_fault(set, file, s, kind, at) {
+        return Err(Fault::Link(field));
     }
-    let total = slow_links::total_fault(set, file, s, kind, at);
-    if total != 0 {
-        return Turn::Faulty(Fault::Total(total));
+    if let Some(field) = slow_links::total_fault(set, file, s, kind, at) {
+        return Err(Fault::Total(field));
     }
-    Turn::Good(kind)
+    Ok(kind)
 }
 
 // The items of a bundle are all 25 or all 31, as the first.
 fn as_the_first(kind: u64, first: u64) -> bool
     ensures { result ≡ one_item_type first kind }
 {
-    let item = (kind == 25) | (kind == 31);
-    !item | ((first == 0) | (first == kind))
+    !matches!(kind, 25 | 31) || first == 0 || first == kind
 }
 
 // A record where it was called for: PLACE where the bundle's items are of the other type, then the record alone, LINK and TOTAL.
@@ -113,34 +82,22 @@ fn examined<'a>(
     ensures { result ≡ unless (one_item_type s.present kind) (Faulty Place) (unless_alone (judged_as set kind body.now) (agreement set file.now s at kind)) }
 {
     if !as_the_first(kind, s.present) {
-        return Turn::Faulty(Fault::Place);
+        return Err(Fault::Place);
     }
-    match slow_record::judge(set, kind, body) {
-        Judged::Sound => agrees(set, file, s, at, kind),
-        Judged::WrongLength => Turn::Faulty(Fault::Length),
-        Judged::UnknownType => Turn::Faulty(Fault::UnknownType),
-        Judged::WrongField(n) => Turn::Faulty(Fault::Field(n)),
-    }
+    slow_record::judge(set, kind, body)?;
+    agrees(set, file, s, at, kind)
 }
 
 fn record_at(set: CharacterSet, file: &[u8], s: Standing, kind: u64, at: usize) -> Step
     requires { Called set file.now s at s.inside kind }
     ensures { result ≡ step_of set file.now s at }
 {
-    match slow_record::frame_at(file, at) {
-        Frame::Cut => Step::Stop(Fault::Cut),
-        Frame::Whole(start, size) => match examined(
-            set,
-            file,
-            s,
-            at,
-            kind,
-            slow_record::part_of(file, start, size),
-        ) {
-            Turn::Faulty(fault) => Step::Stop(fault),
-            Turn::Good(found) => Step::On(found, size),
-        },
-    }
+    let Some(Extent { start, size }) = slow_record::frame_at(file, at) else {
+        return Err(Fault::Cut);
+    };
+    let body = slow_record::part_of(file, start, size);
+    let found = examined(set, file, s, at, kind, body)?;
+    Ok((found, size))
 }
 
 pub fn enter(set: CharacterSet, file: &[u8], s: Standing, kind: u64, at: usize) -> Entered
@@ -148,47 +105,54 @@ pub fn enter(set: CharacterSet, file: &[u8], s: Standing, kind: u64, at: usize) 
     ensures { Enters set file.now s at kind result }
 {
     match record_at(set, file, s, kind, at) {
-        Step::Stop(fault) => Entered::Stop(Answer::Refused(fault, s.records.0 + 1, at)),
-        Step::On(_, size) => {
+        Err(fault) => Err(Refusal {
+            fault,
+            place: s.records.0 + 1,
+            offset: at,
+        }),
+        Ok((_, size)) => {
             let here = slow_figures::moved_on(set, file, s, kind, at);
             let next = at + 4 + size;
             let called = type_at(set, file, next);
-            Entered::On(here, next, called)
+            Ok((here, next, called))
         }
     }
 }
 
 // At the end of the bytes: accepted behind a 99, and else OPEN.
+#[tactic(auto, unfolding(passes::specs::Reading::ended_with))]
 fn ended(s: Standing, at: usize) -> Answer
     requires { Roomy s × (capped_figures s ≡ s) }
     ensures { result ≡ ended_with s at }
 {
     if s.last == 99 {
-        let sums = s.whole;
-        let records = s.records;
-        let items = s.items;
-        return Answer::Accepted(Totals {
-            records,
+        return Ok(Totals {
+            records: s.records,
             letters: s.letters,
             bundles: s.bundles,
-            items,
-            sums,
+            items: s.items,
+            sums: s.whole,
         });
     }
-    Answer::Refused(Fault::Open, s.records.0 + 1, at)
+    Err(Refusal {
+        fault: Fault::Open,
+        place: s.records.0 + 1,
+        offset: at,
+    })
 }
 
 // A record that nothing calls for: LENGTH, UNKNOWN TYPE or PLACE.
+#[tactic(auto, unfolding(order::specs::MayFollow::is_carried))]
 fn misfit(set: CharacterSet, body: &[u8]) -> Fault
     ensures { result ≡ unless (leb 2 (length body.now)) Length (unless (is_carried (type_of set body.now)) UnknownType Place) }
 {
     if body.len() < 2 {
         return Fault::Length;
     }
-    if is_carried(slow_record::type_of(set, body)) {
-        return Fault::Place;
+    match slow_record::type_of(set, body) {
+        Some(kind) if is_carried(kind) => Fault::Place,
+        _ => Fault::UnknownType,
     }
-    Fault::UnknownType
 }
 
 // Bytes that nothing calls for: AFTER behind the 99, and else CUT, or the fault of the record there.
@@ -200,8 +164,8 @@ fn unfit(set: CharacterSet, file: &[u8], s: Standing, at: usize) -> Fault
         return Fault::After;
     }
     match slow_record::frame_at(file, at) {
-        Frame::Cut => Fault::Cut,
-        Frame::Whole(start, size) => misfit(set, slow_record::part_of(file, start, size)),
+        Some(Extent { start, size }) => misfit(set, slow_record::part_of(file, start, size)),
+        None => Fault::Cut,
     }
 }
 
@@ -213,6 +177,9 @@ pub fn not_called_for(set: CharacterSet, file: &[u8], s: Standing, at: usize) ->
     if file.len() <= at {
         return ended(s, at);
     }
-    let fault = unfit(set, file, s, at);
-    Answer::Refused(fault, s.records.0 + 1, at)
+    Err(Refusal {
+        fault: unfit(set, file, s, at),
+        place: s.records.0 + 1,
+        offset: at,
+    })
 }

@@ -1,22 +1,69 @@
--- One turn of the search for a blank within digits, on plain lists. Assumes nothing.
-use mathlib.Core.Path.{◌≡◌}
+-- What `all` and `any` of the library tell, and one turn of the search for a blank within digits, on plain lists. Assumes nothing.
+use mathlib.Core.Path.{◌≡◌, refl, sym}
 use mathlib.Core.Bool.{Bool, true, false, ◌&&◌, ◌||◌}
-use mathlib.Core.List.{List}
-use Prim.Native.Nat.{ℕ, ◌+◌, ◌≤◌, ◌<◌}
-use lib.ListN.{length, get_or, drop, drop_of_length-le}
+use mathlib.Core.List.{List, [], ◌∷◌}
+use Prim.Native.Nat.{ℕ, zero, suc, ◌+◌, ◌-◌, ◌≤◌, ◌<◌}
+use native.Mathlib.Omega.{arith}
+use lib.ListN.{length, get_or, take, drop, drop_of_length-le, length-drop}
+use lib.Seq.{take_all}
+use Rattle.std.specs.Bool.{MatchBool}
+use Rattle.std.specs.List.{AllWithin, HoldsAt}
 use Rattle.text.specs.declared.character_set.CharacterSet.{CharacterSet}
 use Rattle.text.specs.Characters.{is_blank, is_numeric}
-use Rattle.text.specs.DataTypes.{some, blank_after}
+use Rattle.text.specs.DataTypes.{every, some, blank_after}
 use Rattle.text.proofs.Laws.{rest}
 
-module _ (set : CharacterSet) (s : List ℕ) (i : ℕ) (before : Bool) where
-  pub blank-found : i < length s → before && (is_blank set (get_or s i 0) && some (is_numeric set) (drop (i + 1) s)) ≡ true
-      → blank_after set before (drop i s) ≡ true
-  blank-found h e = rw (rest s i h, e)
+module _ (test : ℕ → Bool) where
+  abbrev Passes : ℕ → Type 0
+  Passes x = test x ≡ true
 
-  pub blank-goes-on : i < length s → before && (is_blank set (get_or s i 0) && some (is_numeric set) (drop (i + 1) s)) ≡ false
-      → blank_after set before (drop i s) ≡ blank_after set (before || is_numeric set (get_or s i 0)) (drop (i + 1) s)
-  blank-goes-on h e = rw (rest s i h, e)
+  abbrev Fails : ℕ → Type 0
+  Fails x = test x ≡ false
+
+  every-passes : (xs : List ℕ) → AllWithin Passes xs 0 (length xs) → every test xs ≡ true
+  every-passes [] h = refl
+  every-passes (x ∷ xs) h = rw (h 0 0 (omega arith) (omega arith)) (every-passes xs (λ k d _ l. h (suc k) d (omega arith) (omega arith)))
+
+  some-fails : (xs : List ℕ) → AllWithin Fails xs 0 (length xs) → some test xs ≡ false
+  some-fails [] h = refl
+  some-fails (x ∷ xs) h = rw (h 0 0 (omega arith) (omega arith)) (some-fails xs (λ k d _ l. h (suc k) d (omega arith) (omega arith)))
+
+  every-fails : (xs : List ℕ) (k : ℕ) → k < length xs → Fails (get_or xs k 0) → every test xs ≡ false
+  every-fails [] k l h = absurd (omega arith)
+  every-fails (x ∷ xs) zero l h = rw h
+  every-fails (x ∷ xs) (suc k) l h = rw (every-fails xs k (omega arith) h) (ends (test x))
+    where
+      ends : (b : Bool) → b && false ≡ false
+      ends true = refl
+      ends false = refl
+
+  some-passes : (xs : List ℕ) (k : ℕ) → k < length xs → Passes (get_or xs k 0) → some test xs ≡ true
+  some-passes [] k l h = absurd (omega arith)
+  some-passes (x ∷ xs) zero l h = rw h
+  some-passes (x ∷ xs) (suc k) l h = rw (some-passes xs k (omega arith) h) (ends (test x))
+    where
+      ends : (b : Bool) → b || true ≡ true
+      ends true = refl
+      ends false = refl
+
+  pub every-told : (told : Bool) (xs : List ℕ) → MatchBool told (AllWithin Passes xs 0 (length xs)) ((k : ℕ) × (k < length xs) × HoldsAt Fails xs k)
+      → told ≡ every test xs
+  every-told true xs h = sym (every-passes xs h)
+  every-told false xs h = sym (every-fails xs h.0 h.1 (h.2 0))
+
+  pub some-told : (told : Bool) (xs : List ℕ) → MatchBool told ((k : ℕ) × (k < length xs) × HoldsAt Passes xs k) (AllWithin Fails xs 0 (length xs))
+      → told ≡ some test xs
+  some-told true xs h = sym (some-passes xs h.0 h.1 (h.2 0))
+  some-told false xs h = sym (some-fails xs h)
+
+-- the end of a list, as a range of a slice takes it
+pub end_taken : (i : ℕ) (s : List ℕ) → take (length s - i) (drop i s) ≡ drop i s
+end_taken i s = take_all (length s - i) (drop i s) (omega (arith, length-drop i s))
+
+module _ (set : CharacterSet) (before : Bool) (i : ℕ) (s : List ℕ) where
+  pub blank-turn : i < length s → blank_after set before (drop i s)
+      ≡ (before && (is_blank set (get_or s i 0) && some (is_numeric set) (drop (i + 1) s))) || blank_after set (before || is_numeric set (get_or s i 0)) (drop (i + 1) s)
+  blank-turn h = rw (rest s i h)
 
   pub blank-ends : length s ≤ i → blank_after set before (drop i s) ≡ false
   blank-ends h = rw (drop_of_length-le s h)

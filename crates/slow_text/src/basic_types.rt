@@ -7,19 +7,14 @@ ghost use Rattle.text.specs.Characters.{is_alphabetic, is_blank, is_numeric, is_
 use text::CharacterSet;
 
 // Request 5: a file whose first record begins with 01 in EBCDIC, behind the four bytes of its length, is in EBCDIC.
+#[tactic(auto, unfolding(text::specs::CharacterSet::set_of))]
 pub fn set_of(file: &[u8]) -> CharacterSet
     ensures { result ≡ set_of file.now }
 {
-    if file.len() < 6 {
-        return CharacterSet::Ascii;
+    match file {
+        [_, _, _, _, 0xF0, 0xF1, ..] => CharacterSet::Ebcdic,
+        _ => CharacterSet::Ascii,
     }
-    if file[4] != 0xF0 {
-        return CharacterSet::Ascii;
-    }
-    if file[5] != 0xF1 {
-        return CharacterSet::Ascii;
-    }
-    CharacterSet::Ebcdic
 }
 
 // 5.1.1: a letter, capital or small, or the blank
@@ -27,18 +22,17 @@ pub fn is_alphabetic(set: CharacterSet, x: u8) -> bool
     ensures { result ≡ is_alphabetic set x }
 {
     match set {
-        CharacterSet::Ascii => {
-            ((b'A' <= x) & (x <= b'Z')) | (((b'a' <= x) & (x <= b'z')) | (x == b' '))
-        }
-        CharacterSet::Ebcdic => {
-            ((0xC1 <= x) & (x <= 0xC9)) // A to I
-                | (((0xD1 <= x) & (x <= 0xD9)) // J to R
-                    | (((0xE2 <= x) & (x <= 0xE9)) // S to Z
-                        | (((0x81 <= x) & (x <= 0x89)) // a to i
-                            | (((0x91 <= x) & (x <= 0x99)) // j to r
-                                | (((0xA2 <= x) & (x <= 0xA9)) // s to z
-                                    | (x == 0x40))))))
-        }
+        CharacterSet::Ascii => matches!(x, b'A'..=b'Z' | b'a'..=b'z' | b' '),
+        CharacterSet::Ebcdic => matches!(
+            x,
+            0xC1..=0xC9 // A to I
+            | 0xD1..=0xD9 // J to R
+            | 0xE2..=0xE9 // S to Z
+            | 0x81..=0x89 // a to i
+            | 0x91..=0x99 // j to r
+            | 0xA2..=0xA9 // s to z
+            | 0x40
+        ),
     }
 }
 
@@ -57,8 +51,8 @@ pub fn is_numeric(set: CharacterSet, x: u8) -> bool
     ensures { result ≡ is_numeric set x }
 {
     match set {
-        CharacterSet::Ascii => (b'0' <= x) & (x <= b'9'),
-        CharacterSet::Ebcdic => (0xF0 <= x) & (x <= 0xF9),
+        CharacterSet::Ascii => matches!(x, b'0'..=b'9'),
+        CharacterSet::Ebcdic => matches!(x, 0xF0..=0xF9),
     }
 }
 
@@ -77,22 +71,19 @@ pub fn is_special(set: CharacterSet, x: u8) -> bool
     ensures { result ≡ is_special set x }
 {
     match set {
-        CharacterSet::Ascii => {
-            ((b'!' <= x) & (x <= b'/'))
-                | (((b':' <= x) & (x <= b'@'))
-                    | (((b'[' <= x) & (x <= b'`')) | ((b'{' <= x) & (x <= b'~'))))
-        }
-        CharacterSet::Ebcdic => {
-            ((0x4B <= x) & (x <= 0x50)) // . < ( + | &
-                | (((0x5A <= x) & (x <= 0x5E)) // ! $ * ) ;
-                    | (((0x60 <= x) & (x <= 0x61)) // - /
-                        | (((0x6B <= x) & (x <= 0x6F)) // , % _ > ?
-                            | (((0x79 <= x) & (x <= 0x7F)) // ` : # @ ' = "
-                                | ((x == 0xA1) // ~
-                                    | ((x == 0xB0) // ^
-                                        | (((0xBA <= x) & (x <= 0xBB)) // [ ]
-                                            | ((x == 0xC0) | ((x == 0xD0) | (x == 0xE0))))))))))
-        }
+        CharacterSet::Ascii => matches!(x, b'!'..=b'/' | b':'..=b'@' | b'['..=b'`' | b'{'..=b'~'),
+        CharacterSet::Ebcdic => matches!(
+            x,
+            0x4B..=0x50 // . < ( + | &
+            | 0x5A..=0x5E // ! $ * ) ;
+            | 0x60..=0x61 // - /
+            | 0x6B..=0x6F // , % _ > ?
+            | 0x79..=0x7F // ` : # @ ' = "
+            | 0xA1 // ~
+            | 0xB0 // ^
+            | 0xBA..=0xBB // [ ]
+            | 0xC0 | 0xD0 | 0xE0
+        ),
     }
 }
 

@@ -7,7 +7,6 @@ use crate::basic_types::{
     is_alphabetic, is_amount_symbol, is_blank, is_cannot_read, is_dash, is_numeric,
     is_on_us_symbol, is_questionable, is_special, is_transit_symbol,
 };
-use crate::numbers::behind;
 use text::{CharacterSet, DataType};
 
 // The five symbols of the MICR line.
@@ -15,8 +14,10 @@ fn is_micr_symbol(set: CharacterSet, x: u8) -> bool
     ensures { result ≡ is_amount_symbol set x || (is_cannot_read set x || (is_dash set x || (is_on_us_symbol set x || is_transit_symbol set x))) }
 {
     is_amount_symbol(set, x)
-        | (is_cannot_read(set, x)
-            | (is_dash(set, x) | (is_on_us_symbol(set, x) | is_transit_symbol(set, x))))
+        || is_cannot_read(set, x)
+        || is_dash(set, x)
+        || is_on_us_symbol(set, x)
+        || is_transit_symbol(set, x)
 }
 
 // 5.3.1 to 5.3.14: whether a character may stand in a field of the type
@@ -31,17 +32,17 @@ pub fn may_stand(set: CharacterSet, t: DataType, x: u8) -> bool
     match t {
         DataType::AB => blank,
         DataType::A => alphabetic,
-        DataType::AN => alphabetic | numeric,
-        DataType::ANS => alphabetic | (numeric | is_special(set, x)),
+        DataType::AN => alphabetic || numeric,
+        DataType::ANS => alphabetic || numeric || is_special(set, x),
         DataType::Binary => true,
         DataType::N => numeric,
-        DataType::NB => numeric | blank,
-        DataType::NBD => numeric | (blank | dash),
-        DataType::NBQ => numeric | (blank | is_questionable(set, x)),
-        DataType::NBMc => numeric | (blank | cannot_read),
-        DataType::NBMcd => numeric | (blank | (cannot_read | dash)),
-        DataType::NBMcdo => numeric | (blank | (cannot_read | (dash | is_on_us_symbol(set, x)))),
-        DataType::NBMU => numeric | (blank | is_micr_symbol(set, x)),
+        DataType::NB => numeric || blank,
+        DataType::NBD => numeric || blank || dash,
+        DataType::NBQ => numeric || blank || is_questionable(set, x),
+        DataType::NBMc => numeric || blank || cannot_read,
+        DataType::NBMcd => numeric || blank || cannot_read || dash,
+        DataType::NBMcdo => numeric || blank || cannot_read || dash || is_on_us_symbol(set, x),
+        DataType::NBMU => numeric || blank || is_micr_symbol(set, x),
     }
 }
 
@@ -49,22 +50,12 @@ pub fn may_stand(set: CharacterSet, t: DataType, x: u8) -> bool
 pub fn is_mark(set: CharacterSet, t: DataType, x: u8) -> bool
     ensures { result ≡ is_mark set t x }
 {
-    let questionable = is_questionable(set, x);
-    let cannot_read = is_cannot_read(set, x);
     match t {
-        DataType::AB => false,
-        DataType::A => false,
-        DataType::AN => false,
-        DataType::ANS => false,
-        DataType::Binary => false,
-        DataType::N => false,
-        DataType::NB => false,
-        DataType::NBD => false,
-        DataType::NBQ => questionable,
-        DataType::NBMc => cannot_read,
-        DataType::NBMcd => cannot_read,
-        DataType::NBMcdo => cannot_read,
-        DataType::NBMU => cannot_read,
+        DataType::NBQ => is_questionable(set, x),
+        DataType::NBMc | DataType::NBMcd | DataType::NBMcdo | DataType::NBMU => {
+            is_cannot_read(set, x)
+        }
+        _ => false,
     }
 }
 
@@ -72,34 +63,13 @@ pub fn is_mark(set: CharacterSet, t: DataType, x: u8) -> bool
 fn keeps_digits_together(t: DataType) -> bool
     ensures { result ≡ keeps_digits_together t }
 {
-    match t {
-        DataType::AB => false,
-        DataType::A => false,
-        DataType::AN => false,
-        DataType::ANS => false,
-        DataType::Binary => false,
-        DataType::N => false,
-        DataType::NB => true,
-        DataType::NBD => true,
-        DataType::NBQ => true,
-        DataType::NBMc => false,
-        DataType::NBMcd => false,
-        DataType::NBMcdo => false,
-        DataType::NBMU => false,
-    }
+    matches!(t, DataType::NB | DataType::NBD | DataType::NBQ)
 }
 
 fn all_may_stand(set: CharacterSet, t: DataType, s: &[u8]) -> bool
     ensures { result ≡ every (admits set t) s.now }
 {
-    let mut i = 0;
-    while i < s.len() {
-        if !may_stand(set, t, s[i]) {
-            return false;
-        }
-        i += 1;
-    }
-    true
+    s.iter().all(|x| may_stand(set, t, *x))
 }
 
 pub fn all_blank(set: CharacterSet, s: &[u8]) -> bool
@@ -123,27 +93,13 @@ pub fn digits_and_blanks(set: CharacterSet, s: &[u8]) -> bool
 pub fn some_digit(set: CharacterSet, s: &[u8]) -> bool
     ensures { result ≡ some (is_numeric set) s.now }
 {
-    let mut i = 0;
-    while i < s.len() {
-        if is_numeric(set, s[i]) {
-            return true;
-        }
-        i += 1;
-    }
-    false
+    s.iter().any(|x| is_numeric(set, *x))
 }
 
 pub fn some_mark(set: CharacterSet, t: DataType, s: &[u8]) -> bool
     ensures { result ≡ some (is_mark set t) s.now }
 {
-    let mut i = 0;
-    while i < s.len() {
-        if is_mark(set, t, s[i]) {
-            return true;
-        }
-        i += 1;
-    }
-    false
+    s.iter().any(|x| is_mark(set, t, *x))
 }
 
 // A blank with a digit somewhere before it and a digit somewhere behind it.
@@ -151,21 +107,19 @@ fn blank_within_digits(set: CharacterSet, s: &[u8]) -> bool
     ensures { result ≡ blank_embedded set s.now }
 {
     let mut before = false;
-    let mut i = 0;
-    while i < s.len() {
-        let after = some_digit(set, behind(s, i + 1));
-        if before & (is_blank(set, s[i]) & after) {
+    for (i, x) in s.iter().enumerate() {
+        if before && is_blank(set, *x) && some_digit(set, &s[i + 1..]) {
             return true;
         }
-        before = before | is_numeric(set, s[i]);
-        i += 1;
+        before = before || is_numeric(set, *x);
     }
     false
 }
 
 // A field of the type: every character may stand in it, and its digits stand together where the type asks for it.
+#[tactic(auto, unfolding(text::specs::DataTypes::of_type))]
 pub fn of_type(set: CharacterSet, t: DataType, s: &[u8]) -> bool
     ensures { result ≡ of_type set t s.now }
 {
-    all_may_stand(set, t, s) & !(keeps_digits_together(t) & blank_within_digits(set, s))
+    all_may_stand(set, t, s) && !(keeps_digits_together(t) && blank_within_digits(set, s))
 }

@@ -1,6 +1,5 @@
 // For the slow reader: letters as capitals, digits as numbers, and parts of a run of bytes.
-ghost use Rattle.std.specs.Prelude.{◌≡◌, cond, ◌+◌, ◌-◌, ◌≤◌, length, get_or, take, drop};
-ghost use Rattle.text.specs.Ranges.{within};
+ghost use Rattle.std.specs.Prelude.{◌≡◌, ◌≤◌, length, get_or, take, drop};
 ghost use Rattle.text.specs.Capitals.{capital};
 ghost use Rattle.text.specs.Number.{digit, value_after, number};
 
@@ -10,10 +9,7 @@ use text::CharacterSet;
 pub fn behind(s: &[u8], place: usize) -> &[u8]
     ensures { result.now ≡ drop place s.now }
 {
-    if s.len() < place {
-        return &s[0..0];
-    }
-    &s[place..]
+    s.get(place..).unwrap_or(&[])
 }
 
 // The bytes from a place on, as many as the size says or as there are.
@@ -21,79 +17,49 @@ pub fn part_of(s: &[u8], start: usize, size: usize) -> &[u8]
     ensures { result.now ≡ take size (drop start s.now) }
 {
     let rest = behind(s, start);
-    if rest.len() < size {
-        return rest;
-    }
-    &rest[0..size]
+    rest.get(..size).unwrap_or(rest)
 }
 
 // The byte at a place; 0 past the end.
 pub fn byte_at(s: &[u8], place: usize) -> u8
     ensures { result ≡ get_or s.now place 0 }
 {
-    if place < s.len() {
-        return s[place];
-    }
-    0
-}
-
-// A character of a run stands for as many past the first as it stands past the lowest; any other for the one that was found elsewhere.
-fn stands_for(low: u8, high: u8, first: u8, x: u8, elsewhere: u8) -> u8
-    requires { high + first ≤ low + 255 }
-    ensures { result ≡ cond (within low high x) (x - low + first) elsewhere }
-{
-    if x < low {
-        return elsewhere;
-    }
-    if high < x {
-        return elsewhere;
-    }
-    x - low + first
+    s.get(place).copied().unwrap_or(0)
 }
 
 // 5.1.1: the letter that a character is, as a capital, or the digit, by its ASCII code; 0 for any other
+#[tactic(auto, unfolding(text::specs::Capitals::capital))]
 pub fn capital_of(set: CharacterSet, x: u8) -> u8
     ensures { result ≡ capital set x }
 {
     match set {
-        CharacterSet::Ascii => {
-            let digit = stands_for(b'0', b'9', b'0', x, 0);
-            let small = stands_for(b'a', b'z', b'A', x, digit);
-            stands_for(b'A', b'Z', b'A', x, small)
-        }
-        CharacterSet::Ebcdic => {
-            let digit = stands_for(0xF0, 0xF9, b'0', x, 0);
-            let s_to_z = stands_for(0xA2, 0xA9, b'S', x, digit);
-            let j_to_r = stands_for(0x91, 0x99, b'J', x, s_to_z);
-            let a_to_i = stands_for(0x81, 0x89, b'A', x, j_to_r);
-            let capital_s_to_z = stands_for(0xE2, 0xE9, b'S', x, a_to_i);
-            let capital_j_to_r = stands_for(0xD1, 0xD9, b'J', x, capital_s_to_z);
-            stands_for(0xC1, 0xC9, b'A', x, capital_j_to_r)
-        }
+        CharacterSet::Ascii => match x {
+            b'A'..=b'Z' => x,
+            b'a'..=b'z' => x - b'a' + b'A',
+            b'0'..=b'9' => x,
+            _ => 0,
+        },
+        CharacterSet::Ebcdic => match x {
+            0xC1..=0xC9 => x - 0xC1 + b'A',
+            0xD1..=0xD9 => x - 0xD1 + b'J',
+            0xE2..=0xE9 => x - 0xE2 + b'S',
+            0x81..=0x89 => x - 0x81 + b'A',
+            0x91..=0x99 => x - 0x91 + b'J',
+            0xA2..=0xA9 => x - 0xA2 + b'S',
+            0xF0..=0xF9 => x - 0xF0 + b'0',
+            _ => 0,
+        },
     }
-}
-
-// How far a character stands past the zero of its set, up to nine; any other adds nothing.
-fn digit_from(zero: u8, x: u8) -> u64
-    ensures { (result ≡ cond (within zero (zero + 9) x) (x - zero) 0) × (result ≤ 9) }
-{
-    if x < zero {
-        return 0;
-    }
-    let past = x - zero;
-    if past <= 9 {
-        return past as u64;
-    }
-    0
 }
 
 // 5.1.3: the number that a digit stands for
 pub fn digit_of(set: CharacterSet, x: u8) -> u64
     ensures { (result ≡ digit set x) × (result ≤ 9) }
 {
-    match set {
-        CharacterSet::Ascii => digit_from(b'0', x),
-        CharacterSet::Ebcdic => digit_from(0xF0, x),
+    match (set, x) {
+        (CharacterSet::Ascii, b'0'..=b'9') => u64::from(x - b'0'),
+        (CharacterSet::Ebcdic, 0xF0..=0xF9) => u64::from(x - 0xF0),
+        _ => 0,
     }
 }
 
@@ -102,15 +68,14 @@ fn value_of(set: CharacterSet, s: &[u8]) -> u64
     ensures { result ≡ value_after set 0 s.now }
 {
     let mut value: u64 = 0;
-    let mut i = 0;
-    while i < s.len() {
-        value = value * 10 + digit_of(set, s[i]);
-        i += 1;
+    for x in s {
+        value = value * 10 + digit_of(set, *x);
     }
     value
 }
 
 // The number in a field, by its first 19 characters: no field that is read as a number has more than 16.
+#[tactic(auto, unfolding(text::specs::Number::number))]
 pub fn number_in(set: CharacterSet, s: &[u8]) -> u64
     ensures { result ≡ number set s.now }
 {

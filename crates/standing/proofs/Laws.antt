@@ -1,10 +1,9 @@
 -- Numbers of fields are small, and so are sums over few records; how one record more moves a figure, and all figures, on. Assumes nothing.
 use mathlib.Core.Path.{◌≡◌, refl, sym, ap, ◌∙◌}
 use mathlib.Core.List.{List, [], ◌∷◌}
-use mathlib.Core.Bool.{Bool, true, false, ◌&&◌, not, cond}
+use mathlib.Core.Bool.{Bool, true, false, cond}
 use native.Mathlib.Numerals.{add-one}
 use lib.Dec.{eqb}
-use borrow.Author.Tests.{eqb-true}
 use Rattle.text.specs.declared.character_set.CharacterSet.{CharacterSet}
 use Rattle.measure.specs.Measures.{cents, no_sums, together, capped, capped_sums, Small}
 use Rattle.measure.proofs.Capped.{capped_small, capped-twice, capped-since, capped-sums-twice, capped-sums-since}
@@ -27,28 +26,9 @@ pub few-digits : (set : CharacterSet) (file : List ℕ) (offset first size k : �
 few-digits set file offset first size k h =
     number-below set (characters file offset first size) k (omega (arith, length-take size (drop (offset + 4 + (first - 1)) file)))
 
--- what one record adds leaves room for more
-pub one-roomy : {n : ℕ} → n ≤ 1 → n < 0x4000_0000_0000_0000
-one-roomy h = omega arith
-
-pub amount-roomy : (t : Bool) {n : ℕ} → n < 100_000_000_000_000 → cond t n 0 < 0x4000_0000_0000_0000
-amount-roomy true h = omega arith
-amount-roomy false h = omega arith
-
--- a 61 is a credit where it is no debit
-pub credit-else : (set : CharacterSet) (file : List ℕ) (t offset : ℕ) → eqb t 61 && not (is_debit set file t offset) ≡ is_credit set file t offset
-credit-else set file t offset = by (eqb t 61) refl
-  where
-    by : (b : Bool) → eqb t 61 ≡ b → eqb t 61 && not (is_debit set file t offset) ≡ is_credit set file t offset
-    by true e = rw (eqb-true t 61 e)
-    by false e = rw e
-
 -- a figure moved on, with its parts replaced by equals
 pub since-moves : (o : ℕ) {r m m' : ℕ} {b b' : Bool} → r ≡ cond b 0 (m + o) → b ≡ b' → m ≡ m' → r ≡ cond b' 0 (m' + o)
 since-moves o e b m = rw (sym b, sym m) e
-
-pub newest-moves : (o : ℕ) {r v v' : ℕ} {b b' : Bool} → r ≡ cond b v o → b ≡ b' → v ≡ v' → r ≡ cond b' v' o
-newest-moves o e b v = rw (sym b, sym v) e
 
 pub sums-move : (b : Bool) (o : Sums) {r a a' : Sums} → r ≡ cond b no_sums (capped_sums (together a o)) → a ≡ a' → r ≡ capped_sums (cond b no_sums (together a' o))
 sums-move true o e a = e

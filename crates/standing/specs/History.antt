@@ -1,5 +1,5 @@
 -- What a record has before it: the records read so far, the newest first, and what they come to.
-use Rattle.std.specs.Prelude.{ℕ, ◌+◌, ◌-◌, Bool, true, false, ◌&&◌, ◌||◌, not, cond, List, [], ◌∷◌, map, eqb, length, get_or}
+use Rattle.std.specs.Prelude.{ℕ, ◌+◌, ◌-◌, Bool, true, false, ◌&&◌, ◌||◌, not, cond, List, [], ◌∷◌, eqb, get_or}
 use Rattle.text.specs.declared.character_set.CharacterSet.{CharacterSet}
 use Rattle.text.specs.Capitals.{capital}
 use Rattle.text.specs.Number.{number}
@@ -8,7 +8,7 @@ use Rattle.layout.specs.Layout.{Line, Layout}
 use Rattle.layout.specs.Layouts.{cash_letter_header, check_detail, return_record, image_view_detail, credit_record}
 use Rattle.measure.specs.Measures.{sums, no_sums, together}
 use Rattle.measure.specs.declared.Sums.{Sums}
-use Rattle.order.specs.MayFollow.{is_check_or_return, is_item, is_addendum}
+use Rattle.order.specs.MayFollow.{is_check_or_return, is_item}
 
 -- a record of the file: its type, the offset of its length field, and its size as the length field says it
 pub record Entry : Type 0 where

@@ -12,6 +12,7 @@ ghost use Rattle.standing.specs.Standing.{standing, onward, capped_figures, Room
 use measure::{Cents, Items, Records, Sums, Views};
 use text::CharacterSet;
 
+// Stays: a type is document 01's number, and 0 is none, since `standing` of specs/Standing.antt and the theorems on it say so.
 #[derive(Clone, Copy)]
 pub struct Standing {
     // The type of the last record, 0 at the start; whether a bundle is open; the type of the checks or returns in the open bundle, and that of
@@ -81,31 +82,14 @@ impl Standing {
     }
 }
 
-fn place_before(first: usize) -> usize
-    ensures { result ≡ first - 1 }
-{
-    if first == 0 {
-        return 0;
-    }
-    first - 1
-}
-
 // The characters of a record from a position on, counted from 1; its length field stands at an offset of the file.
+// Stays: set, file and offset are three arguments here and below, as they are of the definitions (specs/History.antt) and of the public `moved` and `agree::link_fault`.
 pub fn characters_at(file: &[u8], offset: usize, first: usize, size: usize) -> &[u8]
     ensures { result.now ≡ characters file.now offset first size }
 {
-    if file.len() < 4 {
-        return &file[0..0];
-    }
-    if file.len() - 4 < offset {
-        return &file[0..0];
-    }
-    let body = offset + 4;
-    let place = place_before(first);
-    if file.len() - body < place {
-        return &file[0..0];
-    }
-    let start = body + place;
+    let start = offset
+        .saturating_add(4)
+        .saturating_add(first.saturating_sub(1));
     frame::part_of(file, start, size)
 }
 
@@ -121,8 +105,7 @@ pub fn amount_at(set: CharacterSet, file: &[u8], kind: u64, offset: usize) -> u6
     ensures { (result ≡ amount_of set file.now kind offset) × (result < 100_000_000_000_000) }
 {
     match kind {
-        25 => number_at(set, file, offset, 48, 10),
-        31 => number_at(set, file, offset, 48, 10),
+        25 | 31 => number_at(set, file, offset, 48, 10),
         61 => number_at(set, file, offset, 49, 14),
         _ => 0,
     }
@@ -143,12 +126,11 @@ fn micr_at(set: CharacterSet, file: &[u8], kind: u64, offset: usize, amount: u64
     requires { amount ≡ (adds set file.now kind offset).debit.0 }
     ensures { (result ≡ micr_of set file.now kind offset) × (result ≤ amount) }
 {
-    if kind == 25 {
-        if number_at(set, file, offset, 75, 1) == 1 {
-            return amount;
-        }
+    if kind == 25 && number_at(set, file, offset, 75, 1) == 1 {
+        amount
+    } else {
+        0
     }
-    0
 }
 
 // The addenda that an item states: 25, field 12, positions 77 and 78; 31, field 8, positions 73 and 74.
@@ -162,37 +144,28 @@ fn stated_at(set: CharacterSet, file: &[u8], kind: u64, offset: usize) -> u64
     }
 }
 
-fn first_of(s: &[u8]) -> u8
-    ensures { result ≡ get_or s.now 0 0 }
-{
-    if 0 < s.len() {
-        return s[0];
-    }
-    0
-}
-
 // 10, field 8, position 43.
 fn indicator_at(set: CharacterSet, file: &[u8], offset: usize) -> u8
     ensures { result ≡ indicator_in set file.now offset }
 {
-    text::capital_of(set, first_of(characters_at(file, offset, 43, 1)))
+    let first = characters_at(file, offset, 43, 1).first();
+    text::capital_of(set, first.copied().unwrap_or(0))
 }
 
+// Stays: `u64::from` with a contract of its own, for crates that add up tests too (drafting).
 pub fn one_if(test: bool) -> u64
     ensures { (result ≡ one test) × (result ≤ 1) }
 {
-    if test { 1 } else { 0 }
+    u64::from(test)
 }
 
 // A sum with what one record adds, or none where the record begins the level anew.
+// Stays: six figures of `moved_in_full` go by it, and written out each would have the test and the sum again.
 fn since(begins: bool, more: u64, sum: u64) -> u64
     requires { (more < 0x4000_0000_0000_0000) × (sum < 0x4000_0000_0000_0000) }
     ensures { result ≡ cond begins 0 (more + sum) }
 {
-    if begins {
-        return 0;
-    }
-    more + sum
+    if begins { 0 } else { more + sum }
 }
 
 // The same of a sum of cents, which stops at what no control field can state.
@@ -201,16 +174,10 @@ fn cents_since(begins: bool, more: u64, sum: Cents) -> Cents
     ensures { result ≡ cents (capped (cond begins 0 (more + sum.0))) }
 {
     if begins {
-        return Cents(0);
+        Cents(0)
+    } else {
+        Cents(more).plus(sum)
     }
-    Cents(more).plus(sum)
-}
-
-// The newest record's figure where it is one of a sort, else the older figure.
-fn newest(found: bool, figure: u64, older: u64) -> u64
-    ensures { result ≡ cond found figure older }
-{
-    if found { figure } else { older }
 }
 
 // A view, whether or not it holds image bytes.
@@ -218,7 +185,7 @@ fn views_at(file: &[u8], kind: u64, offset: usize) -> u64
     ensures { (result ≡ one (eqb kind 50)) × (result ≤ 1) }
 {
     let counts = kind == 50;
-    one_if(counts)
+    u64::from(counts)
 }
 
 // What one record adds to the sums of each level.
@@ -230,10 +197,10 @@ fn added_at(set: CharacterSet, file: &[u8], kind: u64, offset: usize) -> Sums
     let cents = amount_at(set, file, kind, offset);
     let views = views_at(file, kind, offset);
     Sums {
-        debits: Items(one_if(debit)),
-        debit: Cents(newest(debit, cents, 0)),
-        credits: Items(one_if(credit)),
-        credit: Cents(newest(credit, cents, 0)),
+        debits: Items(u64::from(debit)),
+        debit: Cents(if debit { cents } else { 0 }),
+        credits: Items(u64::from(credit)),
+        credit: Cents(if credit { cents } else { 0 }),
         views: Views(views),
     }
 }
@@ -243,18 +210,20 @@ fn indicator_after(set: CharacterSet, file: &[u8], kind: u64, offset: usize, old
     ensures { result ≡ cond (eqb kind 10) (indicator_in set file.now offset) older }
 {
     if kind == 10 {
-        return indicator_at(set, file, offset);
+        indicator_at(set, file, offset)
+    } else {
+        older
     }
-    older
 }
 
 fn signature_after(set: CharacterSet, file: &[u8], kind: u64, offset: usize, older: u64) -> u64
     ensures { result ≡ cond (eqb kind 50) (signature_in set file.now offset) older }
 {
     if kind == 50 {
-        return number_at(set, file, offset, 29, 1);
+        number_at(set, file, offset, 29, 1)
+    } else {
+        older
     }
-    older
 }
 
 // Whether a bundle is open, the type of the checks or returns in it, and that of the newest item in it or directly in the cash letter.
@@ -268,18 +237,24 @@ fn present_after(kind: u64, older: u64) -> u64
     ensures { result ≡ cond (eqb kind 20) 0 (cond (is_check_or_return kind) kind older) }
 {
     if kind == 20 {
-        return 0;
+        0
+    } else if order::is_check_or_return(kind) {
+        kind
+    } else {
+        older
     }
-    newest(order::is_check_or_return(kind), kind, older)
 }
 
 fn holder_after(kind: u64, older: u64) -> u64
     ensures { result ≡ cond (eqb kind 10 || (eqb kind 20 || eqb kind 70)) 0 (cond (is_item kind) kind older) }
 {
     if (kind == 10) | ((kind == 20) | (kind == 70)) {
-        return 0;
+        0
+    } else if order::is_item(kind) {
+        kind
+    } else {
+        older
     }
-    newest(order::is_item(kind), kind, older)
 }
 
 // The figures with one record more of any type.
@@ -298,23 +273,27 @@ fn moved_in_full(set: CharacterSet, file: &[u8], s: Standing, kind: u64, offset:
         present: present_after(kind, s.present),
         holder: holder_after(kind, s.holder),
         records: Records(s.records.0 + 1),
-        letters: since(false, one_if(letter), s.letters),
-        bundles: since(false, one_if(bundle), s.bundles),
-        opened: since(letter, one_if(bundle), s.opened),
-        items: Items(since(false, one_if(item), s.items.0)),
-        ordinal: since(bundle, one_if(item), s.ordinal),
+        letters: u64::from(letter) + s.letters,
+        bundles: u64::from(bundle) + s.bundles,
+        opened: since(letter, u64::from(bundle), s.opened),
+        items: Items(u64::from(item) + s.items.0),
+        ordinal: since(bundle, u64::from(item), s.ordinal),
         whole: s.whole.since(false, added),
         letter: s.letter.since(letter, added),
         bundle: s.bundle.since(bundle, added),
         micr: cents_since(bundle, micr, s.micr),
-        addenda: since(item, one_if(order::is_addendum(kind)), s.addenda),
-        bofd: since(item, one_if((kind == 26) | (kind == 32)), s.bofd),
-        endorser: since(item, one_if((kind == 28) | (kind == 35)), s.endorser),
-        shown: since(item, one_if(kind == 50), s.shown),
-        stated: newest(item, stated_at(set, file, kind, offset), s.stated),
-        item: newest(item, offset as u64, s.item as u64) as usize,
-        header: newest(bundle, offset as u64, s.header as u64) as usize,
-        heading: newest(letter, offset as u64, s.heading as u64) as usize,
+        addenda: since(item, u64::from(order::is_addendum(kind)), s.addenda),
+        bofd: since(item, u64::from((kind == 26) | (kind == 32)), s.bofd),
+        endorser: since(item, u64::from((kind == 28) | (kind == 35)), s.endorser),
+        shown: since(item, u64::from(kind == 50), s.shown),
+        stated: if item {
+            stated_at(set, file, kind, offset)
+        } else {
+            s.stated
+        },
+        item: if item { offset } else { s.item },
+        header: if bundle { offset } else { s.header },
+        heading: if letter { offset } else { s.heading },
         indicator: indicator_after(set, file, kind, offset, s.indicator),
         signature: signature_after(set, file, kind, offset, s.signature),
     }
@@ -325,30 +304,22 @@ fn moved_in_full(set: CharacterSet, file: &[u8], s: Standing, kind: u64, offset:
 fn changes_much(kind: u64) -> bool
     ensures { result ≡ is_one_of kind (10 ∷ 20 ∷ 25 ∷ 31 ∷ 50 ∷ 61 ∷ 70 ∷ []) }
 {
-    (kind == 10)
-        | (kind == 20)
-        | (kind == 25)
-        | (kind == 31)
-        | (kind == 50)
-        | (kind == 61)
-        | (kind == 70)
+    matches!(kind, 10 | 20 | 25 | 31 | 50 | 61 | 70)
 }
 
 // The figures with one record more of another type.
-fn moved_a_little(mut s: Standing, kind: u64) -> Standing
+fn moved_a_little(s: Standing, kind: u64) -> Standing
     requires { Roomy s × (capped_figures s ≡ s) × (is_one_of kind (10 ∷ 20 ∷ 25 ∷ 31 ∷ 50 ∷ 61 ∷ 70 ∷ []) ≡ false) }
     ensures { (set : CharacterSet) (file : List ℕ) (offset : ℕ) → result ≡ capped_figures (onward set file s kind offset) }
 {
-    let records = Records(s.records.0 + 1);
-    let addenda = since(false, one_if(order::is_addendum(kind)), s.addenda);
-    let bofd = since(false, one_if((kind == 26) | (kind == 32)), s.bofd);
-    let endorser = since(false, one_if((kind == 28) | (kind == 35)), s.endorser);
-    s.last = kind;
-    s.records = records;
-    s.addenda = addenda;
-    s.bofd = bofd;
-    s.endorser = endorser;
-    s
+    Standing {
+        last: kind,
+        records: Records(s.records.0 + 1),
+        addenda: u64::from(order::is_addendum(kind)) + s.addenda,
+        bofd: u64::from((kind == 26) | (kind == 32)) + s.bofd,
+        endorser: u64::from((kind == 28) | (kind == 35)) + s.endorser,
+        ..s
+    }
 }
 
 // The figures with one record more, whose length field stands at an offset.

@@ -9,20 +9,14 @@ ghost use Rattle.book_model.specs.Table.{places_claimed, places_there, free_plac
 fn places_claimed(list: &[u64]) -> u64
     ensures { result ≡ places_claimed list.now }
 {
-    if 0 < list.len() {
-        return list[0];
-    }
-    0
+    list.first().copied().unwrap_or(0)
 }
 
 // How many whole places stand behind the first number.
 fn places_there(list: &[u64]) -> u64
     ensures { result ≡ places_there list.now }
 {
-    if list.len() < 1 {
-        return 0;
-    }
-    ((list.len() - 1) / 2) as u64
+    (list.len().saturating_sub(1) / 2) as u64
 }
 
 pub fn is_list(list: &[u64]) -> bool
@@ -44,14 +38,11 @@ fn is_among(list: &[u64], owner: u64, claimed: u64, number: u64) -> bool
     requires { claimed ≤ places_there list.now }
     ensures { result ≡ is_taken number (taken_from owner list.now claimed 1) }
 {
-    let mut at: usize = 1;
-    let mut places = claimed;
-    while 0 < places {
+    for place in 0..claimed as usize {
+        let at = 1 + 2 * place;
         if (list[at] == owner) & (list[at + 1] == number) {
             return true;
         }
-        at += 2;
-        places -= 1;
     }
     false
 }

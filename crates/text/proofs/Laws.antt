@@ -14,7 +14,7 @@ use Rattle.std.specs.List.{list_any}
 use Rattle.text.specs.declared.character_set.CharacterSet.{CharacterSet}
 use Rattle.text.specs.declared.character_set.CharacterSet.TheVariants.{Ascii, Ebcdic}
 use Rattle.text.specs.Ranges.{within}
-use Rattle.text.specs.Characters.{is_blank, is_numeric}
+use Rattle.text.specs.Characters.{is_numeric}
 use Rattle.text.specs.declared.data_types.DataType.{DataType}
 use Rattle.text.specs.declared.data_types.DataType.TheVariants.{Binary}
 use Rattle.text.specs.DataTypes.{every, some, blank_after, blank_embedded, admits, keeps_digits_together, of_type}
@@ -28,10 +28,6 @@ pub and-true : (b : Bool) → b && true ≡ b
 and-true true = refl
 and-true false = refl
 
-and_assoc : (a b c : Bool) → (a && b) && c ≡ a && (b && c)
-and_assoc true b c = refl
-and_assoc false b c = refl
-
 module _ (test : ℕ → Bool) (s : List ℕ) (i : ℕ) where
   pub every-turn : i < length s → every test (drop i s) ≡ test (get_or s i 0) && every test (drop (i + 1) s)
   every-turn h = rw (rest s i h)
@@ -44,14 +40,6 @@ module _ (test : ℕ → Bool) (s : List ℕ) (i : ℕ) where
 
   pub every-goes-on : i < length s → test (get_or s i 0) ≡ true → every test (drop i s) ≡ every test (drop (i + 1) s)
   every-goes-on h e = rw (every-turn h, e)
-
-  -- a loop that carries whether all have passed so far
-  pub every-carried : (all : Bool) → i < length s
-      → (all && test (get_or s i 0)) && every test (drop (i + 1) s) ≡ all && every test (drop i s)
-  every-carried all h = rw (every-turn h) (and_assoc all (test (get_or s i 0)) (every test (drop (i + 1) s)))
-
-  pub every-told : (all : Bool) → length s ≤ i → all ≡ all && every test (drop i s)
-  every-told all h = rw (every-ends h) (sym (and-true all))
 
   pub some-found : i < length s → test (get_or s i 0) ≡ true → some test (drop i s) ≡ true
   some-found h e = rw (rest s i h, e)
@@ -74,39 +62,6 @@ module _ (test : ℕ → Bool) where
 -- Whether a blank stands embedded in what is left, where `before` says that a digit came, and `gap` that a blank came after one.
 abbrev pub embedded_from : CharacterSet → Bool → Bool → List ℕ → Bool
 embedded_from set before gap xs = (gap && some (is_numeric set) xs) || blank_after set before xs
-
--- a gap and now a digit: embedded
-gap-closed : (gap digit more rest : Bool) → gap && digit ≡ true → (gap && (digit || more)) || rest ≡ true
-gap-closed true true more rest e = refl
-gap-closed true false more rest e = cc
-gap-closed false digit more rest e = cc
-
--- a turn that finds no digit after a gap
-gap-carried : (gap digit before blank more rest : Bool) → gap && digit ≡ false
-    → (gap && (digit || more)) || ((before && (blank && more)) || rest) ≡ ((gap || (before && blank)) && more) || rest
-gap-carried true true before blank more rest e = cc
-gap-carried true false before blank true rest e = refl
-gap-carried true false true true false rest e = refl
-gap-carried true false true false false rest e = refl
-gap-carried true false false blank false rest e = refl
-gap-carried false digit true true more rest e = refl
-gap-carried false digit true false more rest e = refl
-gap-carried false digit false blank more rest e = refl
-
-module _ (set : CharacterSet) (s : List ℕ) (i : ℕ) (before gap : Bool) where
-  pub embedded-found : i < length s → gap && is_numeric set (get_or s i 0) ≡ true → embedded_from set before gap (drop i s) ≡ true
-  embedded-found h e = rw (rest s i h) (gap-closed gap (is_numeric set (get_or s i 0)) _ _ e)
-
-  pub embedded-goes-on : i < length s → gap && is_numeric set (get_or s i 0) ≡ false
-      → embedded_from set before gap (drop i s) ≡ embedded_from set (before || is_numeric set (get_or s i 0)) (gap || (before && is_blank set (get_or s i 0))) (drop (i + 1) s)
-  embedded-goes-on h e = rw (rest s i h) (gap-carried gap (is_numeric set (get_or s i 0)) before (is_blank set (get_or s i 0)) _ _ e)
-
-  pub embedded-ends : length s ≤ i → embedded_from set before gap (drop i s) ≡ false
-  embedded-ends h = rw (drop_of_length-le s h) (no_digit gap)
-    where
-      no_digit : (g : Bool) → (g && false) || false ≡ false
-      no_digit true = refl
-      no_digit false = refl
 
 module _ (set : CharacterSet) (sum : ℕ) (s : List ℕ) (i : ℕ) where
   pub value-goes-on : i < length s → value_after set sum (drop i s) ≡ value_after set (sum * 10 + digit set (get_or s i 0)) (drop (i + 1) s)

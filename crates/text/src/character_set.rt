@@ -2,10 +2,21 @@
 ghost use Rattle.std.specs.Prelude.{◌≡◌};
 ghost use Rattle.text.specs.CharacterSet.{set_of};
 
-#[derive(Clone, Copy, PartialEq, Eq)]
+use std::fmt;
+
+#[derive(Clone, Copy, Debug, PartialEq, Eq)]
 pub enum CharacterSet {
     Ascii,
     Ebcdic,
+}
+
+impl fmt::Display for CharacterSet {
+    fn fmt<W: fmt::Write>(&self, f: &mut fmt::Formatter<W>) -> fmt::Result {
+        f.write_str(match self {
+            CharacterSet::Ascii => "ASCII",
+            CharacterSet::Ebcdic => "EBCDIC",
+        })
+    }
 }
 
 // Decided by bytes 5 and 6 of the file, the first two characters after the first length, whatever that length says.

@@ -12,7 +12,7 @@ use crate::characters::{
 };
 
 // By the names that the standard gives them, in the order of the clause; ANC (5.3.4) is in no carried record.
-#[derive(Clone, Copy)]
+#[derive(Clone, Copy, Debug, PartialEq, Eq)]
 pub enum DataType {
     AB,
     A,

@@ -1,6 +1,6 @@
 -- What is asked of an image as a whole (request 13, readings 48 and 50): its header, its first directory, everything inside it, and the order of the
 -- tags. Offsets and counts are whole numbers.
-use Rattle.std.specs.Prelude.{ℕ, ◌+◌, ◌*◌, ◌%◌, min, Bool, true, cond, not, ◌&&◌, ◌||◌, List, [], ◌∷◌, leb, ltb, eqb, length, get_or}
+use Rattle.std.specs.Prelude.{◌≡◌, ℕ, ◌+◌, ◌*◌, ◌%◌, min, Bool, true, cond, not, ◌&&◌, ◌||◌, List, [], ◌∷◌, leb, ltb, eqb, length, get_or}
 use Rattle.tiff_directory.specs.declared.Entry.{Entry}
 use Rattle.tiff_directory.specs.Entries.{short_at, long_at, entries_from}
 
@@ -20,6 +20,13 @@ entries_of image = entries_from image (entry_count image) (directory_start image
 
 unfoldable pub directory_inside : List ℕ → Bool
 directory_inside image = leb (directory_start image + 2 + 12 * entry_count image + 4) (length image)
+
+-- the first directory of an image, which lies within: where its entries stand, and how many they are
+pub record IsFirst (image seen : List ℕ) (first count : ℕ) : Type 0 where
+  pub inside : directory_inside image ≡ true
+  pub same : seen ≡ image
+  pub first-is : first ≡ directory_start image + 2
+  pub count-is : count ≡ entry_count image
 
 -- The bytes of a number of each type of TIFF 6.0, from 1 on: BYTE, ASCII, SHORT, LONG, RATIONAL, SBYTE, UNDEFINED, SSHORT, SLONG, SRATIONAL,
 -- FLOAT, DOUBLE. Of any other type 0, so that its value is never looked for.

@@ -1,10 +1,10 @@
 -- Table 1 of document 004, the required fields: a line for each, in the order of the tags (reading 49).
-use Rattle.std.specs.Prelude.{ℕ, ◌+◌, ◌*◌, ◌%◌, Bool, not, ◌&&◌, ◌||◌, List, eqb}
+use Rattle.std.specs.Prelude.{ℕ, ◌+◌, ◌*◌, ◌%◌, Bool, not, ◌&&◌, ◌||◌, List, eqb, Result, Ok, Err}
 use Rattle.frame.specs.Unless.{unless}
 use Rattle.tiff_directory.specs.declared.Entry.{Entry}
 use Rattle.tiff_directory.specs.Entries.{long_at}
-use Rattle.tiff.specs.declared.Tags.{Tags}
-use Rattle.tiff.specs.declared.Tags.TheVariants.{Right, WrongValue}
+use Rattle.tiff.specs.declared.TagFault.{TagFault}
+use Rattle.tiff.specs.declared.TagFault.TheVariants.{WrongValue}
 use Rattle.tiff.specs.Image.{first_with, is_number, number_in}
 
 -- "This shall be some value other than zero"
@@ -33,24 +33,28 @@ unfoldable pub is_like : List ℕ → Entry → Entry → Bool
 is_like image x y =
     eqb (numerator image x * denominator image y) (numerator image y * denominator image x) && not (eqb x.value y.value)
 
+-- an image's tags: as they should be, or what is wrong
+abbrev pub Tags : Type 0
+Tags = Result Unit TagFault
+
 -- "TAGVALUE, the lowest required tag wrong or absent"
 unfoldable pub required_tags : List ℕ → List Entry → Tags
 required_tags image es =
     -- ImageWidth
-    unless (is_measure (first_with 256 es)) (WrongValue 256)
+    unless (is_measure (first_with 256 es)) (Err (WrongValue 256))
     -- ImageLength
-    (unless (is_measure (first_with 257 es)) (WrongValue 257)
+    (unless (is_measure (first_with 257 es)) (Err (WrongValue 257))
     -- Compression: 4, Group 4 Fax
-    (unless (is_code 4 (first_with 259 es)) (WrongValue 259)
+    (unless (is_code 4 (first_with 259 es)) (Err (WrongValue 259))
     -- Photometric Interpretation: 0
-    (unless (is_code 0 (first_with 262 es)) (WrongValue 262)
+    (unless (is_code 0 (first_with 262 es)) (Err (WrongValue 262))
     -- StripOffsets
-    (unless (is_number (first_with 273 es)) (WrongValue 273)
+    (unless (is_number (first_with 273 es)) (Err (WrongValue 273))
     -- RowsPerStrip: the value of ImageLength
-    (unless (is_number (first_with 278 es) && eqb (number_in (first_with 278 es)) (number_in (first_with 257 es))) (WrongValue 278)
+    (unless (is_number (first_with 278 es) && eqb (number_in (first_with 278 es)) (number_in (first_with 257 es))) (Err (WrongValue 278))
     -- StripByteCounts
-    (unless (is_number (first_with 279 es)) (WrongValue 279)
+    (unless (is_number (first_with 279 es)) (Err (WrongValue 279))
     -- XResolution
-    (unless (is_resolution image (first_with 282 es)) (WrongValue 282)
+    (unless (is_resolution image (first_with 282 es)) (Err (WrongValue 282))
     -- YResolution
-    (unless (is_resolution image (first_with 283 es) && is_like image (first_with 282 es) (first_with 283 es)) (WrongValue 283) Right))))))))
+    (unless (is_resolution image (first_with 283 es) && is_like image (first_with 282 es) (first_with 283 es)) (Err (WrongValue 283)) (Ok tt)))))))))

@@ -2,17 +2,18 @@
 // byte of the picture itself is looked at, so the time grows with the directory alone.
 #![tactic(auto)]
 
-ghost use Rattle.std.specs.Prelude.{cond, ◌≡◌, ◌+◌, ◌*◌, ◌≤◌, min, ltb, length};
-ghost use Rattle.tiff_directory.specs.Entries.{entries_from};
-ghost use Rattle.tiff.specs.Image.{is_marked, type_size, value_inside, values_inside, first_with, is_number, number_in, strip_inside, directory_inside, is_inside, entries_of, entry_count, directory_start, disordered, lowest};
+ghost use Rattle.std.specs.Prelude.{cond, ◌≡◌, ◌+◌, ◌*◌, ◌≤◌, ◌<◌, min, ltb, length, false, MatchOption};
+ghost use Rattle.frame.specs.Unless.{unless};
+ghost use Rattle.tiff_directory.specs.Entries.{entries_from, EntryRead};
+ghost use Rattle.tiff.specs.Image.{is_marked, type_size, value_inside, values_inside, first_with, is_number, number_in, strip_inside, directory_inside, IsFirst, disordered, lowest};
 ghost use Rattle.tiff.specs.Required.{is_measure, is_code, is_resolution, is_like, required_tags};
 ghost use Rattle.tiff.specs.Judged.{number_of, tag_of, tags_of};
 
 use tiff_directory::Entry;
 
+// What is wrong with an image's tags.
 #[derive(Clone, Copy)]
-pub enum Tags {
-    Right,
+pub enum TagFault {
     // Something lies outside the image.
     Cut,
     // The lowest tag that is not above the one before it.
@@ -21,26 +22,23 @@ pub enum Tags {
     WrongValue(u64),
 }
 
-impl Tags {
+impl TagFault {
     pub fn number(self) -> u64
-        ensures { result ≡ number_of self }
+        ensures { result ≡ number_of (Err self) }
     {
         match self {
-            Tags::Right => 0,
-            Tags::Cut => 3,
-            Tags::WrongOrder(_) => 18,
-            Tags::WrongValue(_) => 19,
+            TagFault::Cut => 3,
+            TagFault::WrongOrder(_) => 18,
+            TagFault::WrongValue(_) => 19,
         }
     }
 
     pub fn tag(self) -> u64
-        ensures { result ≡ tag_of self }
+        ensures { result ≡ tag_of (Err self) }
     {
         match self {
-            Tags::Right => 0,
-            Tags::Cut => 0,
-            Tags::WrongOrder(tag) => tag,
-            Tags::WrongValue(tag) => tag,
+            TagFault::Cut => 0,
+            TagFault::WrongOrder(tag) | TagFault::WrongValue(tag) => tag,
         }
     }
 }
@@ -59,10 +57,7 @@ const TYPE_SIZES: [u64; 13] = [0, 1, 1, 2, 4, 8, 1, 1, 2, 4, 8, 4, 8];
 fn type_size(kind: u64) -> u64
     ensures { (result ≡ type_size kind) × (result ≤ 8) }
 {
-    if 13 <= kind {
-        return 0;
-    }
-    TYPE_SIZES[kind as usize]
+    TYPE_SIZES.get(kind as usize).copied().unwrap_or(0)
 }
 
 // Whether an entry's value, where it is longer than four bytes, lies within an image of so many bytes. No product and no sum is cut to 32 bits.
@@ -72,46 +67,6 @@ fn value_inside(image: &[u8], e: Entry) -> bool
 {
     let size = e.count * type_size(e.kind);
     (size <= 4) | (e.value + size <= image.len() as u64)
-}
-
-fn values_inside(image: &[u8], first: usize, count: u64) -> bool
-    requires { first + 12 * count + 4 ≤ length image.now }
-    ensures { result ≡ values_inside image.now (entries_from image.now count first) }
-{
-    let mut at = first;
-    let mut left = count;
-    while 0 < left {
-        let e = tiff_directory::entry_here(image, at);
-        if !value_inside(image, e) {
-            return false;
-        }
-        at += 12;
-        left -= 1;
-    }
-    true
-}
-
-// The first entry with a tag, or one of no type.
-fn first_with(image: &[u8], first: usize, count: u64, tag: u64) -> Entry
-    requires { first + 12 * count + 4 ≤ length image.now }
-    ensures { (result ≡ first_with tag (entries_from image.now count first)) × (result.count ≤ 0xFFFF_FFFF) × (result.value ≤ 0xFFFF_FFFF) }
-{
-    let mut at = first;
-    let mut left = count;
-    while 0 < left {
-        let e = tiff_directory::entry_here(image, at);
-        if e.tag == tag {
-            return e;
-        }
-        at += 12;
-        left -= 1;
-    }
-    Entry {
-        tag: 0,
-        kind: 0,
-        count: 0,
-        value: 0,
-    }
 }
 
 // One number, SHORT or LONG.
@@ -130,44 +85,11 @@ fn number_in(e: Entry) -> u64
     e.value
 }
 
-fn strip_inside(image: &[u8], first: usize, count: u64) -> bool
-    requires { first + 12 * count + 4 ≤ length image.now }
-    ensures { result ≡ strip_inside image.now (entries_from image.now count first) }
-{
-    let offset = first_with(image, first, count, 273);
-    let size = first_with(image, first, count, 279);
-    if !(is_number(offset) & is_number(size)) {
-        return true;
-    }
-    number_in(offset) + number_in(size) <= image.len() as u64
-}
-
-// The lowest tag that is not above the one before it, or 65,536.
-fn lowest_disordered(image: &[u8], first: usize, count: u64) -> u64
-    requires { first + 12 * count + 4 ≤ length image.now }
-    ensures { result ≡ lowest (disordered (entries_from image.now count first)) }
-{
-    let mut low: u64 = 0x1_0000;
-    let mut at = first;
-    let mut left = count;
-    while 1 < left {
-        let before = tiff_directory::entry_here(image, at);
-        let e = tiff_directory::entry_behind(image, at);
-        low = lowest_with(low, before.tag, e.tag);
-        at += 12;
-        left -= 1;
-    }
-    low
-}
-
 // One more pair of neighbours: the lower of a tag so far and the second of the two, where that is not above the first.
 fn lowest_with(low: u64, before: u64, tag: u64) -> u64
     ensures { result ≡ cond (ltb before tag) low (min low tag) }
 {
-    if before < tag {
-        return low;
-    }
-    if tag < low { tag } else { low }
+    if before < tag { low } else { low.min(tag) }
 }
 
 fn is_measure(e: Entry) -> bool
@@ -207,78 +129,147 @@ fn is_like(image: &[u8], x: Entry, y: Entry) -> bool
     (product == other) & (x.value != y.value)
 }
 
-// Table 1, in the order of the tags.
-fn required_tags(image: &[u8], first: usize, count: u64) -> Tags
-    requires { first + 12 * count + 4 ≤ length image.now }
-    ensures { result ≡ required_tags image.now (entries_from image.now count first) }
+// That a required tag is as it should be.
+fn required(tag: u64, holds: bool) -> Result<(), TagFault>
+    ensures { result ≡ unless holds (Err (TagFault.WrongValue tag)) (Ok tt) }
 {
-    if !is_measure(first_with(image, first, count, 256)) {
-        return Tags::WrongValue(256);
+    if holds {
+        Ok(())
+    } else {
+        Err(TagFault::WrongValue(tag))
     }
-    let length = first_with(image, first, count, 257);
-    if !is_measure(length) {
-        return Tags::WrongValue(257);
-    }
-    if !is_code(4, first_with(image, first, count, 259)) {
-        return Tags::WrongValue(259);
-    }
-    if !is_code(0, first_with(image, first, count, 262)) {
-        return Tags::WrongValue(262);
-    }
-    if !is_number(first_with(image, first, count, 273)) {
-        return Tags::WrongValue(273);
-    }
-    let rows = first_with(image, first, count, 278);
-    if !(is_number(rows) & (number_in(rows) == number_in(length))) {
-        return Tags::WrongValue(278);
-    }
-    if !is_number(first_with(image, first, count, 279)) {
-        return Tags::WrongValue(279);
-    }
-    let across = first_with(image, first, count, 282);
-    if !is_resolution(image, across) {
-        return Tags::WrongValue(282);
-    }
-    let down = first_with(image, first, count, 283);
-    if !(is_resolution(image, down) & is_like(image, across, down)) {
-        return Tags::WrongValue(283);
-    }
-    Tags::Right
 }
 
-// The first directory, every value and the strip lie within the image.
-fn is_inside(image: &[u8]) -> bool
-    ensures { result ≡ is_inside image.now }
-{
-    let start = tiff_directory::long_at(image, 4) as usize;
-    let count = tiff_directory::short_at(image, start);
-    if (image.len() as u64) < start as u64 + 2 + 12 * count + 4 {
-        return false;
+// A directory that lies within its image: where its first entry stands, and how many there are. Behind them stand the four bytes of the next offset.
+#[derive(Clone, Copy)]
+struct Directory<'a> {
+    image: &'a [u8],
+    first: usize,
+    count: u64,
+    ghost inside: { first + 12 * count + 4 ≤ length image.now },
+}
+
+impl<'a> Directory<'a> {
+    // The first directory of an image, where it lies within.
+    fn within(image: &'a [u8]) -> Option<Directory<'a>>
+        ensures { MatchOption result (directory_inside image.entry.now ≡ false) (λ d. IsFirst image.entry.now d.image.now d.first d.count) }
+    {
+        let start = tiff_directory::long_at(image, 4) as usize;
+        let count = tiff_directory::short_at(image, start);
+        if (image.len() as u64) < start as u64 + 2 + 12 * count + 4 {
+            return None;
+        }
+        Some(Directory {
+            image,
+            first: start + 2,
+            count,
+        })
     }
-    if !values_inside(image, start + 2, count) {
-        return false;
+
+    fn entry(self, i: u64) -> Entry
+        requires { i < self.count }
+        ensures { EntryRead self.entry.image.now (self.entry.first + 12 * i) result }
+    {
+        tiff_directory::entry_here(self.image, self.first + 12 * i as usize)
     }
-    strip_inside(image, start + 2, count)
+
+    fn values_inside(self) -> bool
+        ensures { result ≡ values_inside self.entry.image.now (entries_from self.entry.image.now self.entry.count self.entry.first) }
+    {
+        for i in 0..self.count {
+            if !value_inside(self.image, self.entry(i)) {
+                return false;
+            }
+        }
+        true
+    }
+
+    // The first entry with a tag, or one of no type.
+    fn first_with(self, tag: u64) -> Entry
+        ensures { (result ≡ first_with tag (entries_from self.entry.image.now self.entry.count self.entry.first)) × (result.count ≤ 0xFFFF_FFFF) × (result.value ≤ 0xFFFF_FFFF) }
+    {
+        for i in 0..self.count {
+            let e = self.entry(i);
+            if e.tag == tag {
+                return e;
+            }
+        }
+        Entry {
+            tag: 0,
+            kind: 0,
+            count: 0,
+            value: 0,
+        }
+    }
+
+    fn strip_inside(self) -> bool
+        ensures { result ≡ strip_inside self.entry.image.now (entries_from self.entry.image.now self.entry.count self.entry.first) }
+    {
+        let offset = self.first_with(273);
+        let size = self.first_with(279);
+        if !(is_number(offset) & is_number(size)) {
+            return true;
+        }
+        number_in(offset) + number_in(size) <= self.image.len() as u64
+    }
+
+    // The lowest tag that is not above the one before it, or 65,536.
+    // Stays: a number and no Option, since `lowest` of specs/Image.antt, which `tags_of` names, is 65,536 where there is none.
+    fn lowest_disordered(self) -> u64
+        ensures { result ≡ lowest (disordered (entries_from self.entry.image.now self.entry.count self.entry.first)) }
+    {
+        let mut low: u64 = 0x1_0000;
+        for i in 1..self.count {
+            low = lowest_with(low, self.entry(i - 1).tag, self.entry(i).tag);
+        }
+        low
+    }
+
+    // Table 1, in the order of the tags.
+    fn required_tags(self) -> Result<(), TagFault>
+        ensures { result ≡ required_tags self.entry.image.now (entries_from self.entry.image.now self.entry.count self.entry.first) }
+    {
+        required(256, is_measure(self.first_with(256)))?;
+        let length = self.first_with(257);
+        required(257, is_measure(length))?;
+        required(259, is_code(4, self.first_with(259)))?;
+        required(262, is_code(0, self.first_with(262)))?;
+        required(273, is_number(self.first_with(273)))?;
+        let rows = self.first_with(278);
+        required(
+            278,
+            is_number(rows) & (number_in(rows) == number_in(length)),
+        )?;
+        required(279, is_number(self.first_with(279)))?;
+        let across = self.first_with(282);
+        required(282, is_resolution(self.image, across))?;
+        let down = self.first_with(283);
+        required(
+            283,
+            is_resolution(self.image, down) & is_like(self.image, across, down),
+        )
+    }
 }
 
 // The call on one image: any bytes get their answer.
-pub fn judge_tags(image: &[u8]) -> Tags
+pub fn judge_tags(image: &[u8]) -> Result<(), TagFault>
     ensures { result ≡ tags_of image.now }
 {
     if image.len() < 8 {
-        return Tags::Cut;
+        return Err(TagFault::Cut);
     }
     if !is_marked(image) {
-        return Tags::WrongValue(0);
+        return Err(TagFault::WrongValue(0));
     }
-    if !is_inside(image) {
-        return Tags::Cut;
+    let Some(directory) = Directory::within(image) else {
+        return Err(TagFault::Cut);
+    };
+    if !(directory.values_inside() & directory.strip_inside()) {
+        return Err(TagFault::Cut);
     }
-    let start = tiff_directory::long_at(image, 4) as usize;
-    let count = tiff_directory::short_at(image, start);
-    let low = lowest_disordered(image, start + 2, count);
+    let low = directory.lowest_disordered();
     if low < 0x1_0000 {
-        return Tags::WrongOrder(low);
+        return Err(TagFault::WrongOrder(low));
     }
-    required_tags(image, start + 2, count)
+    directory.required_tags()
 }

@@ -8,12 +8,12 @@ use Rattle.net.specs.Net.{bits_of}
 use borrow.Author.Rules.{rules}
 use Rattle.abi.proofs.x9_book_totals.Goals as goal
 
-pub returns-in-Totals : goal.returns-in-Totals
-returns-in-Totals c =
-    let told = sym c.totals.ensures ∙ c.in-Totals.is in
-    record { number = rw told; totals = rw (told, c.bits_of-net.ensures) (ap (λ (z : ℤ). 0 ∷ c.in-Totals.entries ∷ numbers_of c.in-Totals.figures ++ (bits_of z ∷ [])) (to_z-of_z w64 c.in-Totals.position (record { sfits = search rules }))) }
+pub returns-in-Ok : goal.returns-in-Ok
+returns-in-Ok c =
+    let told = sym c.totals.ensures ∙ c.in-Ok.is in
+    record { number = rw told; totals = rw (told, c.bits_of-net.ensures) (ap (λ (z : ℤ). 0 ∷ c.in-Ok.entries ∷ numbers_of c.in-Ok.figures ++ (bits_of z ∷ [])) (to_z-of_z w64 c.in-Ok.net (record { sfits = search rules }))) }
 
-pub returns-in-Refused : goal.returns-in-Refused
-returns-in-Refused c =
-    let told = sym c.totals.ensures ∙ c.in-Refused.is in
+pub returns-in-Err : goal.returns-in-Err
+returns-in-Err c =
+    let told = sym c.totals.ensures ∙ c.in-Err.is in
     record { number = rw told c.number-refused.ensures; totals = rw (told, c.number-refused.ensures) }

@@ -1,12 +1,12 @@
 use mathlib.Core.Path.{sym, ◌∙◌}
 use Rattle.abi.proofs.x9_book_withdraw.Goals as goal
 
-pub returns-in-Done : goal.returns-in-Done
-returns-in-Done c =
-    let told = sym c.withdraw.ensures.answer ∙ c.in-Done.is in
+pub returns-in-Ok : goal.returns-in-Ok
+returns-in-Ok c =
+    let told = sym c.withdraw.ensures.answer ∙ c.in-Ok.is in
     record { number = rw told; book-after = rw (sym c.withdraw.ensures.answer) c.withdraw.ensures.book }
 
-pub returns-in-Refused : goal.returns-in-Refused
-returns-in-Refused c =
-    let told = sym c.withdraw.ensures.answer ∙ c.in-Refused.is in
+pub returns-in-Err : goal.returns-in-Err
+returns-in-Err c =
+    let told = sym c.withdraw.ensures.answer ∙ c.in-Err.is in
     record { number = rw told c.number.ensures; book-after = rw (sym c.withdraw.ensures.answer) c.withdraw.ensures.book }

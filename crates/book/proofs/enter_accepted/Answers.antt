@@ -4,6 +4,7 @@ use Prim.Native.Nat.{ℕ, ◌+◌, ◌-◌}
 use native.Mathlib.Omega.{arith}
 use lib.Dec.{leb}
 use lib.ListN.{get_or}
+use Rattle.passes.specs.declared.Fault.TheVariants.{Room, Duplicate, Range, Full}
 use Rattle.passes.proofs.Passes.{accepted-small}
 use Rattle.figures.specs.Figures.{figures, plus, fits}
 use Rattle.net.specs.Net.{within}
@@ -14,7 +15,7 @@ use Rattle.book_model.specs.PlainList.{position_of, entries_on, keeps_range, has
 use Rattle.book_model.specs.Table.{last_number, running_totals, rows_used, free_rows, gaps, entries_of, own_of, free_in, placed}
 use Rattle.book_model.proofs.Laws.{sound}
 use Rattle.book_gaps.proofs.Laws.{used_in}
-use Rattle.book.proofs.Accepted.{HasRoom, no_room, duplicate, beyond, full, enters, filled, range-is, room-is, has_room_lem, raisable, book-raised}
+use Rattle.book.proofs.Accepted.{as-built, HasRoom, no_room, duplicate, beyond, full, enters, filled, range-is, room-is, has_room_lem, raisable, book-raised}
 use Rattle.book.proofs.enter_accepted.Goals as goal
 
 pub keeps_range-requires : goal.keeps_range-requires
@@ -29,18 +30,18 @@ fill-requires c = (accepted-small c.args.file.now c.args.totals c.requires.3, om
 pub returns-then-table-needed : goal.returns-then-table-needed
 returns-then-table-needed c =
     let letters : AcceptedLetters c.args.file.now c.args.totals = accepted-letters c.args.file.now c.args.totals (λ i. omega (arith, c.type_inv.file i)) c.requires.3 in
-    record { answer = no_room c.args.file.now c.args.table.now c.args.book.now c.args.list.now c.args.number c.args.owner c.args.totals c.requires.0 c.requires.1 c.requires.2 c.requires.3 letters c.if-table-needed.true; rows = refl; book = refl; list = refl }
+    record { answer = as-built c.of_file.result Room c.args.totals.records.0 c.of_file.ensures ∙ no_room c.args.file.now c.args.table.now c.args.book.now c.args.list.now c.args.number c.args.owner c.args.totals c.requires.0 c.requires.1 c.requires.2 c.requires.3 letters c.if-table-needed.true; rows = refl; book = refl; list = refl }
 
 pub returns-then-is_taken : goal.returns-then-is_taken
 returns-then-is_taken c =
     let letters : AcceptedLetters c.args.file.now c.args.totals = accepted-letters c.args.file.now c.args.totals (λ i. omega (arith, c.type_inv.file i)) c.requires.3 in
-    record { answer = duplicate c.args.file.now c.args.table.now c.args.book.now c.args.list.now c.args.number c.args.owner c.args.totals c.requires.0 c.requires.1 c.requires.2 c.requires.3 letters c.if-table-needed.false (sym c.is_taken.ensures ∙ c.if-is_taken.true); rows = refl; book = refl; list = refl }
+    record { answer = as-built c.of_file-then-is_taken.result Duplicate 0 c.of_file-then-is_taken.ensures ∙ duplicate c.args.file.now c.args.table.now c.args.book.now c.args.list.now c.args.number c.args.owner c.args.totals c.requires.0 c.requires.1 c.requires.2 c.requires.3 letters c.if-table-needed.false (sym c.is_taken.ensures ∙ c.if-is_taken.true); rows = refl; book = refl; list = refl }
 
 pub returns-then-not-keeps_range : goal.returns-then-not-keeps_range
 returns-then-not-keeps_range c =
     let letters : AcceptedLetters c.args.file.now c.args.totals = accepted-letters c.args.file.now c.args.totals (λ i. omega (arith, c.type_inv.file i)) c.requires.3 in
     let ranged : keeps_range (own_of c.args.owner c.args.book.now c.args.list.now) (letters_of c.args.file.now) ≡ c.keeps_range.result = range-is c.args.file.now c.args.table.now c.args.book.now c.args.list.now c.args.number c.args.owner c.args.totals c.requires.0 c.requires.1 c.requires.2 c.requires.3 letters ∙ sym c.keeps_range.ensures in
-    record { answer = beyond c.args.file.now c.args.table.now c.args.book.now c.args.list.now c.args.number c.args.owner c.args.totals c.requires.0 c.requires.1 c.requires.2 c.requires.3 letters c.if-table-needed.false (sym c.is_taken.ensures ∙ c.if-is_taken.false) (ranged ∙ c.if-not-keeps_range.true); rows = refl; book = refl; list = refl }
+    record { answer = as-built c.of_file-then-not-keeps_range.result Range 0 c.of_file-then-not-keeps_range.ensures ∙ beyond c.args.file.now c.args.table.now c.args.book.now c.args.list.now c.args.number c.args.owner c.args.totals c.requires.0 c.requires.1 c.requires.2 c.requires.3 letters c.if-table-needed.false (sym c.is_taken.ensures ∙ c.if-is_taken.false) (ranged ∙ c.if-not-keeps_range.true); rows = refl; book = refl; list = refl }
 
 pub overflow_sub-free : goal.overflow_sub-free
 overflow_sub-free c =
@@ -58,7 +59,7 @@ returns-then-not-has_place-has_room c =
     let tested : has_room (own_of c.args.owner c.args.book.now c.args.list.now) (free_in c.args.book.now c.args.list.now) (letters_of c.args.file.now) ≡ c.has_place.result && c.has_room.result = room-is c.args.file.now c.args.table.now c.args.book.now c.args.list.now c.args.number c.args.owner c.args.totals c.requires.0 c.requires.1 c.requires.2 c.requires.3 letters
     ∙ ap₂ ◌&&◌ (sym c.has_place.ensures)
     (ap (λ (n : ℕ). leb c.args.totals.letters n && fits (plus (running_totals c.args.owner c.args.book.now) (figures c.args.totals.bundles c.args.totals.sums)) && leb (last_number c.args.owner c.args.book.now + c.args.totals.letters) 0xFFFF_FFFF_FFFF_FFFF) (sym free) ∙ sym c.has_room.ensures) in
-    record { answer = full c.args.file.now c.args.table.now c.args.book.now c.args.list.now c.args.number c.args.owner c.args.totals c.requires.0 c.requires.1 c.requires.2 c.requires.3 letters c.if-table-needed.false (sym c.is_taken.ensures ∙ c.if-is_taken.false) kept (tested ∙ c.if-not-has_place-has_room.true); rows = refl; book = refl; list = refl }
+    record { answer = as-built c.of_file-then-not-has_place-has_room.result Full 0 c.of_file-then-not-has_place-has_room.ensures ∙ full c.args.file.now c.args.table.now c.args.book.now c.args.list.now c.args.number c.args.owner c.args.totals c.requires.0 c.requires.1 c.requires.2 c.requires.3 letters c.if-table-needed.false (sym c.is_taken.ensures ∙ c.if-is_taken.false) kept (tested ∙ c.if-not-has_place-has_room.true); rows = refl; book = refl; list = refl }
 
 pub put_letters-requires : goal.put_letters-requires
 unfolding entries_of

@@ -1,22 +1,27 @@
 use mathlib.Core.Path.{sym, ap, ◌∙◌}
+use native.Mathlib.Omega.{arith}
 use Prim.Native.Nat.{ℕ}
+use Rattle.std.proofs.lemmas.Result.{err_from_is_err_and}
 use Rattle.book_model.specs.PlainList.{finding}
-use Rattle.book_model.specs.Table.{entries_from, entries_of}
-use Rattle.book_model.proofs.Laws.{sound}
+use Rattle.book_model.specs.Table.{is_owner, rows_claimed, entries_from, entries_of, is_book}
 use Rattle.book_model.specs.Calls.{find_answer}
+use Rattle.book_model.proofs.Laws.{sound}
+use Rattle.book.proofs.Asked.{not_for, is_for}
 use Rattle.book.proofs.find.Goals as goal
 
-pub returns-then-not-is_book : goal.returns-then-not-is_book
+pub returns-in_err-claimed : goal.returns-in_err-claimed
 unfolding find_answer
-returns-then-not-is_book c = rw (sym c.is_book.ensures ∙ c.if-not-is_book.true)
-
-pub returns-then-not-is_owner : goal.returns-then-not-is_owner
-unfolding find_answer
-returns-then-not-is_owner c = rw (sym c.is_book.ensures ∙ c.if-not-is_book.false, sym c.is_owner.ensures ∙ c.if-not-is_owner.true)
+returns-in_err-claimed c =
+    let p = err_from_is_err_and c.from_residual.result c.from_residual.ensures.1 in
+    rw (p.1, p.2) (not_for (is_book c.args.book.now) (is_owner c.args.owner) (rows_claimed c.args.book.now) c.in_err-claimed.field-0.0 c.in_err-claimed.ensures _)
 
 pub first_numbered-requires : goal.first_numbered-requires
-first_numbered-requires c = rw c.number_at.ensures (sound c.args.book.now (sym c.is_book.ensures ∙ c.if-not-is_book.false)).claims
+first_numbered-requires c =
+    let asked = is_for (is_book c.args.book.now) (is_owner c.args.owner) (rows_claimed c.args.book.now) c.in_ok-claimed.claimed c.in_ok-claimed.ensures in
+    omega (arith, asked.2, (sound c.args.book.now asked.0).claims)
 
 pub returns : goal.returns
 unfolding find_answer entries_of
-returns c = rw (sym c.is_book.ensures ∙ c.if-not-is_book.false, sym c.is_owner.ensures ∙ c.if-not-is_owner.false) (c.first_numbered.ensures ∙ ap (λ (n : ℕ). finding (entries_from c.args.owner c.args.book.now n 17) c.args.number) c.number_at.ensures)
+returns c =
+    let asked = is_for (is_book c.args.book.now) (is_owner c.args.owner) (rows_claimed c.args.book.now) c.in_ok-claimed.claimed c.in_ok-claimed.ensures in
+    rw (asked.0, asked.1) (c.first_numbered.ensures ∙ ap (λ (n : ℕ). finding (entries_from c.args.owner c.args.book.now n 17) c.args.number) (sym asked.2))

@@ -1,15 +1,17 @@
-use Rattle.copying.proofs.Laws.{down-none, down-one, down-all, length-times, times-at}
-use borrow.Author.Rules.{rules}
+use Prim.Native.Nat.{ℕ, ◌+◌, ◌-◌}
+use native.Mathlib.Omega.{arith}
+use mathlib.Core.Path.{◌≡◌, refl, sym, ap, ◌∙◌}
+use lib.ListN.{length, replicate}
+use Rattle.std.proofs.lemmas.Slice.{put_mid-paste}
+use Rattle.copying.specs.Times.{times}
+use Rattle.copying.proofs.Laws.{length_part, length-times}
+use Rattle.book_gaps.proofs.Stored.{pasted, filled}
 use Rattle.book_gaps.proofs.put_zeros.Goals as goal
 
-pub loop-i-init : goal.loop-i-init
-loop-i-init c = down-none
-
-pub loop-i-preserved : goal.loop-i-preserved
-loop-i-preserved c = down-one (length-times c.args.count 0) c.loop-i.invariant (search rules) _ (times-at c.args.count 0 c.loop-i.i (search rules))
-
-pub shape_of-book : goal.shape_of-book
-shape_of-book c = c.loop-i.invariant.long
-
 pub returns : goal.returns
-returns c = down-all (length-times c.args.count 0) c.loop-i.invariant (search rules)
+returns c =
+    let size : c.args.from + c.args.count - c.args.from ≡ c.args.count = omega arith in
+    let many = length_part c.args.book.now c.args.from (c.args.from + c.args.count - c.args.from) (omega arith) ∙ size in
+    let long = length-times c.args.count 0 in
+    put_mid-paste c.args.from (c.args.from + c.args.count - c.args.from) c.args.book.now c.fill.new.self (times c.args.count 0) (length (times c.args.count 0)) (c.fill.ensures.after (λ y e. e) ∙ ap (λ (n : ℕ). replicate n 0) many ∙ filled c.args.count 0) (long ∙ sym size) refl
+    ∙ pasted c.args.book.now (times c.args.count 0) c.args.from (omega (arith, long))

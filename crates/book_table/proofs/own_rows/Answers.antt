@@ -1,18 +1,21 @@
+use mathlib.Core.Path.{◌≡◌, sym}
+use Prim.Native.Nat.{◌+◌, ◌-◌, ◌*◌}
 use native.Mathlib.Omega.{arith}
-use Rattle.book_model.proofs.Laws.{row_here, count_none, count-own, count-other}
-use borrow.Author.Rules.{rules}
+use lib.ListN.{length}
+use Rattle.book_model.specs.Table.{entries_from}
+use Rattle.book_model.proofs.Laws.{fewer, further, count_none, count-own, count-other}
 use Rattle.book_table.proofs.own_rows.Goals as goal
-use Rattle.book_table.proofs.own_rows.Goals.{then-book-at, else-book-at}
+use Rattle.book_table.proofs.own_rows.Goals.{then-book-k, else-book-k}
 
-pub bounds-book-at : goal.bounds-book-at
-bounds-book-at c = row_here c.args.book.now c.args.claimed c.loop-rows.rows c.loop-rows.at c.requires c.loop-rows.invariant.2 c.loop-rows-test.true
+pub loop-k-preserved : goal.loop-k-preserved
+loop-k-preserved c =
+    let next : length (entries_from c.args.owner c.args.book.now (c.args.claimed - (c.loop-k.k + 1)) (17 + 9 * (c.loop-k.k + 1)))
+    ≡ length (entries_from c.args.owner c.args.book.now (c.args.claimed - c.loop-k.k - 1) (17 + 9 * c.loop-k.k + 9)) =
+    λ i. length (entries_from c.args.owner c.args.book.now (sym (fewer c.args.claimed c.loop-k.k) i) (sym (further 17 c.loop-k.k) i)) in
+    elim c.if-book-k.branch [
+      | then-book-k w ↦ (omega (arith, w.count-is, c.loop-k.invariant.0, next, count-own c.args.owner c.args.book.now (17 + 9 * c.loop-k.k) (c.args.claimed - c.loop-k.k) (omega arith) w.if-book-k.true), omega (arith, w.count-is))
+      | else-book-k w ↦ (omega (arith, w.count-is, c.loop-k.invariant.0, next, count-other c.args.owner c.args.book.now (17 + 9 * c.loop-k.k) (c.args.claimed - c.loop-k.k) (omega arith) w.if-book-k.false), omega (arith, w.count-is))
+    ]
 
 pub returns : goal.returns
-returns c = omega (arith, c.loop-rows.invariant.0, count_none c.args.owner c.args.book.now c.loop-rows.at c.loop-rows.rows c.loop-rows-test.false)
-
-pub loop-rows-preserved : goal.loop-rows-preserved
-loop-rows-preserved c =
-    elim c.if-book-at.branch [
-      | then-book-at w ↦ (omega (arith, w.count-is, c.loop-rows.invariant.0, count-own c.args.owner c.args.book.now c.loop-rows.at c.loop-rows.rows c.loop-rows-test.true w.if-book-at.true), omega (arith, w.count-is, c.loop-rows.invariant.1, c.loop-rows-test.true), search rules)
-      | else-book-at w ↦ (omega (arith, w.count-is, c.loop-rows.invariant.0, count-other c.args.owner c.args.book.now c.loop-rows.at c.loop-rows.rows c.loop-rows-test.true w.if-book-at.false), omega (arith, w.count-is, c.loop-rows.invariant.1, c.loop-rows-test.true), search rules)
-    ]
+returns c = omega (arith, c.loop-k.invariant.0, count_none c.args.owner c.args.book.now (17 + 9 * c.loop-k.k) (c.args.claimed - c.loop-k.k) (omega arith))

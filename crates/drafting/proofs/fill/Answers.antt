@@ -5,7 +5,7 @@ use Rattle.drafting.proofs.Rows.{fill-first, fill-room, fill-within, fill_on, fi
 use Rattle.drafting.proofs.fill.Goals as goal
 
 pub loop-at-init : goal.loop-at-init
-loop-at-init c = fill-first c.set_of-set.result c.args.file.now c.args.draft.now c.set_of-set.ensures c.requires.1 c.requires.2
+loop-at-init c = fill-first c.set_of-set.result c.args.file.now c.args.draft.now c.set_of-set.ensures c.requires.0 c.requires.1
 
 pub shape_of-draft-in_default : goal.shape_of-draft-in_default
 shape_of-draft-in_default c = c.loop-at.invariant.long
@@ -14,7 +14,7 @@ pub returns-in_default : goal.returns-in_default
 returns-in_default c = fill-cut c.loop-at.invariant c.loop-at-test.true (ap (frame_at c.args.file.now) (sym c.at.ensures) ∙ sym c.frame.ensures ∙ c.in_default.is)
 
 pub put_row-requires : goal.put_row-requires
-put_row-requires c = (c.requires.0, fill-room c.loop-at.invariant c.loop-at-test.true _ _ (ap (frame_at c.args.file.now) (sym c.at.ensures) ∙ sym c.frame.ensures ∙ c.in-Some.is))
+put_row-requires c = fill-room c.loop-at.invariant c.loop-at-test.true _ _ (ap (frame_at c.args.file.now) (sym c.at.ensures) ∙ sym c.frame.ensures ∙ c.in-Some.is)
 
 pub overflow_add-at : goal.overflow_add-at
 overflow_add-at c = let g = fill-within c.loop-at.invariant c.loop-at-test.true _ _ (ap (frame_at c.args.file.now) (sym c.at.ensures) ∙ sym c.frame.ensures ∙ c.in-Some.is) in omega (arith, g.1)

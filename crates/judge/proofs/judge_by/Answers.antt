@@ -1,6 +1,5 @@
 use Prim.Native.Nat.{ℕ, ◌+◌, ◌-◌, ◌≤◌}
-use mathlib.Core.Path.{◌≡◌, sym, ◌∙◌, ap}
-use native.Mathlib.Omega.{arith}
+use mathlib.Core.Path.{◌≡◌, ◌∙◌, ap}
 use lib.ListN.{length, get_or, take, drop}
 use Rattle.layout.specs.Packing.{lines_from, sized_from, fields_in, parts_in, long_in}
 use Rattle.judge.specs.Alone.{judged}

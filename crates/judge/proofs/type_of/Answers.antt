@@ -1,5 +1,4 @@
 use mathlib.Core.Path.{sym, ◌∙◌}
-use Prim.Native.Nat.{◌-◌}
 use borrow.Author.Tests.{lt-leb, le-leb}
 use Rattle.judge.specs.Alone.{type_of}
 use Rattle.judge.proofs.type_of.Goals as goal

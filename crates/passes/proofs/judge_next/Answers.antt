@@ -16,9 +16,6 @@ pub returns-then-not-may_follow : goal.returns-then-not-may_follow
 unfolding turn_of
 returns-then-not-may_follow c = rw (le-leb _ _ c.if-body-lt2.false, sym c.type_of-kind.ensures, sym c.is_carried.ensures ∙ c.if-not-is_carried.false, sym c.may_follow.ensures ∙ c.if-not-may_follow.true)
 
-pub judge_as-requires : goal.judge_as-requires
-judge_as-requires c = c.requires.0
-
 pub returns-in_err-judge_as : goal.returns-in_err-judge_as
 unfolding turn_of
 returns-in_err-judge_as c = rw (le-leb _ _ c.if-body-lt2.false, sym c.type_of-kind.ensures, sym c.is_carried.ensures ∙ c.if-not-is_carried.false, sym c.may_follow.ensures ∙ c.if-not-may_follow.false, sym c.judge_as.ensures ∙ c.in_err-judge_as.was) (err_is _ _ c.from_residual.ensures.1)

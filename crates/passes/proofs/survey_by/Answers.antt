@@ -17,7 +17,7 @@ pub loop-at-init : goal.loop-at-init
 loop-at-init c = survey-first c.set_of-set.result c.args.file.now c.start-s.result c.set_of-set.ensures c.if-file-gt268435456.false (c.start-s.ensures c.set_of-set.result c.args.file.now)
 
 pub record_at-requires : goal.record_at-requires
-record_at-requires c = (c.requires, place-roomy c.set_of-set.result c.args.file.now c.loop-at.at c.loop-at.s c.loop-at.invariant.place)
+record_at-requires c = place-roomy c.set_of-set.result c.args.file.now c.loop-at.at c.loop-at.s c.loop-at.invariant.place
 
 pub overflow_add-result : goal.overflow_add-result
 overflow_add-result c = let g = place-roomy c.set_of-set.result c.args.file.now c.loop-at.at c.loop-at.s c.loop-at.invariant.place in omega (arith, g.records)

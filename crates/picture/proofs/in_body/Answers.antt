@@ -1,9 +1,7 @@
 use mathlib.Core.Path.{sym, ◌∙◌}
-use Prim.Native.Nat.{◌-◌}
 use native.Mathlib.Omega.{arith}
-use lib.Dec.{eqb}
 use borrow.Author.Tests.{ne_eqb, lt-leb, le-leb}
-use Rattle.judge.specs.Alone.{type_of}
+use Rattle.std.proofs.result.Match.{err_is}
 use Rattle.judge.proofs.Laws.{image-within}
 use Rattle.picture.specs.Picture.{in_body}
 use Rattle.picture.proofs.in_body.Goals as goal
@@ -16,24 +14,15 @@ pub returns-then-type_of-ne-TYPE : goal.returns-then-type_of-ne-TYPE
 unfolding in_body
 returns-then-type_of-ne-TYPE c = simp (le-leb _ _ c.if-body-lt2.false, sym c.type_of.ensures, ne_eqb _ _ c.if-type_of-ne-TYPE.true)
 
-pub image_start-requires : goal.image_start-requires
-image_start-requires c = (sym c.judge_image.ensures ∙ c.in-Sound.is, omega arith)
+pub returns-in_err-judge_image : goal.returns-in_err-judge_image
+unfolding in_body
+returns-in_err-judge_image c =
+    rw (le-leb _ _ c.if-body-lt2.false, sym c.type_of.ensures ∙ c.if-type_of-ne-TYPE.false, sym c.judge_image.ensures ∙ c.in_err-judge_image.was)
+    (err_is _ _ c.from_residual.ensures.1)
 
 pub overflow_add-result : goal.overflow_add-result
-overflow_add-result c = omega (arith, c.image_start.ensures, image-within c.args.set c.args.body.now (sym c.judge_image.ensures ∙ c.in-Sound.is))
+overflow_add-result c = omega (arith, c.image_start.ensures, image-within c.args.set c.args.body.now (sym c.judge_image.ensures ∙ c.in_ok-judge_image.was))
 
-pub returns-in-Sound : goal.returns-in-Sound
+pub returns : goal.returns
 unfolding in_body
-returns-in-Sound c = simp (le-leb _ _ c.if-body-lt2.false, sym c.type_of.ensures ∙ c.if-type_of-ne-TYPE.false, sym c.judge_image.ensures ∙ c.in-Sound.is, c.image_start.ensures, c.image_size.ensures)
-
-pub returns-in-WrongLength : goal.returns-in-WrongLength
-unfolding in_body
-returns-in-WrongLength c = simp (le-leb _ _ c.if-body-lt2.false, sym c.type_of.ensures ∙ c.if-type_of-ne-TYPE.false, sym c.judge_image.ensures ∙ c.in-WrongLength.is)
-
-pub returns-in-UnknownType : goal.returns-in-UnknownType
-unfolding in_body
-returns-in-UnknownType c = simp (le-leb _ _ c.if-body-lt2.false, sym c.type_of.ensures ∙ c.if-type_of-ne-TYPE.false, sym c.judge_image.ensures ∙ c.in-UnknownType.is)
-
-pub returns-in-WrongField : goal.returns-in-WrongField
-unfolding in_body
-returns-in-WrongField c = simp (le-leb _ _ c.if-body-lt2.false, sym c.type_of.ensures ∙ c.if-type_of-ne-TYPE.false, sym c.judge_image.ensures ∙ c.in-WrongField.is)
+returns c = simp (le-leb _ _ c.if-body-lt2.false, sym c.type_of.ensures ∙ c.if-type_of-ne-TYPE.false, sym c.judge_image.ensures ∙ c.in_ok-judge_image.was, c.image_start.ensures, c.image_size.ensures)

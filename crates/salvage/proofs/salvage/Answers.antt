@@ -5,10 +5,10 @@ use Rattle.salvage.proofs.Settled.{done, settled-size, settled-nothing}
 use Rattle.salvage.proofs.salvage.Goals as goal
 
 pub is_anything-requires : goal.is_anything-requires
-is_anything-requires c = (c.table-layouts.ensures, (let to_the_end' : WalkedTo c.set_of-set.result c.args.file.now c.walk-way.result.end = walked_to c.set_of-set.ensures (sym c.is_of_size.ensures ∙ c.if-not-is_of_size.false) c.walk-way.ensures.0 c.walk-way.ensures.2 in to_the_end'))
+is_anything-requires c = (let to_the_end' : WalkedTo c.set_of-set.result c.args.file.now c.walk-way.result.end = walked_to c.set_of-set.ensures (sym c.is_of_size.ensures ∙ c.if-not-is_of_size.false) c.walk-way.ensures.0 c.walk-way.ensures.2 in to_the_end')
 
 pub salvage_left-requires : goal.salvage_left-requires
-salvage_left-requires c = (c.table-layouts.ensures, (let to_the_end' : WalkedTo c.set_of-set.result c.args.file.now c.walk-way.result.end = walked_to c.set_of-set.ensures (sym c.is_of_size.ensures ∙ c.if-not-is_of_size.false) c.walk-way.ensures.0 c.walk-way.ensures.2 in to_the_end'), walked-count c.args.file.now c.set_of-set.ensures c.walk-way.ensures.1, sym c.is_anything.ensures ∙ c.if-not-is_anything.false)
+salvage_left-requires c = ((let to_the_end' : WalkedTo c.set_of-set.result c.args.file.now c.walk-way.result.end = walked_to c.set_of-set.ensures (sym c.is_of_size.ensures ∙ c.if-not-is_of_size.false) c.walk-way.ensures.0 c.walk-way.ensures.2 in to_the_end'), walked-count c.args.file.now c.set_of-set.ensures c.walk-way.ensures.1, sym c.is_anything.ensures ∙ c.if-not-is_anything.false)
 
 pub returns-then-not-is_of_size : goal.returns-then-not-is_of_size
 returns-then-not-is_of_size c =

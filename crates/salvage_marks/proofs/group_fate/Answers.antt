@@ -7,7 +7,7 @@ pub returns-then-not-is_run-plan : goal.returns-then-not-is_run-plan
 returns-then-not-is_run-plan c = fate-loose c.args.set c.args.file.now c.args.plan c.args.group (ap (λ (b : Bool). b && c.args.plan.sound) (sym c.is_run.ensures) ∙ c.if-not-is_run-plan.true)
 
 pub run_fault-requires : goal.run_fault-requires
-run_fault-requires c = (c.requires.0, c.requires.1 (both_hold c.is_run.result c.args.plan.sound c.if-not-is_run-plan.false))
+run_fault-requires c = c.requires (both_hold c.is_run.result c.args.plan.sound c.if-not-is_run-plan.false)
 
 pub returns-in-Err : goal.returns-in-Err
 returns-in-Err c = fate-fault c.args.set c.args.file.now c.args.plan c.args.group (ap (λ (b : Bool). b && c.args.plan.sound) (sym c.is_run.ensures) ∙ c.if-not-is_run-plan.false) _ c.run_fault.ensures c.in-Err.fault c.in-Err.is

@@ -9,7 +9,7 @@ pub returns-then-indicator_of-eq78 : goal.returns-then-indicator_of-eq78
 returns-then-indicator_of-eq78 c = (λ e. absurd (never_both _ e (c.if-not-sound.false)), λ e w q. annex-none c.args.set _ c.args.body.now w.header _ c.indicator_of.ensures c.if-indicator_of-eq78.true q)
 
 pub any_bundle-requires : goal.any_bundle-requires
-any_bundle-requires c = (c.requires.0, c.requires.1 (c.if-not-sound.false))
+any_bundle-requires c = c.requires (c.if-not-sound.false)
 
 pub returns : goal.returns
 returns c = (λ e. absurd (never_both _ e (c.if-not-sound.false)), λ e w q. c.any_bundle.ensures w ∙ annex-any c.args.set _ c.args.body.now w.header _ c.indicator_of.ensures c.if-indicator_of-eq78.false q)

@@ -11,7 +11,7 @@ pub returns-then-at-plan : goal.returns-then-at-plan
 returns-then-at-plan c = λ ms v. next-in-group c.args.set c.args.file.now c.args.end c.args.plan c.seen_at-seen.result c.seen_at-seen.ensures.seen ms v c.if-at-plan.true
 
 pub group_begun-requires : goal.group_begun-requires
-group_begun-requires c = (c.requires.0, c.if-at-plan.false, c.if-at-plan-2.true, c.requires.2, c.seen_at-seen.ensures.seen)
+group_begun-requires c = (c.if-at-plan.false, c.if-at-plan-2.true, c.requires.1, c.seen_at-seen.ensures.seen)
 
 pub outside_letters-requires : goal.outside_letters-requires
-outside_letters-requires c = (c.requires.0, c.if-at-plan.false, c.if-at-plan-2.false, c.requires.1, c.requires.2, c.seen_at-seen.ensures.seen)
+outside_letters-requires c = (c.if-at-plan.false, c.if-at-plan-2.false, c.requires.0, c.requires.1, c.seen_at-seen.ensures.seen)

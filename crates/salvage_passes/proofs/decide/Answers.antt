@@ -11,7 +11,7 @@ pub loop-at-init : goal.loop-at-init
 loop-at-init c = (refl, refl, λ all cued. sofar-first cued refl (c.start.ensures Ascii []))
 
 pub next_entry-entry-requires : goal.next_entry-entry-requires
-next_entry-entry-requires c = (c.requires.0, not-true _ c.loop-at-test.true, record { values = (c.loop-at.invariant.2 c.requires.1.values c.requires.1.cued).left; cued = (c.loop-at.invariant.2 c.requires.1.values c.requires.1.cued).cued })
+next_entry-entry-requires c = (not-true _ c.loop-at-test.true, record { values = (c.loop-at.invariant.2 c.requires.values c.requires.cued).left; cued = (c.loop-at.invariant.2 c.requires.values c.requires.cued).cued })
 
 pub slice_bounds-enter_next-end : goal.slice_bounds-enter_next-end
 slice_bounds-enter_next-end c = sym c.loop-at.invariant.0
@@ -20,22 +20,22 @@ pub slice_bounds-enter_next-end-in-loop-at : goal.slice_bounds-enter_next-end-in
 slice_bounds-enter_next-end-in-loop-at c = sym c.loop-at.invariant.1
 
 pub slice_bounds-enter_next-end-in-loop-at-2 : goal.slice_bounds-enter_next-end-in-loop-at-2
-slice_bounds-enter_next-end-in-loop-at-2 c = sym (c.loop-at.invariant.2 c.requires.1.values c.requires.1.cued).begun.stands.long
+slice_bounds-enter_next-end-in-loop-at-2 c = sym (c.loop-at.invariant.2 c.requires.values c.requires.cued).begun.stands.long
 
 pub enter_next-requires : goal.enter_next-requires
-enter_next-requires c = (c.requires.0, c.loop-at.invariant.0, c.loop-at.invariant.1, next-entered (c.loop-at.invariant.2 c.requires.1.values c.requires.1.cued) c.next_entry-entry.ensures)
+enter_next-requires c = (c.loop-at.invariant.0, c.loop-at.invariant.1, next-entered (c.loop-at.invariant.2 c.requires.values c.requires.cued) c.next_entry-entry.ensures)
 
 pub returns-in_err-pen : goal.returns-in_err-pen
 returns-in_err-pen c = λ all cued. sofar-stop (c.loop-at.invariant.2 all cued) c.next_entry-entry.ensures c.enter_next.result _ c.enter_next.ensures.2 c.in_err-pen.was _ (err_is _ _ c.from_residual.ensures.1)
 
 pub loop-at-smaller : goal.loop-at-smaller
-loop-at-smaller c = next-fewer (c.loop-at.invariant.2 c.requires.1.values c.requires.1.cued) c.next_entry-entry.ensures
+loop-at-smaller c = next-fewer (c.loop-at.invariant.2 c.requires.values c.requires.cued) c.next_entry-entry.ensures
 
 pub loop-at-preserved : goal.loop-at-preserved
 loop-at-preserved c = (c.enter_next.ensures.0, c.enter_next.ensures.1, λ all cued. sofar-on (c.loop-at.invariant.2 all cued) c.next_entry-entry.ensures c.enter_next.result _ c.enter_next.ensures.2 c.in_ok-pen.was)
 
 pub rows_ended-requires : goal.rows_ended-requires
-rows_ended-requires c = sofar-roomy (c.loop-at.invariant.2 c.requires.1.values c.requires.1.cued)
+rows_ended-requires c = sofar-roomy (c.loop-at.invariant.2 c.requires.values c.requires.cued)
 
 pub returns : goal.returns
 returns c = λ all cued. let u = c.loop-at.invariant.2 all cued in c.rows_ended.ensures u.begun.file u.begun.past c.loop-at.sheet u.begun.stands u.begun.size ∙ sym (sofar-end u (not-false _ c.loop-at-test.false))

@@ -10,8 +10,5 @@ returns-then-body-lt2 c = alone-short c.args.set c.args.kind c.args.body.now c.i
 pub returns-then-stated-kind : goal.returns-then-stated-kind
 returns-then-stated-kind c = alone-other c.args.set c.args.kind c.args.body.now (λ e. c.if-stated-kind.true (c.type_of-stated.ensures ∙ e))
 
-pub judge_as-requires : goal.judge_as-requires
-judge_as-requires c = c.requires
-
 pub returns : goal.returns
 returns c = c.is_ok.ensures.value ∙ right-ok c.judge_as.result ∙ alone-judged c.args.set c.args.kind c.args.body.now c.if-body-lt2.false (sym c.type_of-stated.ensures ∙ c.if-stated-kind.false) _ (ap (λ (n : ℕ). judged_as c.args.set n c.args.body.now) (sym c.type_of-stated.ensures) ∙ sym c.judge_as.ensures)

@@ -13,10 +13,10 @@ pub loop-at-init : goal.loop-at-init
 loop-at-init c = reads_first _ _ _ _ _ _ c.behind_header-s.ensures
 
 pub judge_next-requires : goal.judge_next-requires
-judge_next-requires c = (c.requires.0, reads-roomy c.args.set c.args.file.now c.args.heading c.args.from c.args.end c.loop-at.invariant c.requires.1 (omega (arith, c.loop-at-test.true)))
+judge_next-requires c = reads-roomy c.args.set c.args.file.now c.args.heading c.args.from c.args.end c.loop-at.invariant c.requires (omega (arith, c.loop-at-test.true))
 
 pub moved-s-requires : goal.moved-s-requires
-moved-s-requires c = (reads-roomy c.args.set c.args.file.now c.args.heading c.args.from c.args.end c.loop-at.invariant c.requires.1 (omega (arith, c.loop-at-test.true)), reads-capped c.args.set c.args.file.now c.args.heading c.args.from c.args.end c.loop-at.invariant c.requires.1)
+moved-s-requires c = (reads-roomy c.args.set c.args.file.now c.args.heading c.args.from c.args.end c.loop-at.invariant c.requires (omega (arith, c.loop-at-test.true)), reads-capped c.args.set c.args.file.now c.args.heading c.args.from c.args.end c.loop-at.invariant c.requires)
 
 pub returns-then-s-eq50 : goal.returns-then-s-eq50
 returns-then-s-eq50 c = λ w. ap (λ (b : Bool). read_through (cond b (some Place) none)) (sym (eq-eqb _ _ c.if-s-eq50.true)) ∙ reads_end c.args.set c.args.file.now c.args.heading c.args.from c.args.end c.loop-at.invariant w c.loop-at-test.false

@@ -27,7 +27,7 @@ pub slice_bounds-write_bundle-count : goal.slice_bounds-write_bundle-count
 slice_bounds-write_bundle-count c = draft-room c.loop-at.invariant
 
 pub write_bundle-done-requires : goal.write_bundle-done-requires
-write_bundle-done-requires c = (c.requires.0, draft-some c.loop-at.invariant c.loop-at-test.true, draft-ready c.loop-at.invariant c.requires.1)
+write_bundle-done-requires c = (draft-some c.loop-at.invariant c.loop-at-test.true, draft-ready c.loop-at.invariant c.requires)
 
 pub slice_bounds-write_row-end : goal.slice_bounds-write_row-end
 slice_bounds-write_row-end c = sym c.loop-at.invariant.onward.stands.long
@@ -36,7 +36,7 @@ pub slice_bounds-write_row-count : goal.slice_bounds-write_row-count
 slice_bounds-write_row-count c = draft-room c.loop-at.invariant
 
 pub write_row-done-requires : goal.write_row-done-requires
-write_row-done-requires c = (c.requires.0, draft-some c.loop-at.invariant c.loop-at-test.true, draft-ready c.loop-at.invariant c.requires.1)
+write_row-done-requires c = (draft-some c.loop-at.invariant c.loop-at-test.true, draft-ready c.loop-at.invariant c.requires)
 
 pub shape_of-out : goal.shape_of-out
 shape_of-out c = same-long c.loop-at.invariant.onward
@@ -46,20 +46,20 @@ returns c = draft-all c.loop-at.invariant (search rules)
 
 pub overflow_add-bytes : goal.overflow_add-bytes
 overflow_add-bytes c =
-    let d : Draft c.args.set c.args.text.now c.args.draft.now c.args.out.now c.if-rows-eq20.out c.if-rows-eq20.sheet c.if-rows-eq20.done.standing (c.loop-at.bytes + c.if-rows-eq20.done.bytes) (c.loop-at.at + c.if-rows-eq20.done.numbers) × (10 ≤ c.if-rows-eq20.done.numbers) = elim c.if-rows-eq20.branch [ then-rows-eq20 w ↦ draft-on c.loop-at.invariant c.requires.1 w.write_bundle-done.ensures w.out-is w.sheet-is w.done-is | else-rows-eq20 w ↦ draft-on c.loop-at.invariant c.requires.1 w.write_row-done.ensures w.out-is w.sheet-is w.done-is ] in
+    let d : Draft c.args.set c.args.text.now c.args.draft.now c.args.out.now c.if-rows-eq20.out c.if-rows-eq20.sheet c.if-rows-eq20.done.standing (c.loop-at.bytes + c.if-rows-eq20.done.bytes) (c.loop-at.at + c.if-rows-eq20.done.numbers) × (10 ≤ c.if-rows-eq20.done.numbers) = elim c.if-rows-eq20.branch [ then-rows-eq20 w ↦ draft-on c.loop-at.invariant c.requires w.write_bundle-done.ensures w.out-is w.sheet-is w.done-is | else-rows-eq20 w ↦ draft-on c.loop-at.invariant c.requires w.write_row-done.ensures w.out-is w.sheet-is w.done-is ] in
     omega (arith, d.0.onward.within)
 
 pub overflow_add-at : goal.overflow_add-at
 overflow_add-at c =
-    let d : Draft c.args.set c.args.text.now c.args.draft.now c.args.out.now c.if-rows-eq20.out c.if-rows-eq20.sheet c.if-rows-eq20.done.standing (c.loop-at.bytes + c.if-rows-eq20.done.bytes) (c.loop-at.at + c.if-rows-eq20.done.numbers) × (10 ≤ c.if-rows-eq20.done.numbers) = elim c.if-rows-eq20.branch [ then-rows-eq20 w ↦ draft-on c.loop-at.invariant c.requires.1 w.write_bundle-done.ensures w.out-is w.sheet-is w.done-is | else-rows-eq20 w ↦ draft-on c.loop-at.invariant c.requires.1 w.write_row-done.ensures w.out-is w.sheet-is w.done-is ] in
+    let d : Draft c.args.set c.args.text.now c.args.draft.now c.args.out.now c.if-rows-eq20.out c.if-rows-eq20.sheet c.if-rows-eq20.done.standing (c.loop-at.bytes + c.if-rows-eq20.done.bytes) (c.loop-at.at + c.if-rows-eq20.done.numbers) × (10 ≤ c.if-rows-eq20.done.numbers) = elim c.if-rows-eq20.branch [ then-rows-eq20 w ↦ draft-on c.loop-at.invariant c.requires w.write_bundle-done.ensures w.out-is w.sheet-is w.done-is | else-rows-eq20 w ↦ draft-on c.loop-at.invariant c.requires w.write_row-done.ensures w.out-is w.sheet-is w.done-is ] in
     omega (arith, d.0.within)
 
 pub loop-at-smaller : goal.loop-at-smaller
 loop-at-smaller c =
-    let d : Draft c.args.set c.args.text.now c.args.draft.now c.args.out.now c.if-rows-eq20.out c.if-rows-eq20.sheet c.if-rows-eq20.done.standing (c.loop-at.bytes + c.if-rows-eq20.done.bytes) (c.loop-at.at + c.if-rows-eq20.done.numbers) × (10 ≤ c.if-rows-eq20.done.numbers) = elim c.if-rows-eq20.branch [ then-rows-eq20 w ↦ draft-on c.loop-at.invariant c.requires.1 w.write_bundle-done.ensures w.out-is w.sheet-is w.done-is | else-rows-eq20 w ↦ draft-on c.loop-at.invariant c.requires.1 w.write_row-done.ensures w.out-is w.sheet-is w.done-is ] in
+    let d : Draft c.args.set c.args.text.now c.args.draft.now c.args.out.now c.if-rows-eq20.out c.if-rows-eq20.sheet c.if-rows-eq20.done.standing (c.loop-at.bytes + c.if-rows-eq20.done.bytes) (c.loop-at.at + c.if-rows-eq20.done.numbers) × (10 ≤ c.if-rows-eq20.done.numbers) = elim c.if-rows-eq20.branch [ then-rows-eq20 w ↦ draft-on c.loop-at.invariant c.requires w.write_bundle-done.ensures w.out-is w.sheet-is w.done-is | else-rows-eq20 w ↦ draft-on c.loop-at.invariant c.requires w.write_row-done.ensures w.out-is w.sheet-is w.done-is ] in
     omega (arith, d.0.within, d.1)
 
 pub loop-at-preserved : goal.loop-at-preserved
 loop-at-preserved c =
-    let d : Draft c.args.set c.args.text.now c.args.draft.now c.args.out.now c.if-rows-eq20.out c.if-rows-eq20.sheet c.if-rows-eq20.done.standing (c.loop-at.bytes + c.if-rows-eq20.done.bytes) (c.loop-at.at + c.if-rows-eq20.done.numbers) × (10 ≤ c.if-rows-eq20.done.numbers) = elim c.if-rows-eq20.branch [ then-rows-eq20 w ↦ draft-on c.loop-at.invariant c.requires.1 w.write_bundle-done.ensures w.out-is w.sheet-is w.done-is | else-rows-eq20 w ↦ draft-on c.loop-at.invariant c.requires.1 w.write_row-done.ensures w.out-is w.sheet-is w.done-is ] in
+    let d : Draft c.args.set c.args.text.now c.args.draft.now c.args.out.now c.if-rows-eq20.out c.if-rows-eq20.sheet c.if-rows-eq20.done.standing (c.loop-at.bytes + c.if-rows-eq20.done.bytes) (c.loop-at.at + c.if-rows-eq20.done.numbers) × (10 ≤ c.if-rows-eq20.done.numbers) = elim c.if-rows-eq20.branch [ then-rows-eq20 w ↦ draft-on c.loop-at.invariant c.requires w.write_bundle-done.ensures w.out-is w.sheet-is w.done-is | else-rows-eq20 w ↦ draft-on c.loop-at.invariant c.requires w.write_row-done.ensures w.out-is w.sheet-is w.done-is ] in
     d.0

@@ -1,13 +1,13 @@
-use Rattle.std.proofs.Common.{rules}
+use Rattle.std.proofs.Common.{rules, unwrap_or}
 use Rattle.slow_cycle.proofs.Laws.{first-called, first-turned-away}
 use Rattle.slow_cycle.proofs.answer.Goals as goal
 
 pub file_header-requires : goal.file_header-requires
 file_header-requires c =
-    first-called c.args.set c.args.file.now c.start-s.result c.requires.0 c.requires.1 (c.start-s.ensures c.args.set c.args.file.now) c.type_at.result
-    c.type_at.ensures c.in-1.is
+    first-called c.args.set c.args.file.now c.start-s.result c.requires.0 c.requires.1 (c.start-s.ensures c.args.set c.args.file.now)
+    (unwrap_or c.type_at.result 0) c.type_at.ensures (search rules)
 
 pub not_called_for-requires : goal.not_called_for-requires
 not_called_for-requires c =
-    first-turned-away c.args.set c.args.file.now c.start-s.result c.requires.0 c.requires.1 (c.start-s.ensures c.args.set c.args.file.now) c.type_at.result
-    c.type_at.ensures (search rules)
+    first-turned-away c.args.set c.args.file.now c.start-s.result c.requires.0 c.requires.1 (c.start-s.ensures c.args.set c.args.file.now)
+    (unwrap_or c.type_at.result 0) c.type_at.ensures (search rules)

@@ -5,4 +5,4 @@ use Rattle.slow_figures.proofs.with_bundle.Goals as goal
 
 pub returns : goal.returns
 unfolding onward
-returns c = λ set file. let st = stopped c.args.s c.requires.1 in rw c.no_sums-bundle.ensures (simp (zero-add, st.whole-debit, st.whole-credit, st.letter-debit, st.letter-credit, st.bundle-debit, st.bundle-credit, st.micr))
+returns c = λ set file. let st = stopped c.args.s c.requires.1 in rw c.no_sums.ensures (simp (zero-add, st.whole-debit, st.whole-credit, st.letter-debit, st.letter-credit))

@@ -1,17 +1,13 @@
-use Prim.Native.Nat.{◌-◌}
-use mathlib.Core.Path.{refl, sym, ◌∙◌}
-use Rattle.slow_record.proofs.Laws.{wrong-here, wrong-later, wrong-none}
-use borrow.Author.Rules.{rules}
+use Rattle.std.proofs.Common.{◌≡◌, ◌&&◌, not, true, false, rules, ℕ, map}
+use Rattle.std.proofs.lemmas.Iterator.{first_from_find, YieldsList-from_slice}
+use Rattle.slow_record.specs.Rows.{entry_of, is_field, field_holds, fields_of, wrong_field}
+use Rattle.slow_record.proofs.Laws.{wrong-first, found-number}
 use Rattle.slow_record.proofs.first_wrong.Goals as goal
 
-pub loop-i-init : goal.loop-i-init
-loop-i-init c = (search rules, refl)
-
-pub returns-then-is_wrong : goal.returns-then-is_wrong
-returns-then-is_wrong c = c.field_in.ensures ∙ sym (wrong-here c.args.set c.args.kind c.args.lines.now c.args.body.now c.loop-i.i (search rules) (sym c.is_wrong.ensures ∙ c.if-is_wrong.true)) ∙ c.loop-i.invariant.1
-
-pub loop-i-preserved : goal.loop-i-preserved
-loop-i-preserved c = (search rules, sym (wrong-later c.args.set c.args.kind c.args.lines.now c.args.body.now c.loop-i.i (search rules) (sym c.is_wrong.ensures ∙ c.if-is_wrong.false)) ∙ c.loop-i.invariant.1)
-
 pub returns : goal.returns
-returns c = sym (wrong-none c.args.set c.args.kind c.args.lines.now c.args.body.now c.loop-i.i (search rules)) ∙ c.loop-i.invariant.1
+returns c =
+    let test = λ (x : ℕ). is_field c.args.kind (entry_of x) && not (field_holds c.args.set (entry_of x) c.args.body.now) in
+    found-number _ (wrong_field c.args.set (fields_of c.args.kind (map entry_of c.args.lines.now)) c.args.body.now) (λ (x : ℕ). (entry_of x).number) _
+    (wrong-first c.args.set c.args.kind c.args.body.now c.args.lines.now _
+    (first_from_find _ _ _ (λ x. test x ≡ true) (λ x. test x ≡ false) c.find.ensures.ran (YieldsList-from_slice c.args.lines.now cc) (λ x q k. search rules) (λ x q k. search rules)))
+    c.and_then.ensures (λ e. search rules) (λ x e. search rules)

@@ -1,12 +1,6 @@
-use Prim.Native.Nat.{◌≤◌, ◌-◌}
-use mathlib.Core.Path.{◌≡◌}
-use mathlib.Core.List.{map}
-use lib.ListN.{length, drop}
+use Rattle.std.proofs.Common.{◌≡◌, drop, map}
 use Rattle.slow_record.specs.Rows.{entry_of, parts_of, wrong_part}
 use Rattle.slow_record.proofs.first_wrong_part.Given as goal
 
-abbrev pub invariant-loop-i : goal.invariant-loop-i
-invariant-loop-i l = (l.i ≤ length l.lines) × (wrong_part l.set (parts_of l.kind (map entry_of (drop l.i l.lines))) l.body l.rest ≡ wrong_part l.set (parts_of l.kind (map entry_of l.lines)) l.body l.parts)
-
-abbrev pub decreases-loop-i : goal.decreases-loop-i
-decreases-loop-i l = length l.lines - l.i
+abbrev pub invariant-loop-line : goal.invariant-loop-line
+invariant-loop-line l = wrong_part l.set (parts_of l.kind (map entry_of (drop l.line-index l.lines))) l.body l.rest ≡ wrong_part l.set (parts_of l.kind (map entry_of l.lines)) l.body l.parts

@@ -1,18 +1,13 @@
-use Prim.Native.Nat.{◌-◌}
-use mathlib.Core.Path.{refl, sym, ◌∙◌}
-use lib.ListN.{length}
-use Rattle.slow_record.proofs.Laws.{length-here, length-later, length_none}
-use borrow.Author.Rules.{rules}
+use Rattle.std.proofs.Common.{◌≡◌, true, false, rules, ℕ, map}
+use Rattle.std.proofs.lemmas.Iterator.{first_from_find, YieldsList-from_slice}
+use Rattle.slow_record.specs.Rows.{entry_of, is_record, length_of}
+use Rattle.slow_record.proofs.Laws.{length-first, found-number}
 use Rattle.slow_record.proofs.fixed_length.Goals as goal
 
-pub loop-i-init : goal.loop-i-init
-loop-i-init c = (search rules, refl)
-
-pub returns-then-is_record : goal.returns-then-is_record
-returns-then-is_record c = c.size_in.ensures ∙ sym (length-here c.args.kind c.args.lines.now c.loop-i.i (search rules) (sym c.is_record.ensures ∙ c.if-is_record.true)) ∙ c.loop-i.invariant.1
-
-pub loop-i-preserved : goal.loop-i-preserved
-loop-i-preserved c = (search rules, sym (length-later c.args.kind c.args.lines.now c.loop-i.i (search rules) (sym c.is_record.ensures ∙ c.if-is_record.false)) ∙ c.loop-i.invariant.1)
-
 pub returns : goal.returns
-returns c = sym (length_none c.args.kind c.args.lines.now c.loop-i.i (search rules)) ∙ c.loop-i.invariant.1
+returns c =
+    let test = λ (x : ℕ). is_record c.args.kind (entry_of x) in
+    found-number _ (length_of c.args.kind (map entry_of c.args.lines.now)) (λ (x : ℕ). (entry_of x).size) _
+    (length-first c.args.kind c.args.lines.now _
+    (first_from_find _ _ _ (λ x. test x ≡ true) (λ x. test x ≡ false) c.find.ensures.ran (YieldsList-from_slice c.args.lines.now cc) (λ x q k. search rules) (λ x q k. search rules)))
+    c.and_then.ensures (λ e. search rules) (λ x e. search rules)

@@ -12,4 +12,4 @@ pub overflow_add-result : goal.overflow_add-result
 overflow_add-result c = let m = moves c.requires.0 in omega (arith, m.0.records)
 
 pub returns : goal.returns
-returns c = refused c.requires.0 c.if-file-at.false c.unfit-fault.ensures
+returns c = refused c.requires.0 c.if-file-at.false c.unfit.ensures

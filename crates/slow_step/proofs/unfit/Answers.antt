@@ -9,9 +9,9 @@ pub returns-then-s-eq99 : goal.returns-then-s-eq99
 unfolding step_of
 returns-then-s-eq99 c = rw (eq-eqb _ _ c.if-s-eq99.true)
 
-pub returns-in-Cut : goal.returns-in-Cut
+pub returns-in-None : goal.returns-in-None
 unfolding step_of
-returns-in-Cut c = rw (ne_eqb _ _ c.if-s-eq99.false, sym c.frame_at.ensures ∙ c.in-Cut.is)
+returns-in-None c = rw (ne_eqb _ _ c.if-s-eq99.false, sym c.frame_at.ensures ∙ c.in-None.is)
 
-pub returns-in-Whole : goal.returns-in-Whole
-returns-in-Whole c = misfits c.args.set c.args.file.now c.args.s c.args.at _ _ (ne_eqb _ _ c.if-s-eq99.false) (sym c.frame_at.ensures ∙ c.in-Whole.is) c.requires ∙ ap Stop (rw (sym c.part_of.ensures) (sym c.misfit.ensures))
+pub returns-in-Some : goal.returns-in-Some
+returns-in-Some c = misfits c.args.set c.args.file.now c.args.s c.args.at _ _ (ne_eqb _ _ c.if-s-eq99.false) (sym c.frame_at.ensures ∙ c.in-Some.is) c.requires ∙ ap Stop (rw (sym c.part_of.ensures) (sym c.misfit.ensures))

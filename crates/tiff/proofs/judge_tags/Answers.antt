@@ -1,8 +1,9 @@
-use mathlib.Core.Path.{sym, ◌∙◌}
+use mathlib.Core.Path.{◌≡◌, sym, ◌∙◌}
+use mathlib.Core.Bool.{◌&&◌}
+use Rattle.tiff.specs.Image.{is_inside, IsFirst}
 use borrow.Author.Tests.{le-leb, lt-leb}
-use Rattle.tiff.specs.Image.{entries_of, entry_count, directory_start}
 use Rattle.tiff.specs.Judged.{tags_of}
-use Rattle.tiff.proofs.Laws.{directory-within}
+use Rattle.tiff.proofs.Laws.{not-inside, inside-is, first-entries}
 use Rattle.tiff.proofs.judge_tags.Goals as goal
 
 pub returns-then-image-lt8 : goal.returns-then-image-lt8
@@ -13,20 +14,26 @@ pub returns-then-not-is_marked : goal.returns-then-not-is_marked
 unfolding tags_of
 returns-then-not-is_marked c = simp (le-leb _ _ c.if-image-lt8.false, sym c.is_marked.ensures ∙ c.if-not-is_marked.true)
 
-pub returns-then-not-is_inside : goal.returns-then-not-is_inside
+pub returns-in_default : goal.returns-in_default
 unfolding tags_of
-returns-then-not-is_inside c = simp (le-leb _ _ c.if-image-lt8.false, sym c.is_marked.ensures ∙ c.if-not-is_marked.false, sym c.is_inside.ensures ∙ c.if-not-is_inside.true)
+returns-in_default c = simp (le-leb _ _ c.if-image-lt8.false, sym c.is_marked.ensures ∙ c.if-not-is_marked.false, not-inside c.args.image.now c.in_default.ensures)
 
-pub lowest_disordered-low-requires : goal.lowest_disordered-low-requires
-lowest_disordered-low-requires c = directory-within c.args.image.now c.long_at-start.result c.short_at-count.result c.long_at-start.ensures.0 c.short_at-count.ensures.0 (sym c.is_inside.ensures ∙ c.if-not-is_inside.false)
+pub returns-then-not-values_inside-strip_inside : goal.returns-then-not-values_inside-strip_inside
+unfolding tags_of
+returns-then-not-values_inside-strip_inside c =
+    let inside : c.values_inside.result && c.strip_inside.result ≡ is_inside c.args.image.now = rw (c.values_inside.ensures, c.strip_inside.ensures) (inside-is c.in-Some.ensures) in
+    simp (le-leb _ _ c.if-image-lt8.false, sym c.is_marked.ensures ∙ c.if-not-is_marked.false, sym inside ∙ c.if-not-values_inside-strip_inside.true)
 
 pub returns-then-low-lt65536 : goal.returns-then-low-lt65536
-unfolding tags_of entries_of entry_count directory_start
-returns-then-low-lt65536 c = rw (le-leb _ _ c.if-image-lt8.false, sym c.is_marked.ensures ∙ c.if-not-is_marked.false, sym c.is_inside.ensures ∙ c.if-not-is_inside.false, sym c.long_at-start.ensures.0, sym c.short_at-count.ensures.0, sym c.lowest_disordered-low.ensures, lt-leb _ _ c.if-low-lt65536.true)
-
-pub required_tags-requires : goal.required_tags-requires
-required_tags-requires c = directory-within c.args.image.now c.long_at-start.result c.short_at-count.result c.long_at-start.ensures.0 c.short_at-count.ensures.0 (sym c.is_inside.ensures ∙ c.if-not-is_inside.false)
+unfolding tags_of
+returns-then-low-lt65536 c =
+    let inside : c.values_inside.result && c.strip_inside.result ≡ is_inside c.args.image.now = rw (c.values_inside.ensures, c.strip_inside.ensures) (inside-is c.in-Some.ensures) in
+    rw (le-leb _ _ c.if-image-lt8.false, sym c.is_marked.ensures ∙ c.if-not-is_marked.false, sym inside ∙ c.if-not-values_inside-strip_inside.false, sym (first-entries c.in-Some.ensures), sym c.lowest_disordered-low.ensures, lt-leb _ _ c.if-low-lt65536.true)
 
 pub returns : goal.returns
-unfolding tags_of entries_of entry_count directory_start
-returns c = rw (le-leb _ _ c.if-image-lt8.false, sym c.is_marked.ensures ∙ c.if-not-is_marked.false, sym c.is_inside.ensures ∙ c.if-not-is_inside.false, sym c.long_at-start.ensures.0, sym c.short_at-count.ensures.0, sym c.lowest_disordered-low.ensures, le-leb _ _ c.if-low-lt65536.false) c.required_tags.ensures
+unfolding tags_of
+returns c =
+    let d = c.in-Some.directory in
+    let inside : c.values_inside.result && c.strip_inside.result ≡ is_inside c.args.image.now = rw (c.values_inside.ensures, c.strip_inside.ensures) (inside-is c.in-Some.ensures) in
+    let first : IsFirst c.args.image.now d.image.now d.first d.count = c.in-Some.ensures in
+    rw (le-leb _ _ c.if-image-lt8.false, sym c.is_marked.ensures ∙ c.if-not-is_marked.false, sym inside ∙ c.if-not-values_inside-strip_inside.false, sym (first-entries c.in-Some.ensures), sym c.lowest_disordered-low.ensures, le-leb _ _ c.if-low-lt65536.false, sym first.same) c.required_tags.ensures

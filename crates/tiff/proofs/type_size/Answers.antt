@@ -1,12 +1,11 @@
-use mathlib.Core.Path.{refl, sym}
-use Rattle.tiff.specs.Image.{type_size}
-use Rattle.tiff.proofs.Laws.{size_small, size-unknown}
+use mathlib.Core.Path.{◌≡◌}
 use borrow.Author.Rules.{rules}
+use Rattle.tiff.specs.Image.{type_size}
+use Rattle.tiff.proofs.Laws.{size_small}
 use Rattle.tiff.proofs.type_size.Goals as goal
-
-pub returns-then-kind-ge13 : goal.returns-then-kind-ge13
-returns-then-kind-ge13 c = (sym (size-unknown c.args.kind c.if-kind-ge13.true), search rules)
 
 pub returns : goal.returns
 unfolding type_size
-returns c = (refl, size_small c.args.kind)
+returns c =
+    let is : c.unwrap_or.result ≡ type_size c.args.kind = search rules in
+    (is, rw is (size_small c.args.kind))

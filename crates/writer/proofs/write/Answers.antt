@@ -6,7 +6,7 @@ use Rattle.writer.proofs.Laws.{refused-as, Done, done-large, done-short, asks, d
 use Rattle.writer.proofs.write.Goals as goal
 
 pub write_rows-requires : goal.write_rows-requires
-write_rows-requires c = (c.table-layouts.ensures, asks c.args.text.now c.args.draft.now c.args.out.now c.in_ok-bytes.was c.survey_draft.ensures (omega (arith, c.if-bytes-gt268435456.false)) (omega (arith, c.if-out-bytes.false)) c.set_of_text-set.result c.set_of_text-set.ensures)
+write_rows-requires c = asks c.args.text.now c.args.draft.now c.args.out.now c.in_ok-bytes.was c.survey_draft.ensures (omega (arith, c.if-bytes-gt268435456.false)) (omega (arith, c.if-out-bytes.false)) c.set_of_text-set.result c.set_of_text-set.ensures
 
 pub returns-then-bytes-gt268435456 : goal.returns-then-bytes-gt268435456
 returns-then-bytes-gt268435456 c =

@@ -1,19 +1,8 @@
-use Prim.Native.Nat.{◌-◌}
-use mathlib.Core.Path.{refl, sym, ◌∙◌}
+use Rattle.std.proofs.Common.{◌≡◌, true, false, rules}
+use Rattle.std.proofs.lemmas.Iterator.{cases_from_any, YieldsList-from_slice}
 use Rattle.text.specs.Characters.{is_numeric}
-use Rattle.text.specs.DataTypes.{some}
-use Rattle.text.proofs.Laws.{some-found, some-goes-on, some-ends}
-use borrow.Author.Rules.{rules}
+use Rattle.slow_text.proofs.Laws.{some-told}
 use Rattle.slow_text.proofs.data_types.some_digit.Goals as goal
 
-pub loop-i-init : goal.loop-i-init
-loop-i-init c = (search rules, refl)
-
-pub returns-then-is_numeric : goal.returns-then-is_numeric
-returns-then-is_numeric c = sym (some-found (is_numeric c.args.set) c.args.s.now c.loop-i.i (search rules) (sym c.is_numeric.ensures ∙ c.if-is_numeric.true)) ∙ c.loop-i.invariant.1
-
-pub loop-i-preserved : goal.loop-i-preserved
-loop-i-preserved c = (search rules, sym (some-goes-on (is_numeric c.args.set) c.args.s.now c.loop-i.i (search rules) (sym c.is_numeric.ensures ∙ c.if-is_numeric.false)) ∙ c.loop-i.invariant.1)
-
 pub returns : goal.returns
-returns c = sym (some-ends (is_numeric c.args.set) c.args.s.now c.loop-i.i (search rules)) ∙ c.loop-i.invariant.1
+returns c = some-told (is_numeric c.args.set) _ c.args.s.now (cases_from_any _ _ _ (λ x. is_numeric c.args.set x ≡ true) (λ x. is_numeric c.args.set x ≡ false) c.any.ensures.ran (YieldsList-from_slice c.args.s.now cc) (λ x q k. search rules) (λ x q k. search rules))

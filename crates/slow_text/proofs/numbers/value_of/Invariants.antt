@@ -1,11 +1,6 @@
-use Prim.Native.Nat.{◌≤◌, ◌-◌, ◌^◌, ◌<◌}
-use mathlib.Core.Path.{◌≡◌}
-use lib.ListN.{length, drop}
+use Rattle.std.proofs.Common.{◌≡◌, ◌<◌, ◌^◌, drop}
 use Rattle.text.specs.Number.{value_after}
 use Rattle.slow_text.proofs.numbers.value_of.Given as goal
 
-abbrev pub invariant-loop-i : goal.invariant-loop-i
-invariant-loop-i l = (l.i ≤ length l.s) × (value_after l.set l.value (drop l.i l.s) ≡ value_after l.set 0 l.s) × (l.value < 10 ^ l.i)
-
-abbrev pub decreases-loop-i : goal.decreases-loop-i
-decreases-loop-i l = length l.s - l.i
+abbrev pub invariant-loop-x : goal.invariant-loop-x
+invariant-loop-x l = record { same : value_after l.set l.value (drop l.x-index l.s) ≡ value_after l.set 0 l.s; below : l.value < 10 ^ l.x-index }
