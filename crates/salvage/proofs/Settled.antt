@@ -19,7 +19,7 @@ use Rattle.draft.specs.Outcomes.{Written, Refused}
 use Rattle.draft.specs.Drafted.{made, offset_of, answer_from, in_room, outcome_of, buffer_after}
 use Rattle.draft_survey.specs.CappedOutcome.{capped_outcome}
 use Rattle.set_out.specs.SetOut.{Fits}
-use Rattle.made_is_read.proofs.Whole.{accepted}
+use Rattle.made_is_read.proofs.Whole.{same_outcome, accepted}
 use Rattle.salvage_model.specs.Walked.{walked}
 use Rattle.salvage_model.specs.Kept.{marks_of, is_anything}
 use Rattle.salvage_model.specs.Salvaged.{values_left, in_list, salvage_outcome, salvage_buffer, listed, list_of, list_after, salvage_list}
@@ -90,7 +90,7 @@ never : {r : Refusal} {n : ℕ} {t : Totals} {A : Type 0} → ◌≡◌ {A = Out
 never e = let z : ◌≡◌ {A = ℕ} 0 1 = cc in absurd (omega arith)
 
 told : (answer : Outcome) {bytes : ℕ} {t : Totals} → Written bytes t ≡ capped_outcome answer → Told answer bytes t
-told (Written n u) e = record { size = n; is = cc; counts = cc }
+told (Written n u) e = let k = same_outcome e in record { size = n; is = ap (Written n) (sym k.1); counts = k.0 }
 told (Err r) e = never (sym e)
 
 told-refused : (answer : Outcome) {x : Refusal} → Err x ≡ capped_outcome answer → answer ≡ Err x
