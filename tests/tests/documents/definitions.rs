@@ -27,7 +27,7 @@ fn defined_in(text: &str) -> (BTreeSet<String>, BTreeSet<String>) {
     let mut constructors = BTreeSet::new();
     let mut in_data = false;
     for line in text.lines() {
-        let bare = line.trim_start_matches("abbrev ").trim_start_matches("unfoldable ");
+        let bare = line.trim_start_matches("pattern ").trim_start_matches("abbrev ").trim_start_matches("unfoldable ");
         if let Some(rest) = bare.strip_prefix("pub ") {
             in_data = rest.starts_with("data ");
             let rest = rest.trim_start_matches("record ").trim_start_matches("data ");
