@@ -4,17 +4,15 @@
 mod salvaging;
 mod slowly;
 
-ghost use Rattle.std.specs.Prelude.{◌≡◌, ℕ};
+ghost use Rattle.std.specs.Prelude.{◌≡◌, ℕ, Err};
 ghost use Rattle.text.specs.declared.character_set.CharacterSet.TheVariants.{Ascii};
-ghost use Rattle.passes.specs.Answers.{number_of, numbers_of};
-ghost use Rattle.passes.specs.Answers.{Accepted, Refused};
-ghost use Rattle.book_model.specs.Entering.{Entered, Refused as NotEntered};
+ghost use Rattle.passes.specs.Answers.{Accepted, number_of, numbers_of};
+ghost use Rattle.book_model.specs.Entering.{Entered};
 ghost use Rattle.abi.specs.Filled.{set_numbered, entering_numbers};
 ghost use Rattle.abi.specs.Outcomes.{Reading, Writing, Drafting, Picturing, Judging, Tagging, Booking, LookingUp, Tallying, Withdrawing, Tidying};
 
 use book_model::Tally;
-use draft::Outcome;
-use passes::{Answer, Fault, Refusal, Totals};
+use passes::{Refusal, Totals};
 pub use salvaging::x9_salvage;
 pub use slowly::x9_read_slowly;
 use text::CharacterSet;
@@ -48,11 +46,13 @@ fn fill_accepted(bytes: u64, totals: Totals, answer: &mut [u64; 12])
     ];
 }
 
-fn fill_refused(fault: Fault, place: u64, offset: usize, answer: &mut [u64; 12]) -> u64
-    ensures { (result ≡ number_of fault) × ((bytes : ℕ) → answer.new ≡ numbers_of bytes (Refused fault place offset)) }
+fn fill_refused(refusal: Refusal, answer: &mut [u64; 12]) -> u64
+    ensures { (result ≡ number_of refusal.fault) × ((bytes : ℕ) → answer.new ≡ numbers_of bytes (Err refusal)) }
 {
-    let number = fault.number();
-    let field = fault.field() as u64;
+    let number = refusal.fault.number();
+    let field = refusal.fault.field() as u64;
+    let place = refusal.place;
+    let offset = refusal.offset;
     *answer = [number, place, field, offset as u64, 0, 0, 0, 0, 0, 0, 0, 0];
     number
 }
@@ -65,11 +65,11 @@ pub extern "C" fn x9_read(file: &[u8], table: &mut [u64], answer: &mut [u64; 12]
 {
     let size = file.len() as u64;
     match reader::read(file, table) {
-        Answer::Accepted(totals) => {
+        Ok(totals) => {
             fill_accepted(size, totals, answer);
             0
         }
-        Answer::Refused(fault, place, offset) => fill_refused(fault, place, offset, answer),
+        Err(refusal) => fill_refused(refusal, answer),
     }
 }
 
@@ -85,11 +85,11 @@ pub extern "C" fn x9_write<'a>(
     ensures { Writing text.now draft.now out.old result out.new answer.new }
 {
     match writer::write(text, draft, out) {
-        Outcome::Written(bytes, totals) => {
+        Ok((bytes, totals)) => {
             fill_accepted(bytes as u64, totals, answer);
             0
         }
-        Outcome::Refused(fault, place, offset) => fill_refused(fault, place, offset, answer),
+        Err(refusal) => fill_refused(refusal, answer),
     }
 }
 
@@ -100,11 +100,11 @@ pub extern "C" fn x9_draft(file: &[u8], draft: &mut [u64], answer: &mut [u64; 12
 {
     let bytes = file.len() as u64;
     match drafting::draft_of(file, draft) {
-        Answer::Accepted(totals) => {
+        Ok(totals) => {
             fill_accepted(bytes, totals, answer);
             0
         }
-        Answer::Refused(fault, place, offset) => fill_refused(fault, place, offset, answer),
+        Err(refusal) => fill_refused(refusal, answer),
     }
 }
 
@@ -125,9 +125,10 @@ pub extern "C" fn x9_picture(file: &[u8], offset: u64, place: &mut [u64; 4]) -> 
 fn judge_in(set: CharacterSet, body: &[u8], answer: &mut [u64; 2]) -> u64
     ensures { Judging set body.now result answer.new }
 {
-    let judged = judge::judge_record(set, body);
-    let number = judged.number();
-    let field = judged.field() as u64;
+    let (number, field) = match judge::judge_record(set, body) {
+        Ok(()) => (0, 0),
+        Err(flaw) => (flaw.number(), flaw.field() as u64),
+    };
     *answer = [number, field];
     number
 }
@@ -200,16 +201,16 @@ fn fill_entered(bytes: u64, totals: Totals, first: u64, answer: &mut [u64; 13])
     ];
 }
 
-fn fill_not_entered(fault: Fault, place: u64, offset: usize, answer: &mut [u64; 13]) -> u64
-    ensures { (result ≡ number_of fault) × ((bytes : ℕ) → answer.new ≡ entering_numbers bytes (NotEntered fault place offset)) }
+fn fill_not_entered(refusal: Refusal, answer: &mut [u64; 13]) -> u64
+    ensures { (result ≡ number_of refusal.fault) × ((bytes : ℕ) → answer.new ≡ entering_numbers bytes (Err refusal)) }
 {
-    let number = fault.number();
-    let field = fault.field() as u64;
+    let number = refusal.fault.number();
+    let field = refusal.fault.field() as u64;
     *answer = [
         number,
-        place,
+        refusal.place,
         field,
-        offset as u64,
+        refusal.offset as u64,
         0,
         0,
         0,
@@ -243,13 +244,7 @@ pub extern "C" fn x9_book_enter(
             fill_entered(bytes, totals, first, answer);
             0
         }
-        Err(
-            Refusal {
-                fault,
-                place,
-                offset,
-            },
-        ) => fill_not_entered(fault, place, offset, answer),
+        Err(refusal) => fill_not_entered(refusal, answer),
     }
 }
 

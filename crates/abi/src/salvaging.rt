@@ -2,7 +2,6 @@
 ghost use Rattle.abi.specs.Salvaging.{Salvaging};
 
 use crate::{fill_accepted, fill_refused};
-use draft::Outcome;
 
 // What is left of a torn file: 0 and the totals of the new file with its bytes, or a refusal as x9_write answers it. In `out` the new file, in `list` four
 // numbers for each record walked.
@@ -16,10 +15,10 @@ pub extern "C" fn x9_salvage(
     ensures { Salvaging file.now out.old list.old result out.new list.new answer.new }
 {
     match salvage::salvage(file, out, list) {
-        Outcome::Written(bytes, totals) => {
+        Ok((bytes, totals)) => {
             fill_accepted(bytes as u64, totals, answer);
             0
         }
-        Outcome::Refused(fault, place, offset) => fill_refused(fault, place, offset, answer),
+        Err(refusal) => fill_refused(refusal, answer),
     }
 }

@@ -2,7 +2,6 @@
 ghost use Rattle.abi.specs.Slowly.{SlowReading};
 
 use crate::{fill_accepted, fill_refused};
-use passes::Answer;
 
 // The reading of a whole file of up to 65,536 bytes by the slow reader: number, `table` and `answer` as x9_read has them.
 #[unsafe(no_mangle)]
@@ -11,10 +10,10 @@ pub extern "C" fn x9_read_slowly(file: &[u8], table: &mut [u64], answer: &mut [u
 {
     let size = file.len() as u64;
     match slow_reader::read_slowly(file, table) {
-        Answer::Accepted(totals) => {
+        Ok(totals) => {
             fill_accepted(size, totals, answer);
             0
         }
-        Answer::Refused(fault, place, offset) => fill_refused(fault, place, offset, answer),
+        Err(refusal) => fill_refused(refusal, answer),
     }
 }

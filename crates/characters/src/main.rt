@@ -55,7 +55,7 @@ fn say_data_types<S: Charset>(rt: &impl Print, byte: u8) -> io::Result<()> {
 }
 
 fn say_set<S: Charset>(rt: &impl Print) -> io::Result<()> {
-    let set = S::SET;
+    let set = S::set();
     for byte in 0..=u8::MAX {
         print!(rt; "{set} {byte}")?;
         say_basic_types(rt, set, byte)?;

@@ -7,7 +7,7 @@ use mathlib.Core.List.{List, [], ◌∷◌, ◌++◌, map}
 use mathlib.Core.Path.{◌≡◌, refl, ap, sym, ◌∙◌}
 use borrow.Author.Tests.{ne_eqb, leb-true}
 use lib.Dec.{leb, eqb}
-use lib.ListN.{length, get_or, take, drop, set, length-append, drop_of_length-le}
+use lib.ListN.{length, get_or, drop, set, length-append, drop_of_length-le}
 use lib.Seq.{sets, length-sets}
 use Rattle.text.specs.declared.character_set.CharacterSet.{CharacterSet}
 use Rattle.text.specs.declared.character_set.CharacterSet.TheVariants.{Ascii, Ebcdic}
@@ -18,11 +18,10 @@ use Rattle.copying.specs.Times.{times}
 use Rattle.decimal.specs.Digits.{digits}
 use Rattle.layout.specs.declared.packing.Origin.{Origin}
 use Rattle.layout.specs.Layout.{Line}
-use Rattle.layout.specs.Packing.{Block, line_of, lines_from, fields_in, parts_in, lines_in}
+use Rattle.layout.specs.Packing.{line_of, lines_from}
 use Rattle.standing.specs.declared.Standing.{Standing}
 use Rattle.ascii_copy.specs.AsciiCopy.{translated}
 use Rattle.ascii_copy.proofs.Records.{length-as}
-use Rattle.draft.specs.Owned.{Owned}
 use Rattle.draft.specs.Values.{Piece, is_given, in_ascii, piece, fields_given, layout_of, values_at, values_of_row}
 use Rattle.draft.specs.Completed.{size_of, characters_of, statement, leaves_blank, worked_out, fixed_part}
 use Rattle.draft.proofs.Shapes.{given_sizes, shaped_row, piece-long, worked-out-long, fixed-long}

@@ -1,8 +1,8 @@
 -- The fixed part set down at once, as characters, and the lines that are worked out over it: what is given stands there already. Assumes nothing.
-use Prim.Native.Nat.{ℕ, zero, suc, ◌+◌, ◌-◌, ◌/◌, ◌%◌, ◌≤◌, ◌<◌}
+use Prim.Native.Nat.{ℕ, suc, ◌+◌, ◌-◌, ◌/◌, ◌%◌, ◌≤◌, ◌<◌}
 use native.Mathlib.Nat.{add-zero}
 use native.Mathlib.Omega.{arith}
-use mathlib.Core.Bool.{Bool, true, false, ◌&&◌, ◌||◌, cond}
+use mathlib.Core.Bool.{Bool, true, false, ◌&&◌, ◌||◌}
 use mathlib.Core.List.{List, [], ◌∷◌, ◌++◌, append_assoc}
 use mathlib.Core.Path.{◌≡◌, refl, ap, ap₂, sym, ◌∙◌}
 use borrow.Author.Tests.{eqb-true, ne_eqb, leb-true, le-leb}
@@ -15,12 +15,12 @@ use Rattle.text.specs.declared.data_types.DataType.{DataType}
 use Rattle.text.specs.declared.data_types.DataType.TheVariants.{N}
 use Rattle.frame.specs.Frames.{part}
 use Rattle.layout.specs.Layout.{Line}
-use Rattle.layout.specs.Packing.{origin_of, line_of, lines_from}
+use Rattle.layout.specs.Packing.{origin_of, lines_from}
 use Rattle.standing.specs.declared.Standing.{Standing}
 use Rattle.ascii_copy.specs.CodePage037.{counterpart}
 use Rattle.ascii_copy.proofs.Characters.{is_characters, copied-as, and_left, and_right}
 use Rattle.copying.proofs.Laws.{part_at, translated-at}
-use Rattle.draft.specs.Values.{is_given, in_ascii, here, piece, layout_of}
+use Rattle.draft.specs.Values.{is_given, in_ascii, piece, layout_of}
 use Rattle.draft.specs.Completed.{characters_of}
 use Rattle.draft.proofs.Own.{every-layout}
 use Rattle.draft.proofs.Shapes.{piece-long}

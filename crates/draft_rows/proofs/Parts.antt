@@ -16,8 +16,7 @@ use Rattle.text.specs.declared.data_types.DataType.TheVariants.{AB, A, AN, ANS, 
 use Rattle.text.proofs.Laws.{rest}
 use Rattle.layout.specs.Layout.{Layout, Sized, sized_parts}
 use Rattle.layout.specs.Layouts.{layouts}
-use Rattle.text.specs.DataTypes.{every}
-use Rattle.layout.specs.Packing.{Block, fields_in, parts_in, lines_in, lines_from, lies_within, sized_of, sized_from}
+use Rattle.layout.specs.Packing.{Block, fields_in, parts_in, lines_in, lines_from, sized_of, sized_from}
 use Rattle.judge.proofs.Laws.{both_true}
 use Rattle.judge.proofs.Dispatch.{whole}
 use Rattle.draft.specs.Owned.{Owned}

@@ -5,7 +5,7 @@ use Rattle.text.specs.declared.character_set.CharacterSet.{CharacterSet}
 use Rattle.text.specs.Characters.{is_blank}
 use Rattle.text.specs.DataTypes.{every}
 use Rattle.frame.specs.Frames.{Frame}
-use Rattle.frame.specs.Frames.{Cut, Whole}
+use Rattle.frame.specs.Frames.{Cut}
 use Rattle.frame.specs.Frames.{part, frame_at}
 use Rattle.layout.specs.Layout.{Sized, sized_parts}
 use Rattle.layout.specs.Layouts.{bundle_control}

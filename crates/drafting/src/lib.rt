@@ -92,7 +92,14 @@ fn fill<'a>(layouts: &'a Layouts, file: &'a [u8], draft: &mut [u64])
         let Some(Extent { start, size }) = Cursor::at(at).frame(file) else {
             return;
         };
-        put_row(set, layouts, frame::part_of(file, start, size), start, draft, base);
+        put_row(
+            set,
+            layouts,
+            frame::part_of(file, start, size),
+            start,
+            draft,
+            base,
+        );
         base += 10;
         at = start + size;
     }

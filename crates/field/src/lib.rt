@@ -36,6 +36,7 @@ pub enum CodeList {
 }
 
 // The forms of a routing number that a field's Format lines list.
+// Stays: five flags, since the definition `listing` of specs/RoutingForms.antt makes this record of a Format line, by these names.
 #[derive(Clone, Copy, Debug, PartialEq, Eq)]
 pub struct Forms {
     // TTTTAAAAC

@@ -63,12 +63,7 @@ fn lower_of(m: Option<usize>, n: Option<usize>) -> Option<usize>
 }
 
 // The lowest field of the fixed part that cannot be had or breaks its rule; `fixed` is the fixed part, completed.
-pub fn field_fault<'a>(
-    row: Row<'a>,
-    text: &'a [u8],
-    addenda: u64,
-    fixed: &'a [u8],
-) -> Option<usize>
+pub fn field_fault<'a>(row: Row<'a>, text: &'a [u8], addenda: u64, fixed: &'a [u8]) -> Option<usize>
     requires { length fixed.now ≡ (layout_of (get_or row.rows.now 0 0)).fixed_length }
     ensures { (set : CharacterSet) → result ≡ as_field (lower (first_unfit (values_of_row set text.now row.entry.rows.now) addenda (layout_of (get_or row.entry.rows.now 0 0)).lines (values_of_row set text.now row.entry.rows.now).fields) (first_wrong Ascii (layout_of (get_or row.entry.rows.now 0 0)).lines fixed.now)) }
 {

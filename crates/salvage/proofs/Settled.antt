@@ -10,7 +10,7 @@ use borrow.Author.Tests.{le-leb, lt-leb}
 use Rattle.std.specs.Prelude.{Err}
 use Rattle.text.specs.CharacterSet.{set_of}
 use Rattle.text.specs.declared.character_set.CharacterSet.{CharacterSet}
-use Rattle.passes.specs.declared.Fault.{Fault}
+use Rattle.passes.specs.declared.Refusal.{Refusal}
 use Rattle.passes.specs.declared.Fault.TheVariants.{Size, Room, Nothing}
 use Rattle.passes.specs.declared.Totals.{Totals}
 use Rattle.file_as_records.specs.Framed.{Body}
@@ -19,7 +19,7 @@ use Rattle.draft.specs.Outcomes.{Written, Refused}
 use Rattle.draft.specs.Drafted.{made, offset_of, answer_from, in_room, outcome_of, buffer_after}
 use Rattle.draft_survey.specs.CappedOutcome.{capped_outcome}
 use Rattle.set_out.specs.SetOut.{Fits}
-use Rattle.made_is_read.proofs.Whole.{accepted}
+use Rattle.made_is_read.proofs.Whole.{same_outcome, accepted}
 use Rattle.salvage_model.specs.Walked.{walked}
 use Rattle.salvage_model.specs.Kept.{marks_of, is_anything}
 use Rattle.salvage_model.specs.Salvaged.{values_left, in_list, salvage_outcome, salvage_buffer, listed, list_of, list_after, salvage_list}
@@ -86,14 +86,14 @@ record Told (answer : Outcome) (bytes : ℕ) (t : Totals) : Type 0 where
   is : answer ≡ Written size t
   counts : bytes ≡ offset_of size
 
-never : {fault : Fault} {place offset n : ℕ} {t : Totals} {A : Type 0} → Refused fault place offset ≡ Written n t → A
+never : {r : Refusal} {n : ℕ} {t : Totals} {A : Type 0} → ◌≡◌ {A = Outcome} (Err r) (Written n t) → A
 never e = let z : ◌≡◌ {A = ℕ} 0 1 = cc in absurd (omega arith)
 
 told : (answer : Outcome) {bytes : ℕ} {t : Totals} → Written bytes t ≡ capped_outcome answer → Told answer bytes t
-told (Written n u) e = record { size = n; is = cc; counts = cc }
+told (Written n u) e = let k = same_outcome e in record { size = n; is = ap (Written n) (sym k.1); counts = k.0 }
 told (Err r) e = never (sym e)
 
-told-refused : (answer : Outcome) {fault : Fault} {place offset : ℕ} → Refused fault place offset ≡ capped_outcome answer → answer ≡ Refused fault place offset
+told-refused : (answer : Outcome) {x : Refusal} → Err x ≡ capped_outcome answer → answer ≡ Err x
 told-refused (Written n u) e = never e
 told-refused (Err r) e = sym e
 
@@ -114,10 +114,8 @@ module _ (file out list : List ℕ) {set : CharacterSet} {end : ℕ} (w : Walked
       )
 
   module _ {r : Outcome} (decided : r ≡ capped_outcome (answer_from (values_left file) [] [])) where
-    pub settled-refused : {fault : Fault} {place offset : ℕ} → r ≡ Refused fault place offset → SalvagedAs file out list r out list
-    settled-refused {fault} {place} {offset} q =
-        subst (λ (o : Outcome). SalvagedAs file out list o out list) (sym q)
-        (settled file out list (Refused fault place offset) (by_answer (Refused fault place offset) (told-refused _ (sym q ∙ decided))))
+    pub settled-refused : {x : Refusal} → r ≡ Err x → SalvagedAs file out list (Err x) out list
+    settled-refused {x} q = settled file out list (Err x) (by_answer (Err x) (told-refused _ (sym q ∙ decided)))
 
     module _ {bytes : ℕ} {t : Totals} (q : r ≡ Written bytes t) where
       answer : Told (answer_from (values_left file) [] []) bytes t

@@ -10,7 +10,7 @@ ghost use Rattle.salvage.specs.Steps.{WalkedTo, SalvagedAs};
 
 use draft::Outcome;
 use layout::Layouts;
-use passes::Fault;
+use passes::{Fault, Refusal};
 use salvage_next::Cue;
 use salvage_walk::Way;
 use text::CharacterSet;
@@ -58,25 +58,20 @@ fn salvage_left<'a>(
         open: false,
         done: false,
     };
-    let outcome = salvage_passes::decide(set, layouts, file, end, cue);
-    match outcome {
-        Outcome::Written(bytes, _) => {
-            if 268_435_456 < bytes {
-                return Outcome::Refused(Fault::Size, 0, 0);
-            }
-            if out.len() < bytes {
-                return Outcome::Refused(Fault::Room, bytes as u64, 0);
-            }
-            let rows = way.count;
-            if (list.len() as u64) / 4 < rows {
-                return Outcome::Refused(Fault::Room, rows, 0);
-            }
-            salvage_passes::write_left(set, layouts, file, end, cue, out);
-            salvage_list::put_list(set, layouts, file, end, plan, list);
-            outcome
-        }
-        Outcome::Refused(_, _, _) => outcome,
+    let (bytes, totals) = salvage_passes::decide(set, layouts, file, end, cue)?;
+    if 268_435_456 < bytes {
+        return Err(Refusal::of_file(Fault::Size, 0));
     }
+    if out.len() < bytes {
+        return Err(Refusal::of_file(Fault::Room, bytes as u64));
+    }
+    let rows = way.count;
+    if (list.len() as u64) / 4 < rows {
+        return Err(Refusal::of_file(Fault::Room, rows));
+    }
+    salvage_passes::write_left(set, layouts, file, end, cue, out);
+    salvage_list::put_list(set, layouts, file, end, plan, list);
+    Ok((bytes, totals))
 }
 
 // What is left of a torn file: the answer, in the buffer the new file, and in the list four numbers for each record walked. Buffer and list are as they
@@ -88,13 +83,13 @@ pub fn salvage(file: &[u8], out: &mut [u8], list: &mut [u64]) -> Outcome
     ensures promised { Promised file.now out.old list.old result out.new }
 {
     if !is_of_size(file.len()) {
-        return Outcome::Refused(Fault::Size, 0, 0);
+        return Err(Refusal::of_file(Fault::Size, 0));
     }
     let set = text::set_of(file);
     let layouts = layout::table();
     let way = salvage_walk::walk(set, file);
     if !is_anything(set, &layouts, file, way.end) {
-        return Outcome::Refused(Fault::Nothing, 0, 0);
+        return Err(Refusal::of_file(Fault::Nothing, 0));
     }
     salvage_left(set, &layouts, file, way, out, list)
 }

@@ -1,14 +1,20 @@
 -- One record more of a file that is made out record by record, without a draft. Nothing of this has to be believed.
-use Rattle.std.specs.Prelude.{ℕ, ◌≤◌, List, ◌∷◌, ◌≡◌, length, Err}
+use Rattle.std.specs.Prelude.{ℕ, ◌≤◌, List, ◌∷◌, ◌≡◌, length, Ok, Err}
+use Rattle.std.specs.declared.result.Result.{Result}
 use Rattle.standing.specs.History.{Entry}
-use Rattle.draft.specs.Outcomes as outcomes
+use Rattle.passes.specs.declared.Refusal.{Refusal}
 use Rattle.draft.specs.Values.{Values}
 use Rattle.draft.specs.Completed.{addenda_behind}
 use Rattle.draft.specs.Drafted.{file_with, past_with, offset_of, answer_from}
 use Rattle.sheet.specs.Sheet.{OnSheet}
 use Rattle.salvage_entry.specs.declared.Pen.{Pen}
-use Rattle.salvage_entry.specs.EnteredOn.{Entered}
-use Rattle.salvage_entry.specs.EnteredOn.{Refused, On}
+
+-- what one record more comes to: the pen behind it, or a refusal
+abbrev pub Entered : Type 0
+Entered = Result Pen Refusal
+
+pattern abbrev pub On : Pen → Entered
+On pen = Ok pen
 
 -- a file for which a sheet, figures and a number of bytes stand
 pub record Begun (sheet : List ℕ) (pen : Pen) : Type 0 where

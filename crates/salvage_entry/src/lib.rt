@@ -5,8 +5,9 @@ ghost use Rattle.std.specs.Prelude.{◌≤◌, length};
 ghost use Rattle.draft.specs.Values.{values_of_row};
 ghost use Rattle.salvage_entry.specs.Entered.{Entering, EnteredAs};
 
+use draft_rows::Row;
 use layout::Layouts;
-use passes::{Fault, Turn};
+use passes::Refusal;
 use standing::Standing;
 use text::CharacterSet;
 
@@ -17,12 +18,8 @@ pub struct Pen {
     pub bytes: usize,
 }
 
-#[derive(Clone, Copy)]
-pub enum Entered {
-    // The fault, the record (from 1), and the offset that its length field would have.
-    Refused(Fault, u64, usize),
-    On(Pen),
-}
+// What one record more comes to. A refusal has the record (from 1), and the offset that its length field would have.
+pub type Entered = Result<Pen, Refusal>;
 
 // One record more, with so many addenda behind it: `text` and `row` say it as a draft does.
 pub fn enter<'a>(
@@ -40,9 +37,13 @@ pub fn enter<'a>(
     let s = pen.standing;
     let own = layouts.own_numbers(row[0]);
     match draft_survey::judge_counted(set, own, text, row, addenda, s, sheet) {
-        Turn::Faulty(fault) => Entered::Refused(fault, s.records.0 + 1, pen.bytes),
-        Turn::Good(kind) => {
-            let size = fitting::size_of(own, row);
+        Err(fault) => Err(Refusal {
+            fault,
+            place: s.records.0 + 1,
+            offset: pen.bytes,
+        }),
+        Ok(kind) => {
+            let size = fitting::size_of(Row { own, rows: row });
             let bytes = fitting::plus(pen.bytes, fitting::plus(4, size));
             let standing = standing::moved(
                 CharacterSet::Ascii,
@@ -51,7 +52,7 @@ pub fn enter<'a>(
                 kind,
                 sheet::slot_of(kind),
             );
-            Entered::On(Pen { standing, bytes })
+            Ok(Pen { standing, bytes })
         }
     }
 }

@@ -9,8 +9,9 @@ use Rattle.text.specs.declared.character_set.CharacterSet.{CharacterSet}
 use Rattle.text.specs.declared.character_set.CharacterSet.TheVariants.{Ascii}
 use Rattle.standing.specs.Standing.{standing, capped_figures, Roomy}
 use Rattle.standing.specs.declared.Standing.{Standing}
-use Rattle.passes.specs.declared.Fault.{Fault}
-use Rattle.draft.specs.Outcomes as outcomes
+use Rattle.std.specs.Prelude.{Err}
+use Rattle.passes.specs.declared.Refusal.{Refusal}
+use Rattle.draft.specs.Outcomes.{Outcome}
 use Rattle.draft.specs.Values.{Values}
 use Rattle.draft.specs.Drafted.{file_with, past_with, rows_ended, answer_from}
 use Rattle.sheet.proofs.Laws.{sheet-starts}
@@ -20,9 +21,7 @@ use Rattle.salvage_next.specs.declared.Cue.{Cue}
 use Rattle.salvage_next.specs.declared.Entry.{Entry}
 use Rattle.salvage_next.specs.Cued.{Cued, turns, NextEntry}
 use Rattle.salvage_entry.specs.declared.Pen.{Pen}
-use Rattle.salvage_entry.specs.EnteredOn.{Entered}
-use Rattle.salvage_entry.specs.EnteredOn.{Refused, On}
-use Rattle.salvage_entry.specs.Entered.{Begun, OneMore, EnteredAs}
+use Rattle.salvage_entry.specs.Entered.{Entered, On, Begun, OneMore, EnteredAs}
 use Rattle.salvage_passes.specs.Says.{Says, NextEntered}
 use Rattle.salvage_passes.proofs.Few.{turns-few}
 
@@ -82,8 +81,8 @@ module _ {set : CharacterSet} {file : List ℕ} {end : ℕ} {all : List Values} 
       unfolding next-entered
       entered = done next-entered
 
-      pub sofar-stop : {fault : Fault} {place offset : ℕ} → r ≡ Refused fault place offset → outcomes.Refused fault place offset ≡ capped_outcome (answer_from all [] [])
-      sofar-stop q = sym (ap capped_outcome (here ∙ rw q at entered))
+      pub sofar-stop : {e : Refusal} → r ≡ Err e → (o : Outcome) → o ≡ Err e → o ≡ capped_outcome (answer_from all [] [])
+      sofar-stop q o e = e ∙ sym (ap capped_outcome (here ∙ rw q at entered))
 
       pub sofar-on : {pen' : Pen} → r ≡ On pen' → Sofar set file end all after pen' entry.next
       sofar-on {pen'} q =

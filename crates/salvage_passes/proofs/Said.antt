@@ -12,8 +12,7 @@ use Rattle.set_out.specs.SetOut.{Onward, ReadyOne}
 use Rattle.salvage_model.specs.Kept.{control_values}
 use Rattle.salvage_next.specs.declared.Entry.{Entry}
 use Rattle.salvage_entry.specs.declared.Pen.{Pen}
-use Rattle.salvage_entry.specs.EnteredOn.{Entered}
-use Rattle.salvage_entry.specs.Entered.{Entering, EnteredAs}
+use Rattle.salvage_entry.specs.Entered.{Entered, Entering, EnteredAs}
 use Rattle.salvage_passes.specs.Says.{Says}
 
 module _ {set : CharacterSet} {file : List ℕ} {e : Entry} {v : Values} (says : Says set file e v) {body : List ℕ}

@@ -104,17 +104,10 @@ pub fn decide<'a>(
     let mut at = cue;
     while !at.done {
         let entry = salvage_next::next_entry(set, layouts, file, end, at);
-        match enter_next(
+        pen = enter_next(
             set, layouts, file, entry, pen, &mut text, &mut row, &mut sheet,
-        ) {
-            Entered::Refused(fault, place, offset) => {
-                return Outcome::Refused(fault, place, offset);
-            }
-            Entered::On(on) => {
-                pen = on;
-                at = entry.next;
-            }
-        }
+        )?;
+        at = entry.next;
     }
     draft_survey::rows_ended(pen.standing, pen.bytes)
 }

@@ -2,7 +2,7 @@
 use Prim.Native.Nat.{ℕ, ◌+◌, ◌-◌, ◌≤◌}
 use native.Mathlib.Nat.{zero-add}
 use native.Mathlib.Omega.{arith}
-use mathlib.Core.Bool.{Bool, true, false, ◌&&◌, cond, or-true}
+use mathlib.Core.Bool.{Bool, true, false, ◌&&◌, not, cond, or-true}
 use mathlib.Core.List.{List, [], ◌∷◌}
 use mathlib.Core.Option.{some}
 use mathlib.Core.Path.{◌≡◌, refl, sym, ap, ◌∙◌}
@@ -16,6 +16,8 @@ use Rattle.text.specs.declared.data_types.DataType.{DataType}
 use Rattle.frame.specs.Frames.{part}
 use Rattle.layout.specs.Layout.{Line}
 use Rattle.layout.specs.Packing.{line_of, lines_from}
+use Rattle.layout.specs.Fault.{as_field}
+use Rattle.std.specs.Prelude.{is_some}
 use Rattle.judge.specs.Alone.{line_holds, first_wrong}
 use Rattle.judge.proofs.Laws.{both_true}
 use Rattle.copying.specs.Times.{times}
@@ -28,14 +30,16 @@ use Rattle.draft_rows.proofs.Parts.{piece-size}
 use Rattle.salvage_model.specs.Kept.{free_field}
 
 -- one line alone is judged as it is among the others
-pub alone-holds : (set : CharacterSet) (packed n : ℕ) (body : List ℕ)
-    → eqb (first_wrong set (lines_from 1 (packed ∷ [])) body) 0 ≡ line_holds set (line_of n packed) body
+pub alone-holds : (set : CharacterSet) (packed n : ℕ) (body : List ℕ) (b : Bool)
+    → is_some (as_field (first_wrong set (lines_from 1 (packed ∷ [])) body)) ≡ not b → b ≡ line_holds set (line_of n packed) body
 unfolding first_wrong line_holds
-alone-holds set packed n body = by (line_holds set (line_of n packed) body)
+alone-holds set packed n body b = by (line_holds set (line_of n packed) body) b
   where
-    by : (b : Bool) → eqb (cond b 0 1) 0 ≡ b
-    by true = refl
-    by false = refl
+    by : (c b : Bool) → is_some (as_field (cond c 0 1)) ≡ not b → b ≡ c
+    by true true e = refl
+    by true false e = cc
+    by false true e = cc
+    by false false e = refl
 
 module _ (set : CharacterSet) (body : List ℕ) (l : Line) where
   abbrev is_taken : Bool

@@ -33,7 +33,7 @@ fn keeps_rule(set: CharacterSet, packed: u64, body: &[u8]) -> bool
         return false;
     }
     let alone = [packed];
-    judge::first_wrong(set, &alone, body) == 0
+    judge::first_wrong(set, &alone, body).is_none()
 }
 
 // A free field of a new control, in its place: as in the walked one where it keeps its rule there, else blank.

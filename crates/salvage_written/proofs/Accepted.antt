@@ -19,7 +19,7 @@ use Rattle.draft.specs.Outcomes.{Written, Refused}
 use Rattle.draft.specs.Values.{Values}
 use Rattle.draft.specs.Drafted.{made, answer_from, in_room, outcome_of, buffer_after}
 use Rattle.draft.specs.Promises.{ReadBack}
-use Rattle.made_is_read.proofs.Whole.{accepted, read_back}
+use Rattle.made_is_read.proofs.Whole.{same_outcome, accepted, read_back}
 use Rattle.values_back.proofs.Whole.{values-back}
 use Rattle.salvage_model.specs.Walked.{walked}
 use Rattle.salvage_model.specs.Kept.{is_anything}
@@ -40,7 +40,7 @@ in-room room n t vs (Written m u) a e = by (leb m 268_435_456) refl (leb m room)
   where
     by : (b : Bool) → leb m 268_435_456 ≡ b → (c : Bool) → unless b (Refused Size 0 0) (unless c (Refused Room m 0) (Written m u)) ≡ Written n t
         → WrittenOut n t vs
-    by true p true q = record { is = a ∙ q; small = let z : m ≡ n = cc in omega (arith, leb-true m 268_435_456 p) }
+    by true p true q = record { is = a ∙ q; small = let z : m ≡ n = (same_outcome q).0 in omega (arith, leb-true m 268_435_456 p) }
     by true p false q = never q
     by false p c q = never q
 in-room room n t vs (Err r) a e = never e

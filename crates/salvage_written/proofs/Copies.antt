@@ -130,8 +130,8 @@ map-own (b ∷ bs) = ap (λ (l : List Body). b ∷ l) (map-own bs)
 -- in either set
 pub run-either : (set : CharacterSet) (header : Body) → SoundAs set 10 header → (bs : List Body)
     → run_fault Ascii (copied set header) (map (copied set) bs) ≡ run_fault set header bs
-run-either Ascii header sound bs = ap (run_fault Ascii header) (map-own bs)
-run-either Ebcdic header sound bs = run-copied header sound bs
+run-either Ascii header s bs = ap (run_fault Ascii header) (map-own bs)
+run-either Ebcdic header s bs = run-copied header s bs
 
 pub sound-either : (set : CharacterSet) (t : ℕ) (b : Body) → SoundAs set t b → SoundAs Ascii t (copied set b)
 sound-either Ascii t b s = s

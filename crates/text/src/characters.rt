@@ -10,17 +10,10 @@ pub fn is_alphabetic(set: CharacterSet, x: u8) -> bool
     ensures { result ≡ is_alphabetic set x }
 {
     match set {
-        CharacterSet::Ascii => {
-            ((b'A' <= x) & (x <= b'Z')) | (((b'a' <= x) & (x <= b'z')) | (x == b' '))
-        }
+        CharacterSet::Ascii => matches!(x, b'A'..=b'Z' | b'a'..=b'z' | b' '),
         // A to I, J to R, S to Z; a to i, j to r, s to z; the blank
         CharacterSet::Ebcdic => {
-            ((0xC1 <= x) & (x <= 0xC9))
-                | (((0xD1 <= x) & (x <= 0xD9))
-                    | (((0xE2 <= x) & (x <= 0xE9))
-                        | (((0x81 <= x) & (x <= 0x89))
-                            | (((0x91 <= x) & (x <= 0x99))
-                                | (((0xA2 <= x) & (x <= 0xA9)) | (x == 0x40))))))
+            matches!(x, 0xC1..=0xC9 | 0xD1..=0xD9 | 0xE2..=0xE9 | 0x81..=0x89 | 0x91..=0x99 | 0xA2..=0xA9 | 0x40)
         }
     }
 }
@@ -40,8 +33,8 @@ pub fn is_numeric(set: CharacterSet, x: u8) -> bool
     ensures { result ≡ is_numeric set x }
 {
     match set {
-        CharacterSet::Ascii => (b'0' <= x) & (x <= b'9'),
-        CharacterSet::Ebcdic => (0xF0 <= x) & (x <= 0xF9),
+        CharacterSet::Ascii => matches!(x, b'0'..=b'9'),
+        CharacterSet::Ebcdic => matches!(x, 0xF0..=0xF9),
     }
 }
 
@@ -60,22 +53,10 @@ pub fn is_special(set: CharacterSet, x: u8) -> bool
     ensures { result ≡ is_special set x }
 {
     match set {
-        CharacterSet::Ascii => {
-            ((b'!' <= x) & (x <= b'/'))
-                | (((b':' <= x) & (x <= b'@'))
-                    | (((b'[' <= x) & (x <= b'`')) | ((b'{' <= x) & (x <= b'~'))))
-        }
+        CharacterSet::Ascii => matches!(x, b'!'..=b'/' | b':'..=b'@' | b'['..=b'`' | b'{'..=b'~'),
         // . < ( + | &; ! $ * ) ; - /; , % _ > ?; ` : # @ ' = "; ~; ^; [ ]; { } and the backslash
         CharacterSet::Ebcdic => {
-            ((0x4B <= x) & (x <= 0x50))
-                | (((0x5A <= x) & (x <= 0x5E))
-                    | (((0x60 <= x) & (x <= 0x61))
-                        | (((0x6B <= x) & (x <= 0x6F))
-                            | (((0x79 <= x) & (x <= 0x7F))
-                                | ((x == 0xA1)
-                                    | ((x == 0xB0)
-                                        | (((0xBA <= x) & (x <= 0xBB))
-                                            | ((x == 0xC0) | ((x == 0xD0) | (x == 0xE0))))))))))
+            matches!(x, 0x4B..=0x50 | 0x5A..=0x5E | 0x60..=0x61 | 0x6B..=0x6F | 0x79..=0x7F | 0xA1 | 0xB0 | 0xBA..=0xBB | 0xC0 | 0xD0 | 0xE0)
         }
     }
 }

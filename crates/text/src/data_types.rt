@@ -39,34 +39,39 @@ pub fn is_alphanumeric_special(set: CharacterSet, x: u8) -> bool
 // A character set as a type. What is generic over it knows its set, so that the compiler keeps one column of each basic type and makes a loop
 // of its own for each set and data type.
 pub trait Charset {
-    ghost SET: { CharacterSet };
+    ghost set: { CharacterSet };
 
-    const SET: CharacterSet;
+    fn set() -> CharacterSet
+        ensures { result ≡ set };
 
     // 5.3.5 (ANS)
     fn is_printable(x: u8) -> bool
-        ensures { result ≡ admits SET ANS x };
+        ensures { result ≡ admits set ANS x };
 }
 
 pub struct InAscii;
 
 impl Charset for InAscii {
-    ghost SET = { Ascii };
+    ghost set = { Ascii };
 
-    const SET: CharacterSet = CharacterSet::Ascii;
+    fn set() -> CharacterSet {
+        CharacterSet::Ascii
+    }
 
     // In Table 1 these stand together, from the blank through ~: one comparison.
     fn is_printable(x: u8) -> bool {
-        (b' ' <= x) & (x <= b'~')
+        matches!(x, b' '..=b'~')
     }
 }
 
 pub struct InEbcdic;
 
 impl Charset for InEbcdic {
-    ghost SET = { Ebcdic };
+    ghost set = { Ebcdic };
 
-    const SET: CharacterSet = CharacterSet::Ebcdic;
+    fn set() -> CharacterSet {
+        CharacterSet::Ebcdic
+    }
 
     fn is_printable(x: u8) -> bool {
         is_alphanumeric_special(CharacterSet::Ebcdic, x)
@@ -75,9 +80,9 @@ impl Charset for InEbcdic {
 
 // The characters to which a field of each type is limited, by the row of Table 2.
 pub fn admits_in<S: Charset>(t: DataType, x: u8) -> bool
-    ensures { result ≡ admits S.SET t x }
+    ensures { result ≡ admits S.set t x }
 {
-    let set = S::SET;
+    let set = S::set();
     match t {
         // 5.3.1
         DataType::AB => is_blank(set, x),

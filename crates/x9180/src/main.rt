@@ -1,7 +1,7 @@
 // Reads one file from standard input and prints one line: accepted, with what it adds up to, or refused, with the first fault.
 #![tactic(auto)]
 
-use passes::{Answer, Fault, Totals};
+use passes::{Refusal, Totals};
 use std::io;
 use std::io::Read;
 
@@ -31,10 +31,15 @@ fn say_accepted(rt: &impl Print, totals: Totals) -> io::Result<()> {
     )
 }
 
-fn say_refused(rt: &impl Print, fault: Fault, record: u64, offset: usize) -> io::Result<()> {
+fn say_refused(rt: &impl Print, refusal: Refusal) -> io::Result<()> {
+    let Refusal {
+        fault,
+        place,
+        offset,
+    } = refusal;
     let number = fault.number();
     let field = fault.field();
-    println!(rt; "refused {number} record {record} field {field} offset {offset}")
+    println!(rt; "refused {number} record {place} field {field} offset {offset}")
 }
 
 fn main(rt: HostRuntime) -> io::Result<()> {
@@ -46,7 +51,7 @@ fn main(rt: HostRuntime) -> io::Result<()> {
     let file = &buffer[..length as usize];
     let mut table = [0u64; TABLE_SIZE];
     match reader::read(file, &mut table) {
-        Answer::Accepted(totals) => say_accepted(&rt, totals),
-        Answer::Refused(fault, record, offset) => say_refused(&rt, fault, record, offset),
+        Ok(totals) => say_accepted(&rt, totals),
+        Err(refusal) => say_refused(&rt, refusal),
     }
 }

@@ -2,12 +2,12 @@ use Rattle.abi.proofs.Laws.{of-outcome}
 use mathlib.Core.Path.{sym, ◌∙◌}
 use Rattle.abi.proofs.x9_write.Goals as goal
 
-pub returns-in-Written : goal.returns-in-Written
-returns-in-Written c =
-    let told = sym c.write.ensures.answer ∙ c.in-Written.is in
+pub returns-in-Ok : goal.returns-in-Ok
+returns-in-Ok c =
+    let told = sym c.write.ensures.answer ∙ c.in-Ok.is in
     record { number = rw told; buffer = c.write.ensures.buffer; answer = rw (told, c.fill_accepted.ensures); promised = of-outcome c.write.ensures.answer c.write.ensures.promised }
 
-pub returns-in-Refused : goal.returns-in-Refused
-returns-in-Refused c =
-    let told = sym c.write.ensures.answer ∙ c.in-Refused.is in
+pub returns-in-Err : goal.returns-in-Err
+returns-in-Err c =
+    let told = sym c.write.ensures.answer ∙ c.in-Err.is in
     record { number = rw (told, c.fill_refused.ensures.0); buffer = c.write.ensures.buffer; answer = rw told (c.fill_refused.ensures.1 0); promised = of-outcome c.write.ensures.answer c.write.ensures.promised }

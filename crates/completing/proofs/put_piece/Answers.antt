@@ -1,10 +1,8 @@
-use mathlib.Core.Path.{sym, ap, ◌∙◌}
+use mathlib.Core.Path.{sym, ◌∙◌}
 use Prim.Native.Nat.{◌+◌}
 use borrow.Author.Rules.{rules}
 use lib.ListN.{length}
-use lib.Seq.{sets}
-use Rattle.frame.specs.Frames.{part}
-use Rattle.completing.proofs.Laws.{piece-as, piece-missing, piece-none, lies_in}
+use Rattle.completing.proofs.Laws.{lies_in}
 use Rattle.completing.proofs.put_piece.Goals as goal
 
 pub overflow_add-from : goal.overflow_add-from

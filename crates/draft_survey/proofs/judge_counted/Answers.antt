@@ -42,12 +42,12 @@ slice_bounds-field_fault-end c = row_within ((let filled' : Filled c.args.set c.
 
 pub field_fault-requires : goal.field_fault-requires
 field_fault-requires c = row-long ((let filled' : Filled c.args.set c.args.text.now c.args.rows.now c.args.sheet.now c.args.s c.args.addenda c.slot_of-at.result c.complete-fixed.result c.complete-fixed.new.out = record {
-    may = sym c.may_follow.ensures ∙ c.if-not-may_follow.false;
-    slot = c.slot_of-at.ensures;
-    room = c.requires.3;
-    stored = c.complete-fixed.ensures.0;
-    long = c.complete-fixed.ensures.1;
-  } in filled'))
+  may = sym c.may_follow.ensures ∙ c.if-not-may_follow.false;
+  slot = c.slot_of-at.ensures;
+  room = c.requires.3;
+  stored = c.complete-fixed.ensures.0;
+  long = c.complete-fixed.ensures.1;
+} in filled'))
 
 pub returns-in-Some : goal.returns-in-Some
 returns-in-Some c = row_field ((let filled' : Filled c.args.set c.args.text.now c.args.rows.now c.args.sheet.now c.args.s c.args.addenda c.slot_of-at.result c.complete-fixed.result c.complete-fixed.new.out = record {

@@ -15,7 +15,7 @@ fill-requires c =
 pub returns-then-draft-needed : goal.returns-then-draft-needed
 returns-then-draft-needed c =
     let k = subst (λ (a : Answer). Meets c.args.file.now c.args.draft.now a c.args.draft.now) (sym c.of_file.ensures)
-            (no_room c.args.file.now c.args.draft.now _ (sym c.survey.ensures.0 ∙ c.in_ok-totals.was) c.if-draft-needed.true) in
+    (no_room c.args.file.now c.args.draft.now _ (sym c.survey.ensures.0 ∙ c.in_ok-totals.was) c.if-draft-needed.true) in
     record { answer = k.0; rows = k.1.0; itself = k.1.1 }
 
 pub returns : goal.returns

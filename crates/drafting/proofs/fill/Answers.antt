@@ -1,5 +1,4 @@
 use mathlib.Core.Path.{sym, ◌∙◌, ap}
-use Prim.Native.Nat.{◌-◌}
 use native.Mathlib.Omega.{arith}
 use Rattle.frame.specs.Frames.{frame_at}
 use Rattle.drafting.proofs.Rows.{fill-first, fill-room, fill-within, fill_on, fill-cut, fill_end}

@@ -1,4 +1,3 @@
-use Prim.Native.Nat.{◌-◌}
 use Rattle.copying.proofs.Laws.{down-none, down-one, down-all}
 use Rattle.drafting.specs.ByNumbers.{parts_own}
 use Rattle.drafting.proofs.Sizes.{seven}

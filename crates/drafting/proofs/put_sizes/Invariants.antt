@@ -1,6 +1,5 @@
 use Rattle.copying.proofs.Laws.{Down}
 use Rattle.drafting.specs.ByNumbers.{seven_sizes, parts_own}
-use Rattle.drafting.proofs.Sizes.{seven}
 use Rattle.drafting.proofs.put_sizes.Given as goal
 
 abbrev pub invariant-loop-i : goal.invariant-loop-i

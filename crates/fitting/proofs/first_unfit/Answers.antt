@@ -5,7 +5,6 @@ use lib.ListN.{length, get_or}
 use Prim.Native.Nat.{ℕ, ◌+◌}
 use native.Mathlib.Omega.{arith}
 use Rattle.fitting.proofs.Laws.{field_at, none_at, lines-first, line-unfit, line-here, lines-on, lines_none}
-use borrow.Author.Rules.{rules}
 use Rattle.fitting.proofs.first_unfit.Goals as goal
 use Rattle.fitting.proofs.first_unfit.Goals.{then-not-all_here-packed+else-not-line_fits, else-not-all_here-packed}
 

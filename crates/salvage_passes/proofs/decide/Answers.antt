@@ -2,6 +2,7 @@ use mathlib.Core.Path.{refl, sym, ◌∙◌}
 use mathlib.Core.List.{[]}
 use borrow.Author.Tests.{not-true, not-false}
 use Rattle.text.specs.declared.character_set.CharacterSet.TheVariants.{Ascii}
+use Rattle.std.proofs.result.Match.{err_is}
 use Rattle.salvage_next.specs.Cued.{turns}
 use Rattle.salvage_passes.proofs.Deciding.{sofar-first, sofar-roomy, sofar-end, next-entered, next-fewer, sofar-stop, sofar-on}
 use Rattle.salvage_passes.proofs.decide.Goals as goal
@@ -24,14 +25,14 @@ slice_bounds-enter_next-end-in-loop-at-2 c = sym (c.loop-at.invariant.2 c.requir
 pub enter_next-requires : goal.enter_next-requires
 enter_next-requires c = (c.loop-at.invariant.0, c.loop-at.invariant.1, next-entered (c.loop-at.invariant.2 c.requires.values c.requires.cued) c.next_entry-entry.ensures)
 
-pub returns-in-Refused : goal.returns-in-Refused
-returns-in-Refused c = λ all cued. sofar-stop (c.loop-at.invariant.2 all cued) c.next_entry-entry.ensures c.enter_next.result _ c.enter_next.ensures.2 c.in-Refused.is
+pub returns-in_err-pen : goal.returns-in_err-pen
+returns-in_err-pen c = λ all cued. sofar-stop (c.loop-at.invariant.2 all cued) c.next_entry-entry.ensures c.enter_next.result _ c.enter_next.ensures.2 c.in_err-pen.was _ (err_is _ _ c.from_residual.ensures.1)
 
 pub loop-at-smaller : goal.loop-at-smaller
 loop-at-smaller c = next-fewer (c.loop-at.invariant.2 c.requires.values c.requires.cued) c.next_entry-entry.ensures
 
 pub loop-at-preserved : goal.loop-at-preserved
-loop-at-preserved c = (c.enter_next.ensures.0, c.enter_next.ensures.1, λ all cued. sofar-on (c.loop-at.invariant.2 all cued) c.next_entry-entry.ensures c.enter_next.result _ c.enter_next.ensures.2 c.in-On.is)
+loop-at-preserved c = (c.enter_next.ensures.0, c.enter_next.ensures.1, λ all cued. sofar-on (c.loop-at.invariant.2 all cued) c.next_entry-entry.ensures c.enter_next.result _ c.enter_next.ensures.2 c.in_ok-pen.was)
 
 pub rows_ended-requires : goal.rows_ended-requires
 rows_ended-requires c = sofar-roomy (c.loop-at.invariant.2 c.requires.values c.requires.cued)

@@ -11,13 +11,13 @@ write_rows-requires c = asks c.args.text.now c.args.draft.now c.args.out.now c.i
 pub returns-then-bytes-gt268435456 : goal.returns-then-bytes-gt268435456
 returns-then-bytes-gt268435456 c =
     let k = subst (λ (o : Outcome). Done c.args.text.now c.args.draft.now c.args.out.now o c.args.out.now) (sym (refused-as c.of_file.ensures))
-            (done-large c.args.text.now c.args.draft.now c.args.out.now c.in_ok-bytes.was c.survey_draft.ensures (omega (arith, c.if-bytes-gt268435456.true))) in
+    (done-large c.args.text.now c.args.draft.now c.args.out.now c.in_ok-bytes.was c.survey_draft.ensures (omega (arith, c.if-bytes-gt268435456.true))) in
     record { answer = k.0; buffer = k.1.0; promised = k.1.1 }
 
 pub returns-then-out-bytes : goal.returns-then-out-bytes
 returns-then-out-bytes c =
     let k = subst (λ (o : Outcome). Done c.args.text.now c.args.draft.now c.args.out.now o c.args.out.now) (sym (refused-as c.of_file-then-out-bytes.ensures))
-            (done-short c.args.text.now c.args.draft.now c.args.out.now c.in_ok-bytes.was c.survey_draft.ensures (omega (arith, c.if-bytes-gt268435456.false)) (omega (arith, c.if-out-bytes.true))) in
+    (done-short c.args.text.now c.args.draft.now c.args.out.now c.in_ok-bytes.was c.survey_draft.ensures (omega (arith, c.if-bytes-gt268435456.false)) (omega (arith, c.if-out-bytes.true))) in
     record { answer = k.0; buffer = k.1.0; promised = k.1.1 }
 
 pub returns : goal.returns
