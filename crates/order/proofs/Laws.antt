@@ -1,32 +1,12 @@
--- What code says of a list of numbers, by tests or by a match. Assumes nothing.
+-- What is known of one number of a list. Assumes nothing.
 use Prim.Native.Nat.{ℕ}
 use mathlib.Core.Path.{◌≡◌, refl, ap, ◌∙◌}
-use mathlib.Core.Logic.{inl, inr}
-use mathlib.Core.Bool.{Bool, true, false, cond, ◌&&◌, ◌||◌, or-true, and-eq-true_iff}
+use mathlib.Core.Bool.{Bool, true, false, ◌&&◌, ◌||◌, and-eq-true_iff}
 use mathlib.Core.List.{List, [], ◌∷◌}
 use lib.Dec.{eqb}
-use mir.Val.{bool_byte}
-use types.Run.{OneOf}
-use borrow.Author.Tests.{eqb-true, eq-eqb, ne_eqb}
+use borrow.Author.Tests.{eqb-true}
 use Rattle.text.specs.DataTypes.{every}
 use Rattle.order.specs.MayFollow.{is_one_of, follows, one_item_type, may_follow}
-
--- whether a bundle is open, as a number
-pub place-is : (b : Bool) → cond b 1 0 ≡ bool_byte b
-place-is true = refl
-place-is false = refl
-
--- `match x { k | j | .. => .., _ => .. }`
-pub is_key : (ks : List ℕ) (x : ℕ) → OneOf ks x → true ≡ is_one_of x ks
-is_key [] x h = elim h [ ]
-is_key (k ∷ []) x h = rw (eq-eqb x k h)
-is_key (k ∷ (j ∷ js)) x (inl h) = rw (eq-eqb x k h)
-is_key (k ∷ (j ∷ js)) x (inr h) = rw (← is_key (j ∷ js) x h, or-true)
-
-pub no_key : (ks : List ℕ) (x : ℕ) → (OneOf ks x → ⊥) → false ≡ is_one_of x ks
-no_key [] x h = refl
-no_key (k ∷ []) x h = rw (ne_eqb x k h)
-no_key (k ∷ (j ∷ js)) x h = rw (ne_eqb x k (λ e. h (inl e))) (no_key (j ∷ js) x (λ e. h (inr e)))
 
 pub or-picks : {R : Type 0} (a b : Bool) → a || b ≡ true → (a ≡ true → R) → (b ≡ true → R) → R
 or-picks true b e f g = f refl
