@@ -30,6 +30,7 @@ pub fn number_at(set: CharacterSet, file: &[u8], offset: usize, first: usize, si
     slow_text::number_in(set, field_at(file, offset, first, size))
 }
 
+// Stays: 0 and no Option here and in `micr_at` and `stated_at`, which adds nothing to a sum, as `amount_of`, `micr_of` and `stated_by` have it.
 // The amount of an item: field 6 of a 25 or a 31 (positions 48 to 57), field 7 of a 61 (positions 49 to 62).
 pub fn amount_at(set: CharacterSet, file: &[u8], kind: u64, offset: usize) -> u64
     ensures { (result ≡ amount_of set file.now kind offset) × (result < 100_000_000_000_000) }

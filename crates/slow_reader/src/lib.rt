@@ -17,6 +17,7 @@ use standing::Standing;
 use text::CharacterSet;
 
 // A number, or 0 where the record lies outside its level.
+// Stays: 0 and no Option here and in `letter_of`: a row of the table is seven numbers (C interface, `row_of`).
 fn within(level: bool, number: u64) -> u64
     ensures { result ≡ cond level number 0 }
 {

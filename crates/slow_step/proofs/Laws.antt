@@ -7,29 +7,27 @@ use mathlib.Core.Bool.{Bool, true, false, ◌&&◌, cond, and-false}
 use mathlib.Core.List.{List}
 use lib.Dec.{leb, eqb}
 use lib.ListN.{length}
-use borrow.Author.Tests.{eqb-true, lt-leb, le-leb, leb-false}
+use borrow.Author.Tests.{eqb-true}
 use Rattle.text.specs.declared.character_set.CharacterSet.{CharacterSet}
 use Rattle.frame.specs.Unless.{unless}
 use Rattle.frame.specs.Frames.{part, frame_at}
-use Rattle.frame.specs.Frames.{Cut, Whole}
-use Rattle.frame.proofs.Laws.{cut-length, whole-start, whole-within}
+use Rattle.frame.specs.Frames.{Whole}
+use Rattle.frame.proofs.Laws.{cut-length}
 use Rattle.judge.specs.Alone.{type_of, judged_as}
 use Rattle.order.specs.MayFollow.{is_carried, follows, one_item_type, may_follow}
 use Rattle.standing.specs.Standing.{onward, capped_figures, Roomy}
 use Rattle.standing.specs.declared.Standing.{Standing}
 use Rattle.passes.specs.declared.Fault.{Fault}
 use Rattle.passes.specs.declared.Fault.TheVariants.{Length, UnknownType, Place}
-use Rattle.passes.specs.Answers.{Turn}
 use Rattle.passes.specs.Answers.{Faulty}
 use Rattle.passes.specs.Answers.{Stop, On}
 use Rattle.passes.specs.Answers.{Answer}
 use Rattle.passes.specs.Answers.{Refused}
 use Rattle.passes.specs.CheckOrder.{unless_alone, agreement, turn_of}
 use Rattle.passes.specs.Reading.{of_turn, step_of, ended_with, Counted}
-use Rattle.passes.proofs.Passed.{passed}
 use Rattle.passes.proofs.Laws.{framed}
 use Rattle.passes.proofs.Passes.{Survey, Moves, place-moves, survey-stop, survey-end, counted-end, survey-on, on-within}
-use Rattle.slow_step.specs.Places.{type_in, type_at, IsAnswer, Reached, Called, GoesOn}
+use Rattle.slow_step.specs.Places.{type_at, IsAnswer, Reached, Called, GoesOn}
 
 -- 0 is no type, and nothing follows a 99
 no-type : (b : Bool) (last : ℕ) → follows b last 0 ≡ false

@@ -2,7 +2,7 @@
 use Rattle.std.specs.Prelude.{ℕ, ◌+◌, ◌*◌, ◌≤◌, ◌<◌, Bool, true, false, ◌&&◌, cond, ◌≡◌, List, [], leb, eqb, length, Some, Err, unwrap_or}
 use Rattle.text.specs.declared.character_set.CharacterSet.{CharacterSet}
 use Rattle.frame.specs.Frames.{Frame}
-use Rattle.frame.specs.Frames.{Cut, Whole}
+use Rattle.frame.specs.Frames.{Cut}
 use Rattle.frame.specs.Frames.{part, frame_at}
 use Rattle.judge.specs.Alone.{type_of}
 use Rattle.order.specs.MayFollow.{is_carried, follows}

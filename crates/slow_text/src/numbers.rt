@@ -21,6 +21,7 @@ pub fn part_of(s: &[u8], start: usize, size: usize) -> &[u8]
 }
 
 // The byte at a place; 0 past the end.
+// Stays: 0 and no Option here and in `capital_of` and `digit_of`, as `get_or`, `capital` and `digit` in their contracts have it.
 pub fn byte_at(s: &[u8], place: usize) -> u8
     ensures { result ≡ get_or s.now place 0 }
 {

@@ -1,5 +1,5 @@
 use native.Mathlib.Omega.{arith}
-use Rattle.std.proofs.Common.{rules, sym, ◌∙◌}
+use Rattle.std.proofs.Common.{rules}
 use Rattle.std.proofs.result.Match.{err_is}
 use Rattle.slow_reader.proofs.Laws.{meets-as, too_long, empty, no_room, rows_written, refused}
 use Rattle.slow_reader.proofs.read_slowly.Goals as goal
