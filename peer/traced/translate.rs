@@ -6,11 +6,11 @@
 pub const SHARED: [(&str, &[&str]); 7] = [
     ("text", &["CharacterSet", "DataType"]),
     ("field", &["Usage", "CodeList", "Forms", "Rule"]),
-    ("frame", &["Frame"]),
-    ("judge", &["Judged"]),
+    ("frame", &["Extent", "Frame"]),
+    ("judge", &["Flaw", "Judged"]),
     ("measure", &["Cents", "Items", "Views", "Records", "Sums"]),
     ("standing", &["Standing"]),
-    ("passes", &["Fault", "Turn", "Step", "Totals", "Answer"]),
+    ("passes", &["Fault", "Turn", "Step", "Totals", "Refusal", "Answer"]),
 ];
 
 /// What each type is made to have, in the place of what it derives itself.
@@ -58,12 +58,14 @@ fn taken(line: &str) -> Option<String> {
 /// The declaration of a type, to the line with the brace that ends it, or to the semicolon on its first line.
 fn declaration(name: &str, sources: &str) -> String {
     let begins = |line: &str| {
-        let rest = line.strip_prefix("pub enum ").or_else(|| line.strip_prefix("pub struct "));
+        let rest = ["pub enum ", "pub struct ", "pub type "].iter().find_map(|start| line.strip_prefix(start));
         rest.and_then(|rest| rest.strip_prefix(name)).is_some_and(|rest| rest.starts_with([' ', '(']))
     };
     let mut lines = sources.lines().skip_while(|line| !begins(line));
     let first = lines.next().unwrap_or_else(|| panic!("the type {name} was not found"));
-    let mut text = format!("{COPIED}{first}\n");
+    // A name for another type has what that type has.
+    let copied = if first.starts_with("pub type ") { "" } else { COPIED };
+    let mut text = format!("{copied}{first}\n");
     if !first.ends_with(';') {
         let rest = lines.by_ref().map(|line| format!("{line}\n"));
         let mut ended = false;

@@ -8,14 +8,16 @@ use std::path::Path;
 use std::path::PathBuf;
 
 /// The types that both readers may name: words of the standard, what is found of a record, measures and answers.
-const SHARED: [(&str, &str); 19] = [
+const SHARED: [(&str, &str); 22] = [
     ("text", "CharacterSet"),
     ("text", "DataType"),
     ("field", "Usage"),
     ("field", "CodeList"),
     ("field", "Forms"),
     ("field", "Rule"),
+    ("frame", "Extent"),
     ("frame", "Frame"),
+    ("judge", "Flaw"),
     ("judge", "Judged"),
     ("measure", "Cents"),
     ("measure", "Items"),
@@ -27,6 +29,7 @@ const SHARED: [(&str, &str); 19] = [
     ("passes", "Turn"),
     ("passes", "Step"),
     ("passes", "Totals"),
+    ("passes", "Refusal"),
     ("passes", "Answer"),
 ];
 
@@ -43,9 +46,14 @@ fn bare_line(line: &str) -> String {
     kept.map(|(_, piece)| *piece).collect::<Vec<_>>().join(" ")
 }
 
-/// A source without its comments and single characters.
+/// What only the prover reads: an attribute that names definitions or lemmas.
+fn is_tactic(line: &&str) -> bool {
+    line.starts_with("#[tactic(") && line.ends_with(")]")
+}
+
+/// A source without its comments, single characters and tactics.
 fn bare(source: &str) -> String {
-    source.lines().map(bare_line).collect::<Vec<_>>().join("\n")
+    source.lines().filter(|line| !is_tactic(line)).map(bare_line).collect::<Vec<_>>().join("\n")
 }
 
 fn is_slow(name: &str) -> bool {
@@ -304,7 +312,9 @@ fn types_and_variants_and_own_functions_are_no_decision() {
     let first = first();
     for source in [
         "use text::CharacterSet;\nfn f() -> CharacterSet { CharacterSet::Ebcdic }",
-        "fn f() -> frame::Frame { frame::Frame::Whole(4, 80) }",
+        "fn f() -> frame::Frame { Some(frame::Extent { start: 4, size: 80 }) }",
+        "use judge::Flaw;\nfn f() -> judge::Judged { Err(Flaw::UnknownType) }",
+        "#[tactic(auto, unfolding(text::specs::Number::number))]\nfn f() -> u64 { 0 }",
         "use measure::Cents;\nfn f() -> Cents { Cents(5) }",
         "// text::number_in is the first reader's\nfn f() -> u64 { slow_text::number_in(set, s) }",
         "use crate::lines::field_in;\nuse slow_text::{number_in, all_blank};",

@@ -57,17 +57,9 @@ fn put_letters(file: &[u8], number: u64, owner: u64, last: u64, book: &mut [u64]
     }
 }
 
-// How many rows more than the gaps so many letters take.
-fn beyond_gaps(letters: u64, gaps: u64) -> u64
-    ensures { result ≡ letters - gaps }
-{
-    if letters <= gaps {
-        return 0;
-    }
-    letters - gaps
-}
-
 // A file that the reader accepts with the row table that is lent, so many rows for so many records; a book with its list, and one of its owners.
+// Stays: that the book and the list are such is said by clauses, here as in `book_gaps` and `taken_list`. docs/DECISIONS.md, 20, says where each `requires`
+// stands and names these crates; and a type for it would be needed twice, over tables that are read and tables that are written.
 fn enter_accepted(
     file: &[u8],
     number: u64,
@@ -111,7 +103,7 @@ fn enter_accepted(
     book_table::raise_head(
         book,
         owner,
-        beyond_gaps(letters, claimed - used),
+        letters.saturating_sub(claimed - used),
         letters,
         added,
     );

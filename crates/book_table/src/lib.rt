@@ -92,6 +92,8 @@ fn own_figures_at(book: &[u64], owner: u64, at: usize) -> Figures
     Figures::none()
 }
 
+// Stays: that no more rows are claimed than there are is asked by a clause, here and in three functions below. docs/DECISIONS.md, 20, names the crate and
+// what its functions require; and a type for it would be needed twice, over tables that are read and, in `book_gaps`, tables that are written.
 // Whether an owner's running totals are the sums of its rows among so many: each row's figures are taken from them, and nothing must be left. So no sum
 // can wrap.
 fn are_sums(book: &[u64], owner: u64, claimed: u64) -> bool

@@ -128,3 +128,30 @@ room limit a b h = by_order (leb b (limit - a)) refl
     by_order : (t : Bool) → leb b (limit - a) ≡ t → leb (a + b) limit ≡ t
     by_order true e = le-leb (a + b) limit (omega (arith, leb-true b (limit - a) e))
     by_order false e = lt-leb (a + b) limit (omega (arith, leb-false b (limit - a) e))
+
+-- every six figures of 64 bits fit; what is then left of the most has room for others just where the sum fits
+abbrev greatest : ℕ
+greatest = 0xFFFF_FFFF_FFFF_FFFF
+
+pub within_most : (a : Figures) → Covered most a → covers most a ≡ true
+unfolding covers
+within_most a h =
+    rw (le-leb a.bundles greatest h.bundles, le-leb a.sums.debits.0 greatest h.debits, le-leb a.sums.credits.0 greatest h.credits, le-leb a.sums.views.0 greatest h.views, le-leb a.sums.debit.0 greatest h.debit, le-leb a.sums.credit.0 greatest h.credit)
+
+pub room-left : (a b : Figures) → Covered most a → covers (minus most a) b ≡ fits (plus a b)
+unfolding fits covers
+room-left a b h =
+    rw (room greatest a.bundles b.bundles h.bundles, room greatest a.sums.debits.0 b.sums.debits.0 h.debits, room greatest a.sums.credits.0 b.sums.credits.0 h.credits, room greatest a.sums.views.0 b.sums.views.0 h.views, room greatest a.sums.debit.0 b.sums.debit.0 h.debit, room greatest a.sums.credit.0 b.sums.credit.0 h.credit)
+
+-- none has only none in it
+zero-alone : (n : ℕ) → leb n 0 ≡ eqb n 0
+zero-alone n = by-test (eqb n 0) refl
+  where
+    by-test : (t : Bool) → eqb n 0 ≡ t → leb n 0 ≡ t
+    by-test true e = let zero : n ≡ 0 = eqb-true n 0 e in le-leb n 0 (omega arith)
+    by-test false e = let some : n ≡ 0 → ⊥ = eqb-false n 0 e in lt-leb n 0 (omega arith)
+
+pub none-covers : (a : Figures) → covers no_figures a ≡ same a no_figures
+unfolding covers same
+none-covers a =
+    rw (zero-alone a.bundles, zero-alone a.sums.debits.0, zero-alone a.sums.credits.0, zero-alone a.sums.views.0, zero-alone a.sums.debit.0, zero-alone a.sums.credit.0)

@@ -2,8 +2,8 @@
 // operations over the updates by value, `with` and `without`.
 #![tactic(auto)]
 
-ghost use Rattle.std.specs.Prelude.{true, ◌≡◌, ◌+◌, leb};
-ghost use Rattle.figures.specs.Figures.{no_figures, plus, minus, same, covers, fits};
+ghost use Rattle.std.specs.Prelude.{true, ◌≡◌};
+ghost use Rattle.figures.specs.Figures.{no_figures, plus, minus, same, covers, most, fits};
 
 use measure::{Cents, Items, Sums, Views};
 
@@ -11,12 +11,6 @@ use measure::{Cents, Items, Sums, Views};
 pub struct Figures {
     pub bundles: u64,
     pub sums: Sums,
-}
-
-fn leaves_room(a: u64, b: u64) -> bool
-    ensures { result ≡ leb (a + b) 0xFFFF_FFFF_FFFF_FFFF }
-{
-    b <= 0xFFFF_FFFF_FFFF_FFFF - a
 }
 
 impl Figures {
@@ -29,18 +23,28 @@ impl Figures {
         }
     }
 
+    // The most that 64 bits hold of each.
+    fn most() -> Self
+        ensures { result ≡ most }
+    {
+        let sums = Sums {
+            debits: Items(u64::MAX),
+            debit: Cents(u64::MAX),
+            credits: Items(u64::MAX),
+            credit: Cents(u64::MAX),
+            views: Views(u64::MAX),
+        };
+        Figures {
+            bundles: u64::MAX,
+            sums,
+        }
+    }
+
     // Whether 64 bits hold each of these figures with its like added.
     pub fn has_room_for(self, more: Figures) -> bool
         ensures { result ≡ fits (plus self more) }
     {
-        let a = self.sums;
-        let b = more.sums;
-        leaves_room(self.bundles, more.bundles)
-            & leaves_room(a.debits.0, b.debits.0)
-            & leaves_room(a.credits.0, b.credits.0)
-            & leaves_room(a.views.0, b.views.0)
-            & leaves_room(a.debit.0, b.debit.0)
-            & leaves_room(a.credit.0, b.credit.0)
+        Self::most().without(self).holds(more)
     }
 
     // Like added to like.
@@ -106,13 +110,7 @@ impl Figures {
     pub fn are_none(self) -> bool
         ensures { result ≡ same self no_figures }
     {
-        let a = self.sums;
-        (self.bundles == 0)
-            & (a.debits.0 == 0)
-            & (a.credits.0 == 0)
-            & (a.views.0 == 0)
-            & (a.debit.0 == 0)
-            & (a.credit.0 == 0)
+        Self::none().holds(self)
     }
 }
 
@@ -126,6 +124,7 @@ pub fn add(totals: &mut Figures, more: Figures)
 }
 
 // For callers that hold the totals by value.
+// Stays: docs/DECISIONS.md names `raised`, and `lowered` below; what they require differs, and so does what they end at.
 pub fn raised(totals: Figures, more: Figures) -> Figures
     requires { fits (plus totals more) ≡ true }
     ensures { result ≡ plus totals more }

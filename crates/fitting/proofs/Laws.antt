@@ -5,7 +5,7 @@ use mathlib.Core.List.{List, [], ◌∷◌}
 use Prim.Native.Nat.{ℕ, suc, ◌+◌, ◌-◌, ◌/◌, ◌%◌, ◌≤◌, ◌<◌, min}
 use native.Mathlib.Nat.{add-zero, add_assoc}
 use native.Mathlib.Omega.{arith}
-use borrow.Author.Tests.{eq-eqb, ne_eqb, eqb-true, eqb-false, leb-true, leb-false, le-leb, lt-leb}
+use borrow.Author.Tests.{ne_eqb, eqb-true, eqb-false, leb-true, leb-false, le-leb, lt-leb}
 use lib.Dec.{leb, eqb}
 use lib.ListN.{length, get_or, take, drop, drop_of_length-le, length-take, length-drop}
 use lib.Seq.{drop-drop, get_or-take, get_or-drop}
@@ -16,15 +16,15 @@ use Rattle.text.specs.DataTypes.{every, keeps_digits_together, of_type}
 use Rattle.text.proofs.Laws.{rest}
 use Rattle.frame.specs.Frames.{part}
 use Rattle.decimal.specs.Digits.{fits}
-use Rattle.std.specs.Prelude.{Option, None, Some}
+use Rattle.std.specs.Prelude.{None, Some}
 use Rattle.layout.specs.Fault.{as_field}
-use Rattle.layout.proofs.Fault.{no-field, a-field, faultless, faulted}
+use Rattle.layout.proofs.Fault.{no-field, a-field}
 use Rattle.layout.specs.Layout.{Line, Sized, sized_parts}
 use Rattle.layout.specs.Packing.{origin_of, line_of, lines_from, lies_within, sized_of, sized_from}
 use Rattle.judge.proofs.Laws.{both_true, lies, line-within}
 use Rattle.ascii_copy.proofs.Fields.{as-alike}
 use Rattle.draft.specs.Values.{Piece, here, missing, is_given, in_ascii, piece, fields_given, parts_given, layout_of, values_at, values_of_row}
-use Rattle.draft.specs.Completed.{next, is_here, characters_of, all_sizes, own_statement, first_unfit, first_unfit_part, lower}
+use Rattle.draft.specs.Completed.{next, is_here, characters_of, all_sizes, own_statement, first_unfit, first_unfit_part}
 use Rattle.draft_rows.proofs.Parts.{piece-size, few-own}
 
 -- a field at fault, and none, as the code tells it
@@ -33,24 +33,6 @@ field_at n m h e = ap Some e ∙ sym (a-field m (omega arith))
 
 pub none_at : (m : ℕ) → 0 ≡ m → None ≡ as_field m
 none_at m e = sym (no-field m (sym e))
-
--- the lower of two, by which of them there are
-module _ {m n : Option ℕ} (a b : ℕ) (e : m ≡ as_field a) (f : n ≡ as_field b) where
-  pub lower_both : {x y : ℕ} → m ≡ Some x → n ≡ Some y → {z : ℕ} → z ≡ min x y → Some z ≡ as_field (lower a b)
-  lower_both {x} {y} p q {z} is =
-      let first = faulted a x (sym e ∙ p) in
-      let second = faulted b y (sym f ∙ q) in
-      rw (ne_eqb a 0 (λ z. omega arith), ne_eqb b 0 (λ z. omega arith)) (field_at z (min a b) (omega arith) (omega arith))
-
-  pub lower-second : m ≡ None → n ≡ as_field (lower a b)
-  lower-second p = rw (eq-eqb a 0 (faultless a (sym e ∙ p))) f
-
-  pub lower_first : n ≡ None → m ≡ as_field (lower a b)
-  lower_first q = e ∙ ap as_field (by (eqb a 0) refl)
-    where
-      by : (c : Bool) → eqb a 0 ≡ c → a ≡ cond c b (cond (eqb b 0) a (min a b))
-      by true r = eqb-true a 0 r ∙ sym (faultless b (sym f ∙ q))
-      by false r = rw (eq-eqb b 0 (faultless b (sym f ∙ q)))
 
 -- a part that lies in the text is of its data type in ASCII as it is in its own set
 alike : (set : CharacterSet) (t : DataType) (xs : List ℕ) → of_type Ascii t (in_ascii set t xs) ≡ of_type set t xs

@@ -4,6 +4,8 @@
 ghost use Rattle.std.specs.Prelude.{cond, ◌≡◌, ◌+◌, ◌<◌};
 ghost use Rattle.measure.specs.Measures.{cents, items, views, no_sums, together, capped, capped_sums, Small};
 
+use std::ops::Add;
+
 #[derive(Clone, Copy)]
 pub struct Cents(pub u64);
 
@@ -31,33 +33,36 @@ const UNSTATABLE: u64 = 10_000_000_000_000_000;
 
 impl Cents {
     // A sum of cents stops there, since the amounts of all records of a file may pass 64 bits.
+    // Stays: a method and no `Add`, since a `+` that stops at a number would read as the plain sum.
     pub fn plus(self, more: Cents) -> Cents
         requires { (self.0 < 0x4000_0000_0000_0000) × (more.0 < 0x4000_0000_0000_0000) }
         ensures { result ≡ cents (capped (self.0 + more.0)) }
     {
         let sum = self.0 + more.0;
-        if sum <= UNSTATABLE {
-            Cents(sum)
-        } else {
-            Cents(UNSTATABLE)
-        }
+        Cents(sum.min(UNSTATABLE))
     }
 }
 
-impl Items {
-    pub fn plus(self, more: Items) -> Items
-        requires { self.0 + more.0 < 0x1_0000_0000_0000_0000 }
-        ensures { result ≡ items (self.0 + more.0) }
-    {
+impl Add for Items {
+    type Output = Items;
+
+    ghost can_add = { λ n more. n.0 + more.0 < 0x1_0000_0000_0000_0000 };
+
+    ghost add_gives = { λ n more sum. sum ≡ items (n.0 + more.0) };
+
+    fn add(self, more: Items) -> Items {
         Items(self.0 + more.0)
     }
 }
 
-impl Views {
-    pub fn plus(self, more: Views) -> Views
-        requires { self.0 + more.0 < 0x1_0000_0000_0000_0000 }
-        ensures { result ≡ views (self.0 + more.0) }
-    {
+impl Add for Views {
+    type Output = Views;
+
+    ghost can_add = { λ n more. n.0 + more.0 < 0x1_0000_0000_0000_0000 };
+
+    ghost add_gives = { λ n more sum. sum ≡ views (n.0 + more.0) };
+
+    fn add(self, more: Views) -> Views {
         Views(self.0 + more.0)
     }
 }
@@ -83,17 +88,12 @@ impl Sums {
         if begins {
             return Self::none();
         }
-        let debits = added.debits.plus(self.debits);
-        let debit = added.debit.plus(self.debit);
-        let credits = added.credits.plus(self.credits);
-        let credit = added.credit.plus(self.credit);
-        let views = added.views.plus(self.views);
         Sums {
-            debits,
-            debit,
-            credits,
-            credit,
-            views,
+            debits: added.debits + self.debits,
+            debit: added.debit.plus(self.debit),
+            credits: added.credits + self.credits,
+            credit: added.credit.plus(self.credit),
+            views: added.views + self.views,
         }
     }
 }

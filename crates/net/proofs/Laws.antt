@@ -1,14 +1,16 @@
 -- What is known of net positions: they add up, they can be taken back, and the bits of a table say one exactly where they should.
 -- Assumes nothing.
-use Prim.Native.Nat.{ℕ, suc, ◌+◌, ◌-◌, ◌≤◌}
+use Prim.Native.Nat.{ℕ, zero, suc, ◌+◌, ◌-◌, ◌^◌, ◌≤◌, ◌<◌}
 use native.Mathlib.Omega.{arith}
 use mathlib.Core.Bool.{Bool, true, false, ◌&&◌, cond}
 use mathlib.Core.Path.{◌≡◌, refl, sym, ap, subst, ◌∙◌}
-use lib.Dec.{leb, ltb, eqb}
-use lib.IntN.{ℤ, pos, negsuc, ◌+ℤ◌}
+use lib.Dec.{ltb, eqb}
+use lib.IntN.{ℤ, pos, negsuc, ◌+ℤ◌, ◌-ℤ◌}
 use lib.Signed.{le_z}
 use mir.Syntax.{w64}
-use mir.Val.{SFits}
+use mir.Val.{SFits, to_z, of_z}
+use Rattle.std.specs.Prelude.{Some, None, SomeIff, IsSome}
+use Rattle.std.specs.declared.option.Option.{Option}
 use mir.ValLaws.{to_z-of_z}
 use borrow.Author.Tests.{ltb-true, ltb-false, leb-true, le-leb, lt-ltb, le-ltb, eqb-true, eq-eqb}
 use Rattle.net.specs.Net.{net_of, bits_of, signed, is_net, within}
@@ -81,3 +83,60 @@ net-is (negsuc n) e =
       le-leb n 0x7FFF_FFFF_FFFF_FFFF (omega (arith, leb-true n 999_999_999_999_999_999 (both _ _ e).0)),
       eq-eqb (bits_of (negsuc n)) (bits_of (negsuc n)) refl,
     )
+
+-- what the library's difference is, and its sum where it fits
+pub difference : (credit debit : ℕ) → pos credit -ℤ pos debit ≡ net_of credit debit
+difference credit zero = sym (net-pos (credit + 0) credit 0 (omega arith))
+difference credit (suc n) = refl
+
+pub none_is : (o : Option ℤ) {P : Type 0} (v : ℤ) → SomeIff o P v → o ≡ None → P → ⊥
+none_is None v s e = s
+none_is (Some x) v s e = cc
+
+-- bits that say a number, and a number that none say
+pub fits-said : (bits : ℕ) (z : ℤ) → SFits w64 z → eqb bits (bits_of z) ≡ is_net bits z
+unfolding is_net
+fits-said bits (pos n) f = let h : n < 2 ^ 63 = f.sfits in rw (le-leb n 0x7FFF_FFFF_FFFF_FFFF (omega arith))
+fits-said bits (negsuc n) f = let h : n < 2 ^ 63 = f.sfits in rw (le-leb n 0x7FFF_FFFF_FFFF_FFFF (omega arith))
+
+pub said : (bits credit debit stated : ℕ) (z : ℤ) → SFits w64 (pos credit -ℤ pos debit) × (z ≡ pos credit -ℤ pos debit) → stated ≡ bits_of (to_z w64 (of_z w64 z))
+    → eqb bits stated ≡ is_net bits (net_of credit debit)
+said bits credit debit stated z (fits, is) e =
+    let holds : SFits w64 z = subst (SFits w64) (sym is) fits in
+    rw (e, to_z-of_z w64 z holds) (fits-said bits z holds) ∙ ap (is_net bits) (is ∙ difference credit debit)
+
+pub unsaid : (bits credit debit : ℕ) → (SFits w64 (pos credit -ℤ pos debit) → ⊥) → false ≡ is_net bits (net_of credit debit)
+unfolding is_net
+unsaid bits credit debit none = rw (← difference credit debit) (of (pos credit -ℤ pos debit) none)
+  where
+    of : (z : ℤ) → (SFits w64 z → ⊥) → false ≡ le_z (negsuc 0x7FFF_FFFF_FFFF_FFFF) z && le_z z (pos 0x7FFF_FFFF_FFFF_FFFF) && eqb bits (bits_of z)
+    of z none = by (le_z (negsuc 0x7FFF_FFFF_FFFF_FFFF) z && le_z z (pos 0x7FFF_FFFF_FFFF_FFFF)) refl
+      where
+        by : (t : Bool) → le_z (negsuc 0x7FFF_FFFF_FFFF_FFFF) z && le_z z (pos 0x7FFF_FFFF_FFFF_FFFF) ≡ t → false ≡ t && eqb bits (bits_of z)
+        by true e = absurd (none (held z e))
+        by false e = refl
+
+-- a number within the bound is there, and one that no i64 holds is beyond it
+pub within-some : (o : Option ℤ) (v : ℤ) (credit debit : ℕ) → within (net_of credit debit) ≡ true → SomeIff o (SFits w64 (pos credit -ℤ pos debit)) v → IsSome o
+within-some None v credit debit e s = absurd (s (subst (SFits w64) (sym (difference credit debit)) (within-fits (net_of credit debit) e)))
+within-some (Some x) v credit debit e s = refl
+
+beyond : (z : ℤ) → (SFits w64 z → ⊥) → false ≡ within z
+beyond z none = of (within z) refl
+  where
+    of : (t : Bool) → within z ≡ t → false ≡ t
+    of true e = absurd (none (within-fits z e))
+    of false e = refl
+
+module _ (net : ℤ) (holds : SFits w64 net) (credit debit : ℕ) where
+  pub beyond-above : debit ≤ credit → (SFits w64 (to_z w64 (of_z w64 net) +ℤ pos (credit - debit)) → ⊥) → false ≡ within (net +ℤ net_of credit debit)
+  beyond-above h none =
+      let same : net +ℤ net_of credit debit ≡ to_z w64 (of_z w64 net) +ℤ pos (credit - debit) = rw (to_z-of_z w64 net holds, net-pos (credit - debit) credit debit (omega arith)) in
+      beyond (net +ℤ net_of credit debit) (λ f. none (subst (SFits w64) same f))
+
+  pub beyond-below : credit < debit → (SFits w64 (to_z w64 (of_z w64 net) -ℤ pos (debit - credit)) → ⊥) → false ≡ within (net +ℤ net_of credit debit)
+  beyond-below h none =
+      let n = debit - credit - 1 in
+      let one_more : debit - credit ≡ suc n = omega arith in
+      let same : net +ℤ net_of credit debit ≡ to_z w64 (of_z w64 net) -ℤ pos (debit - credit) = rw (to_z-of_z w64 net holds, one_more, net-neg n credit debit (omega arith)) in
+      beyond (net +ℤ net_of credit debit) (λ f. none (subst (SFits w64) same f))

@@ -2,10 +2,11 @@
 // Stays: some of it does what a function of `passes` does, since the two readers are to stand on separate code (request 12).
 #![tactic(auto)]
 
-ghost use Rattle.std.specs.Prelude.{cond, ◌≡◌, ◌++◌, ◌+◌, ◌≤◌, length, drop};
+ghost use Rattle.std.specs.Prelude.{Err, cond, ◌≡◌, ◌++◌, ◌+◌, ◌≤◌, length, drop};
 ghost use Rattle.std.proofs.lemmas.List.Edits.{sets};
 ghost use Rattle.text.specs.CharacterSet.{set_of};
 ghost use Rattle.standing.specs.Standing.{capped_figures};
+ghost use Rattle.passes.specs.Answers.{Refused};
 ghost use Rattle.passes.specs.Rows.{outside_letter, amount_in, row_of, rows_of};
 ghost use Rattle.arrangement.specs.Arranged.{Arranged};
 ghost use Rattle.slow_reader.specs.Slowly.{slow_answer, slow_table};
@@ -87,6 +88,17 @@ fn write_rows(set: CharacterSet, file: &[u8], table: &mut [u64])
     }
 }
 
+// A refusal of the file as a whole.
+fn of_file(fault: Fault, place: u64) -> Refusal
+    ensures { Err result ≡ Refused fault place 0 }
+{
+    Refusal {
+        fault,
+        place,
+        offset: 0,
+    }
+}
+
 // The answer to a file of up to 65,536 bytes, and in the lent table the rows of an accepted one.
 pub fn read_slowly(file: &[u8], table: &mut [u64]) -> Answer
     ensures answer { result ≡ slow_answer file.now (length table.old) }
@@ -94,16 +106,16 @@ pub fn read_slowly(file: &[u8], table: &mut [u64]) -> Answer
     ensures arranged { length file.now ≤ 65_536 → Arranged file.now table.old result table.new }
 {
     if 65_536 < file.len() {
-        return Err(Refusal::of_file(Fault::Size, 0));
+        return Err(of_file(Fault::Size, 0));
     }
     if file.is_empty() {
-        return Err(Refusal::of_file(Fault::Size, 0));
+        return Err(of_file(Fault::Size, 0));
     }
     let set = slow_text::set_of(file);
     let totals = slow_cycle::answer(set, file)?;
     let needed = totals.records.0;
     if (table.len() as u64) / 7 < needed {
-        return Err(Refusal::of_file(Fault::Room, needed));
+        return Err(of_file(Fault::Room, needed));
     }
     write_rows(set, file, table);
     Ok(totals)

@@ -15,6 +15,7 @@ ghost use Rattle.passes.specs.Reading.{step_of, ended_with};
 ghost use Rattle.slow_step.specs.Places.{type_in, type_at, IsAnswer, Reached, Called, Enters};
 
 use frame::Extent;
+use judge::Flaw;
 use passes::{Answer, Fault, Refusal, Step, Totals, Turn};
 use standing::Standing;
 use text::CharacterSet;
@@ -84,8 +85,13 @@ fn examined<'a>(
     if !as_the_first(kind, s.present) {
         return Err(Fault::Place);
     }
-    slow_record::judge(set, kind, body)?;
-    agrees(set, file, s, at, kind)
+    // Stays: no ?, which would have `passes` turn the flaw into a fault (request 12: the slow reader calls nothing of `passes`).
+    match slow_record::judge(set, kind, body) {
+        Ok(()) => agrees(set, file, s, at, kind),
+        Err(Flaw::Length) => Err(Fault::Length),
+        Err(Flaw::UnknownType) => Err(Fault::UnknownType),
+        Err(Flaw::Field(n)) => Err(Fault::Field(n)),
+    }
 }
 
 fn record_at(set: CharacterSet, file: &[u8], s: Standing, kind: u64, at: usize) -> Step

@@ -25,6 +25,8 @@ pub fn is_list(list: &[u64]) -> bool
     places_claimed(list) <= places_there(list)
 }
 
+// Stays: that the list is one is asked by a clause, here and in two functions below: docs/DECISIONS.md, 20, names the crate for it, and a type for it would
+// be needed twice, over a list that is read and one that is written.
 // Whether there is a place for a file number more.
 pub fn has_place(list: &[u64]) -> bool
     requires { is_list list.now ≡ true }

@@ -20,7 +20,7 @@ mod translate;
 pub use sources::measure::Sums;
 pub use sources::standing::Standing;
 
-use sources::passes::{Answer, Fault};
+use sources::passes::{Answer, Fault, Refusal};
 
 /// A function of the cycle that was entered, or the one for what nothing calls for.
 #[derive(Clone, Copy, Debug, PartialEq, Eq)]
@@ -67,7 +67,7 @@ pub fn read_slowly(file: &[u8], table: &mut [u64]) -> ([u64; 12], Vec<Noted>) {
 /// Of an accepted file the record and the offset tell how many records and bytes were read.
 fn listed(answer: Answer, read: usize) -> [u64; 12] {
     match answer {
-        Answer::Accepted(totals) => {
+        Ok(totals) => {
             let Sums { views, debit, credits, credit, .. } = totals.sums;
             let items = totals.items;
             let numbers =
@@ -77,9 +77,9 @@ fn listed(answer: Answer, read: usize) -> [u64; 12] {
             listed[4..].copy_from_slice(&numbers);
             listed
         }
-        Answer::Refused(fault, record, offset) => {
+        Err(Refusal { fault, place, offset }) => {
             let (number, field) = numbered(fault);
-            [number, record, field as u64, offset as u64, 0, 0, 0, 0, 0, 0, 0, 0]
+            [number, place, field as u64, offset as u64, 0, 0, 0, 0, 0, 0, 0, 0]
         }
     }
 }

@@ -1,36 +1,10 @@
 use mathlib.Core.Path.{refl}
-use mathlib.Core.Logic.{⊎_elim}
 use native.Mathlib.Omega.{arith}
-use borrow.Author.Rules.{rules}
 use Rattle.text.specs.Capitals.{capital}
 use Rattle.ascii_copy.specs.CodePage037.{counterpart}
 use Rattle.ascii_copy.proofs.Counterparts.{in-run, in-gap}
 use Rattle.ascii_copy.proofs.counterpart_of_letter.Goals as goal
 use Rattle.ascii_copy.proofs.counterpart_of_letter.Goals.{in_default-via-then-byte-lt193+then-byte-lt129, in_default-via-then-byte-lt193+else-byte-lt129+else-byte-lt138+then-byte-lt145, in_default-via-then-byte-lt193+else-byte-lt129+else-byte-lt138+else-byte-lt145+else-byte-lt154+then-byte-lt162, in_default-via-then-byte-lt193+else-byte-lt129+else-byte-lt138+else-byte-lt145+else-byte-lt154+else-byte-lt162+else-byte-lt170, in_default-via-else-byte-lt193+else-byte-lt202+then-byte-lt209, in_default-via-else-byte-lt193+else-byte-lt202+else-byte-lt209+else-byte-lt218+then-byte-lt226, in_default-via-else-byte-lt193+else-byte-lt202+else-byte-lt209+else-byte-lt218+else-byte-lt226+else-byte-lt234}
-
-pub overflow_add-result : goal.overflow_add-result
-unfolding counterpart
-overflow_add-result c = search rules
-
-pub overflow_add-result-in-145-to-153 : goal.overflow_add-result-in-145-to-153
-unfolding counterpart
-overflow_add-result-in-145-to-153 c = search rules
-
-pub overflow_add-result-in-162-to-169 : goal.overflow_add-result-in-162-to-169
-unfolding counterpart
-overflow_add-result-in-162-to-169 c = search rules
-
-pub overflow_add-result-in-193-to-201 : goal.overflow_add-result-in-193-to-201
-unfolding counterpart
-overflow_add-result-in-193-to-201 c = search rules
-
-pub overflow_add-result-in-209-to-217 : goal.overflow_add-result-in-209-to-217
-unfolding counterpart
-overflow_add-result-in-209-to-217 c = search rules
-
-pub overflow_add-result-in-226-to-233 : goal.overflow_add-result-in-226-to-233
-unfolding counterpart
-overflow_add-result-in-226-to-233 c = search rules
 
 pub returns-in-129-to-137 : goal.returns-in-129-to-137
 unfolding counterpart
@@ -55,10 +29,6 @@ returns-in-209-to-217 c = in-run 0xD1 9 0x4A refl c.args.byte (omega arith) (ome
 pub returns-in-226-to-233 : goal.returns-in-226-to-233
 unfolding counterpart
 returns-in-226-to-233 c = in-run 0xE2 8 0x53 refl c.args.byte (omega arith) (omega arith)
-
-pub returns-in_default : goal.returns-in_default
-unfolding counterpart
-returns-in_default c = search rules
 
 pub counterpart_among_letters-requires : goal.counterpart_among_letters-requires
 unfolding capital

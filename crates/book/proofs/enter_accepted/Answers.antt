@@ -84,7 +84,7 @@ raise_head-requires c =
     let written : c.put_letters.new.book ≡ placed c.args.owner c.args.book.now (get_or c.args.book.now 0 0) 17 (entries_on (last_number c.args.owner c.args.book.now) c.args.number (letters_of c.args.file.now)) = c.put_letters.ensures ∙ ap₂ (λ (k n : ℕ). placed c.args.owner c.args.book.now k 17 (entries_on n c.args.number (letters_of c.args.file.now))) c.number_at-claimed.ensures last in
     let counted : used_in c.args.book.now c.number_at-claimed.result 17 ≡ rows_used c.args.book.now = ap (λ (n : ℕ). used_in c.args.book.now n 17) c.number_at-claimed.ensures in
     let used : c.rows_used-used.result ≡ rows_used c.args.book.now = c.rows_used-used.ensures.count ∙ counted in
-    let more : c.beyond_gaps.result ≡ c.args.totals.letters - gaps c.args.book.now = c.beyond_gaps.ensures ∙ ap₂ (λ (k n : ℕ). c.args.totals.letters - (k - n)) c.number_at-claimed.ensures used in
+    let more : c.saturating_sub.result ≡ c.args.totals.letters - gaps c.args.book.now = c.saturating_sub.ensures ∙ ap₂ (λ (k n : ℕ). c.args.totals.letters - (k - n)) c.number_at-claimed.ensures used in
     let free : c.rows_there.result - c.rows_used-used.result ≡ free_rows c.args.book.now = ap₂ (λ (k n : ℕ). k - n) c.rows_there.ensures used in
     let tested : has_room (own_of c.args.owner c.args.book.now c.args.list.now) (free_in c.args.book.now c.args.list.now) (letters_of c.args.file.now) ≡ c.has_place.result && c.has_room.result = room-is c.args.file.now c.args.table.now c.args.book.now c.args.list.now c.args.number c.args.owner c.args.totals c.requires.0 c.requires.1 c.requires.2 c.requires.3 letters
     ∙ ap₂ ◌&&◌ (sym c.has_place.ensures)
@@ -94,7 +94,7 @@ raise_head-requires c =
     let ranged : keeps_range (own_of c.args.owner c.args.book.now c.args.list.now) (letters_of c.args.file.now) ≡ c.keeps_range.result = range-is c.args.file.now c.args.table.now c.args.book.now c.args.list.now c.args.number c.args.owner c.args.totals c.requires.0 c.requires.1 c.requires.2 c.requires.3 letters ∙ sym c.keeps_range.ensures in
     let kept : keeps_range (own_of c.args.owner c.args.book.now c.args.list.now) (letters_of c.args.file.now) ≡ true = ranged ∙ c.if-not-keeps_range.false in
     let within_bound : within (position_of (plus (running_totals c.args.owner c.args.book.now) (figures c.args.totals.bundles c.args.totals.sums))) ≡ true = sym (range-is c.args.file.now c.args.table.now c.args.book.now c.args.list.now c.args.number c.args.owner c.args.totals c.requires.0 c.requires.1 c.requires.2 c.requires.3 letters) ∙ kept in
-    raisable c.args.file.now c.args.book.now c.args.list.now c.args.number c.args.owner c.args.totals letters c.put_letters.new.book written c.beyond_gaps.result more room within_bound (omega (arith, c.well_formed))
+    raisable c.args.file.now c.args.book.now c.args.list.now c.args.number c.args.owner c.args.totals letters c.put_letters.new.book written c.saturating_sub.result more room within_bound (omega (arith, c.well_formed))
 
 pub put_taken-requires : goal.put_taken-requires
 unfolding entries_of
@@ -140,5 +140,5 @@ returns c =
     let roomy : has_room (own_of c.args.owner c.args.book.now c.args.list.now) (free_in c.args.book.now c.args.list.now) (letters_of c.args.file.now) ≡ true = tested ∙ c.if-not-has_place-has_room.false in
     let last : c.number_at-last.result ≡ last_number c.args.owner c.args.book.now = c.number_at-last.ensures ∙ ap (λ (n : ℕ). get_or c.args.book.now n 0) c.block_of.ensures.place in
     let written : c.put_letters.new.book ≡ placed c.args.owner c.args.book.now (get_or c.args.book.now 0 0) 17 (entries_on (last_number c.args.owner c.args.book.now) c.args.number (letters_of c.args.file.now)) = c.put_letters.ensures ∙ ap₂ (λ (k n : ℕ). placed c.args.owner c.args.book.now k 17 (entries_on n c.args.number (letters_of c.args.file.now))) c.number_at-claimed.ensures last in
-    let more : c.beyond_gaps.result ≡ c.args.totals.letters - gaps c.args.book.now = c.beyond_gaps.ensures ∙ ap₂ (λ (k n : ℕ). c.args.totals.letters - (k - n)) c.number_at-claimed.ensures used in
-    record { answer = ap (λ (n : ℕ). Entered (n + 1) c.args.totals) last ∙ enters c.args.file.now c.args.table.now c.args.book.now c.args.list.now c.args.number c.args.owner c.args.totals c.requires.0 c.requires.1 c.requires.2 c.requires.3 letters c.if-table-needed.false (sym c.is_taken.ensures ∙ c.if-is_taken.false) kept roomy; rows = c.fill.ensures ∙ sym (filled c.args.file.now c.args.table.now c.args.book.now c.args.list.now c.args.number c.args.owner c.args.totals c.requires.0 c.requires.1 c.requires.2 c.requires.3 letters c.if-table-needed.false); book = book-raised c.args.file.now c.args.book.now c.args.list.now c.args.number c.args.owner c.args.totals letters c.put_letters.new.book written c.beyond_gaps.result more c.raise_head.new.book c.raise_head.ensures; list = c.put_taken.ensures }
+    let more : c.saturating_sub.result ≡ c.args.totals.letters - gaps c.args.book.now = c.saturating_sub.ensures ∙ ap₂ (λ (k n : ℕ). c.args.totals.letters - (k - n)) c.number_at-claimed.ensures used in
+    record { answer = ap (λ (n : ℕ). Entered (n + 1) c.args.totals) last ∙ enters c.args.file.now c.args.table.now c.args.book.now c.args.list.now c.args.number c.args.owner c.args.totals c.requires.0 c.requires.1 c.requires.2 c.requires.3 letters c.if-table-needed.false (sym c.is_taken.ensures ∙ c.if-is_taken.false) kept roomy; rows = c.fill.ensures ∙ sym (filled c.args.file.now c.args.table.now c.args.book.now c.args.list.now c.args.number c.args.owner c.args.totals c.requires.0 c.requires.1 c.requires.2 c.requires.3 letters c.if-table-needed.false); book = book-raised c.args.file.now c.args.book.now c.args.list.now c.args.number c.args.owner c.args.totals letters c.put_letters.new.book written c.saturating_sub.result more c.raise_head.new.book c.raise_head.ensures; list = c.put_taken.ensures }

@@ -10,7 +10,7 @@ use Rattle.drafting.proofs.draft_of.Goals as goal
 pub fill-requires : goal.fill-requires
 fill-requires c =
     let g = counted c.args.file.now _ (rw c.in_ok-totals.was at c.survey.ensures.1) in
-    (c.table-layouts.ensures, accepted-small c.args.file.now _ (sym c.survey.ensures.0 ∙ c.in_ok-totals.was), omega (arith, g, c.if-draft-needed.false))
+    (accepted-small c.args.file.now _ (sym c.survey.ensures.0 ∙ c.in_ok-totals.was), omega (arith, g, c.if-draft-needed.false))
 
 pub returns-then-draft-needed : goal.returns-then-draft-needed
 returns-then-draft-needed c =

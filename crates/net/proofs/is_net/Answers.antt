@@ -1,8 +1,8 @@
-use Rattle.net.proofs.Signed.{said-above, said-below}
+use Rattle.net.proofs.Laws.{said, unsaid}
 use Rattle.net.proofs.is_net.Goals as goal
 
-pub returns-then-debit-credit : goal.returns-then-debit-credit
-returns-then-debit-credit c = said-above c.args.bits c.args.credit c.args.debit c.if-debit-credit.true
+pub returns-in-Some : goal.returns-in-Some
+returns-in-Some c = said c.args.bits c.args.credit c.args.debit c.bits_of.result c.in-Some.net c.in-Some.ensures c.bits_of.ensures
 
-pub returns : goal.returns
-returns c = said-below c.args.bits c.args.credit c.args.debit c.if-debit-credit.false
+pub returns-in-None : goal.returns-in-None
+returns-in-None c = unsaid c.args.bits c.args.credit c.args.debit c.in-None.ensures

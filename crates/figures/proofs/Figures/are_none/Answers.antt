@@ -1,7 +1,8 @@
-use borrow.Author.Rules.{rules}
-use Rattle.figures.specs.Figures.{same}
+use mathlib.Core.Path.{ap, ◌∙◌}
+use Rattle.figures.specs.declared.Figures.{Figures}
+use Rattle.figures.specs.Figures.{covers}
+use Rattle.figures.proofs.Laws.{none-covers}
 use Rattle.figures.proofs.Figures.are_none.Goals as goal
 
 pub returns : goal.returns
-unfolding same
-returns c = search rules
+returns c = c.holds.ensures ∙ ap (λ (f : Figures). covers f c.args.self) c.none.ensures ∙ none-covers c.args.self

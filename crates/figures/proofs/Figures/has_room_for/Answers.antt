@@ -1,6 +1,18 @@
-use Rattle.figures.specs.Figures.{fits, covers}
+use mathlib.Core.Path.{ap, ◌∙◌}
+use native.Mathlib.Omega.{arith}
+use Rattle.figures.specs.declared.Figures.{Figures}
+use Rattle.figures.specs.Figures.{covers, minus, most}
+use Rattle.figures.proofs.Laws.{Covered, within_most, room-left}
 use Rattle.figures.proofs.Figures.has_room_for.Goals as goal
 
+pub without-requires : goal.without-requires
+without-requires c =
+    let small : Covered most c.args.self = record { bundles = omega arith; debits = omega arith; credits = omega arith; views = omega arith; debit = omega arith; credit = omega arith } in
+    ap (λ (f : Figures). covers f c.args.self) c.most.ensures ∙ within_most c.args.self small
+
 pub returns : goal.returns
-unfolding fits covers
-returns c = rw (c.leaves_room.ensures, c.leaves_room-2.ensures, c.leaves_room-3.ensures, c.leaves_room-4.ensures, c.leaves_room-5.ensures, c.leaves_room-6.ensures)
+returns c =
+    let small : Covered most c.args.self = record { bundles = omega arith; debits = omega arith; credits = omega arith; views = omega arith; debit = omega arith; credit = omega arith } in
+    c.holds.ensures
+    ∙ ap (λ (f : Figures). covers f c.args.more) (c.without.ensures ∙ ap (λ (f : Figures). minus f c.args.self) c.most.ensures)
+    ∙ room-left c.args.self c.args.more small
