@@ -16,13 +16,13 @@ pub decide-requires : goal.decide-requires
 decide-requires c = record { values = _; cued = cued c.requires.0 c.requires.2 c.plan_of_file-plan.result c.plan_of_file-plan.ensures.0 c.plan_of_file-plan.ensures.1 }
 
 pub returns-then-bytes-gt268435456 : goal.returns-then-bytes-gt268435456
-returns-then-bytes-gt268435456 c = settled-large c.args.file.now c.args.out.now c.args.list.now c.requires.0 c.requires.2 ((let decided' : c.decide.result ≡ capped_outcome (answer_from (values_left c.args.file.now) [] []) = c.decide.ensures (values_left c.args.file.now) (cued c.requires.0 c.requires.2 c.plan_of_file-plan.result c.plan_of_file-plan.ensures.0 c.plan_of_file-plan.ensures.1) in decided')) c.in_ok-decide.was (omega (arith, c.if-bytes-gt268435456.true))
+returns-then-bytes-gt268435456 c = rw c.of_file.ensures (settled-large c.args.file.now c.args.out.now c.args.list.now c.requires.0 c.requires.2 ((let decided' : c.decide.result ≡ capped_outcome (answer_from (values_left c.args.file.now) [] []) = c.decide.ensures (values_left c.args.file.now) (cued c.requires.0 c.requires.2 c.plan_of_file-plan.result c.plan_of_file-plan.ensures.0 c.plan_of_file-plan.ensures.1) in decided')) c.in_ok-decide.was (omega (arith, c.if-bytes-gt268435456.true)))
 
 pub returns-then-out-bytes : goal.returns-then-out-bytes
-returns-then-out-bytes c = settled-short c.args.file.now c.args.out.now c.args.list.now c.requires.0 c.requires.2 ((let decided' : c.decide.result ≡ capped_outcome (answer_from (values_left c.args.file.now) [] []) = c.decide.ensures (values_left c.args.file.now) (cued c.requires.0 c.requires.2 c.plan_of_file-plan.result c.plan_of_file-plan.ensures.0 c.plan_of_file-plan.ensures.1) in decided')) c.in_ok-decide.was (omega (arith, c.if-bytes-gt268435456.false)) (omega (arith, c.if-out-bytes.true))
+returns-then-out-bytes c = rw c.of_file-2.ensures (settled-short c.args.file.now c.args.out.now c.args.list.now c.requires.0 c.requires.2 ((let decided' : c.decide.result ≡ capped_outcome (answer_from (values_left c.args.file.now) [] []) = c.decide.ensures (values_left c.args.file.now) (cued c.requires.0 c.requires.2 c.plan_of_file-plan.result c.plan_of_file-plan.ensures.0 c.plan_of_file-plan.ensures.1) in decided')) c.in_ok-decide.was (omega (arith, c.if-bytes-gt268435456.false)) (omega (arith, c.if-out-bytes.true)))
 
 pub returns-then-list-rows : goal.returns-then-list-rows
-returns-then-list-rows c = settled-rows c.args.file.now c.args.out.now c.args.list.now c.requires.0 c.requires.2 ((let decided' : c.decide.result ≡ capped_outcome (answer_from (values_left c.args.file.now) [] []) = c.decide.ensures (values_left c.args.file.now) (cued c.requires.0 c.requires.2 c.plan_of_file-plan.result c.plan_of_file-plan.ensures.0 c.plan_of_file-plan.ensures.1) in decided')) c.in_ok-decide.was (omega (arith, c.if-bytes-gt268435456.false)) (omega (arith, c.if-out-bytes.false)) c.requires.1 (omega (arith, c.if-list-rows.true))
+returns-then-list-rows c = rw c.of_file-3.ensures (settled-rows c.args.file.now c.args.out.now c.args.list.now c.requires.0 c.requires.2 ((let decided' : c.decide.result ≡ capped_outcome (answer_from (values_left c.args.file.now) [] []) = c.decide.ensures (values_left c.args.file.now) (cued c.requires.0 c.requires.2 c.plan_of_file-plan.result c.plan_of_file-plan.ensures.0 c.plan_of_file-plan.ensures.1) in decided')) c.in_ok-decide.was (omega (arith, c.if-bytes-gt268435456.false)) (omega (arith, c.if-out-bytes.false)) c.requires.1 (omega (arith, c.if-list-rows.true)))
 
 pub write_left-requires : goal.write_left-requires
 write_left-requires c = (let can_write' : Writable c.args.set c.args.file.now c.args.way.end (record { plan = c.plan_of_file-plan.result; «open» = false; done = false }) (length c.args.out.now) = writable c.args.file.now c.args.out.now c.args.list.now c.requires.0 c.requires.2 ((let decided' : c.decide.result ≡ capped_outcome (answer_from (values_left c.args.file.now) [] []) = c.decide.ensures (values_left c.args.file.now) (cued c.requires.0 c.requires.2 c.plan_of_file-plan.result c.plan_of_file-plan.ensures.0 c.plan_of_file-plan.ensures.1) in decided')) c.in_ok-decide.was (omega (arith, c.if-bytes-gt268435456.false)) (omega (arith, c.if-out-bytes.false)) c.plan_of_file-plan.result c.plan_of_file-plan.ensures.0 c.plan_of_file-plan.ensures.1 in can_write')
