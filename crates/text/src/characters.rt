@@ -1,7 +1,7 @@
 // Clauses 5.1 and 5.2: the basic character types, in the order of the clauses, each as the ranges and single characters that the clause
 // and Table 1 print, in ASCII and in EBCDIC (code page 037). Nothing else stands here, so that the page can be laid beside clause 5.
 // Stays: comparisons joined by & and |, and not `matches!` of ranges: by it the loops over EBCDIC grow so large that the compiler leaves one of them
-// as a call (2.36 million instructions and not 2.26 for a file of 62 KB in EBCDIC; in ASCII 2.17 and not 2.24).
+// as a call (2.36 million instructions and not 2.19 for a file of 62 KB in EBCDIC; in ASCII 2.17 either way).
 ghost use Rattle.std.specs.Prelude.{◌≡◌};
 ghost use Rattle.text.specs.Characters.{is_alphabetic, is_blank, is_numeric, is_questionable, is_special, is_amount_symbol, is_cannot_read, is_dash, is_on_us_symbol, is_transit_symbol};
 
