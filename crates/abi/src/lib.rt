@@ -141,6 +141,7 @@ pub extern "C" fn x9_record(body: &[u8], answer: &mut [u64; 2]) -> u64
     judge_in(CharacterSet::Ascii, body, answer)
 }
 
+// Stays: the number is the C interface's, and no crate may write `From<u64>` for a type of `text` here.
 fn set_numbered(n: u64) -> CharacterSet
     ensures { result ≡ set_numbered n }
 {

@@ -30,6 +30,7 @@ fn put_letters(file: &[u8], number: u64, owner: u64, last: u64, book: &mut [u64]
     let mut place: usize = 17;
     let mut rows = claimed;
     let mut given = last;
+    // Stays: the step is what the record's length says, so that no range counts it.
     while at < file.len() {
         let Some(Extent { start, size }) = Cursor::at(at).frame(file) else {
             return;

@@ -4,6 +4,7 @@
 ghost use Rattle.std.specs.Prelude.{◌≡◌};
 ghost use Rattle.order.specs.MayFollow.{is_carried, follows, is_check_or_return, is_item, is_addendum, may_follow};
 
+// Stays: types are numbers here, since `may_follow` and `is_carried` of specs/MayFollow.antt answer for every number, of a type that is carried or not.
 pub fn is_check_or_return(kind: u64) -> bool
     ensures { result ≡ is_check_or_return kind }
 {

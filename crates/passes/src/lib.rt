@@ -223,6 +223,7 @@ fn survey_by<'a>(layouts: &'a Layouts, file: &'a [u8]) -> Answer
     let set = text::set_of(file);
     let mut s = Standing::start();
     let mut at: usize = 0;
+    // Stays: the step is what the record's length says, so that no range counts it.
     while at < file.len() {
         match record_at(set, layouts, file, s, at) {
             Err(fault) => {
@@ -304,6 +305,7 @@ pub fn fill(file: &[u8], table: &mut [u64])
     let mut s = Standing::start();
     let mut at: usize = 0;
     let mut base: usize = 0;
+    // Stays: as in `survey_by`.
     while at < file.len() {
         let Some(Extent { start, size }) = Cursor::at(at).frame(file) else {
             return;

@@ -102,6 +102,7 @@ pub fn decide<'a>(
         bytes: 0,
     };
     let mut at = cue;
+    // Stays: what comes next is found from where the making out stands; nothing is counted.
     while !at.done {
         let entry = salvage_next::next_entry(set, layouts, file, end, at);
         pen = enter_next(
@@ -130,6 +131,7 @@ pub fn write_left<'a>(
     let mut s = Standing::start();
     let mut bytes: usize = 0;
     let mut at = cue;
+    // Stays: as in `decide`.
     while !at.done {
         let entry = salvage_next::next_entry(set, layouts, file, end, at);
         let one = write_next(

@@ -13,6 +13,8 @@ use measure::{Cents, Items, Records, Sums, Views};
 use text::CharacterSet;
 
 // Stays: a type is document 01's number, and 0 is none, since `standing` of specs/Standing.antt and the theorems on it say so.
+// Stays: `Roomy s` and `capped_figures s ≡ s` are clauses and no fields here. What `moved` gives of figures that have room need not have it, and of a draft
+// and of a torn file figures are moved that are those of no file.
 #[derive(Clone, Copy)]
 pub struct Standing {
     // The type of the last record, 0 at the start; whether a bundle is open; the type of the checks or returns in the open bundle, and that of
