@@ -2,7 +2,7 @@
 // Stays: some of it does what a function of `standing` does, since the two readers are to stand on separate code (request 12).
 #![tactic(auto)]
 
-ghost use Rattle.std.specs.Prelude.{◌≡◌, true, false, cond, List, [], ◌∷◌, ℕ, ◌+◌, ◌<◌, ◌≤◌};
+ghost use Rattle.std.specs.Prelude.{◌≡◌, true, false, cond, List, [], ◌∷◌, ℕ, ◌+◌, ◌<◌};
 ghost use Rattle.text.specs.declared.character_set.CharacterSet.{CharacterSet};
 ghost use Rattle.text.specs.Number.{number};
 ghost use Rattle.measure.specs.Measures.{cents, sums, capped, no_sums, together, capped_sums, Small};
@@ -16,15 +16,14 @@ use text::CharacterSet;
 
 // A field of the record whose length field stands at an offset: so many characters from a position on, counted from 1.
 pub fn field_at(file: &[u8], offset: usize, first: usize, size: usize) -> &[u8]
-    requires { (1 ≤ first) × (first ≤ 200) }
     ensures { result.now ≡ characters file.now offset first size }
 {
-    slow_record::part_of(slow_text::behind(file, offset), 3 + first, size)
+    let body = slow_text::behind(slow_text::behind(file, offset), 4);
+    slow_record::part_of(body, first.saturating_sub(1), size)
 }
 
 // The number in a field.
 pub fn number_at(set: CharacterSet, file: &[u8], offset: usize, first: usize, size: usize) -> u64
-    requires { (1 ≤ first) × (first ≤ 200) }
     ensures { result ≡ number set (characters file.now offset first size) }
 {
     slow_text::number_in(set, field_at(file, offset, first, size))
