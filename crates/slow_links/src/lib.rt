@@ -2,7 +2,7 @@
 // Stays: some of it does what a function of `agree` does, since the two readers are to stand on separate code (request 12).
 #![tactic(auto)]
 
-ghost use Rattle.std.specs.Prelude.{◌≡◌, ◌&&◌, ◌||◌, not, cond, ℕ, ◌+◌, ◌<◌, eqb};
+ghost use Rattle.std.specs.Prelude.{◌≡◌, ◌&&◌, ◌||◌, not, cond, ◌<◌, eqb};
 ghost use Rattle.text.specs.Characters.{is_blank};
 ghost use Rattle.text.specs.DataTypes.{every};
 ghost use Rattle.text.specs.Number.{number};
