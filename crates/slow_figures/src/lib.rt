@@ -222,7 +222,7 @@ fn item_type(kind: u64, older: u64) -> u64
 
 // An item, a 25, a 31 or a 61, has no addenda and no views yet. It is added to the bundle, to the cash letter and to the file.
 fn with_item(set: CharacterSet, file: &[u8], s: Standing, kind: u64, offset: usize) -> Standing
-    requires { Roomy s × (capped_figures s ≡ s) × (is_item kind ≡ true) }
+    requires { Roomy s × (is_item kind ≡ true) }
     ensures { result ≡ capped_figures (onward set file.now s kind offset) }
 {
     let sums = item_sums(set, file, kind, offset);
