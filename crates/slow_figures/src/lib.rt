@@ -2,7 +2,7 @@
 // Stays: some of it does what a function of `standing` does, since the two readers are to stand on separate code (request 12).
 #![tactic(auto)]
 
-ghost use Rattle.std.specs.Prelude.{◌≡◌, true, false, cond, List, [], ◌∷◌, ℕ, ◌+◌, ◌<◌, ◌≤◌};
+ghost use Rattle.std.specs.Prelude.{◌≡◌, true, false, cond, List, [], ◌∷◌, ℕ, ◌+◌, ◌<◌};
 ghost use Rattle.text.specs.declared.character_set.CharacterSet.{CharacterSet};
 ghost use Rattle.text.specs.Number.{number};
 ghost use Rattle.measure.specs.Measures.{cents, sums, capped, no_sums, together, capped_sums, Small};
@@ -16,15 +16,14 @@ use text::CharacterSet;
 
 // A field of the record whose length field stands at an offset: so many characters from a position on, counted from 1.
 pub fn field_at(file: &[u8], offset: usize, first: usize, size: usize) -> &[u8]
-    requires { (1 ≤ first) × (first ≤ 200) }
     ensures { result.now ≡ characters file.now offset first size }
 {
-    slow_record::part_of(slow_text::behind(file, offset), 3 + first, size)
+    let body = slow_text::behind(slow_text::behind(file, offset), 4);
+    slow_record::part_of(body, first.saturating_sub(1), size)
 }
 
 // The number in a field.
 pub fn number_at(set: CharacterSet, file: &[u8], offset: usize, first: usize, size: usize) -> u64
-    requires { (1 ≤ first) × (first ≤ 200) }
     ensures { result ≡ number set (characters file.now offset first size) }
 {
     slow_text::number_in(set, field_at(file, offset, first, size))
@@ -223,7 +222,7 @@ fn item_type(kind: u64, older: u64) -> u64
 
 // An item, a 25, a 31 or a 61, has no addenda and no views yet. It is added to the bundle, to the cash letter and to the file.
 fn with_item(set: CharacterSet, file: &[u8], s: Standing, kind: u64, offset: usize) -> Standing
-    requires { Roomy s × (capped_figures s ≡ s) × (is_item kind ≡ true) }
+    requires { Roomy s × (is_item kind ≡ true) }
     ensures { result ≡ capped_figures (onward set file.now s kind offset) }
 {
     let sums = item_sums(set, file, kind, offset);

@@ -2,7 +2,7 @@
 // Stays: some of it does what a function of `agree` does, since the two readers are to stand on separate code (request 12).
 #![tactic(auto)]
 
-ghost use Rattle.std.specs.Prelude.{◌≡◌, ◌&&◌, ◌||◌, not, cond, ℕ, ◌+◌, ◌<◌, ◌≤◌, eqb};
+ghost use Rattle.std.specs.Prelude.{◌≡◌, ◌&&◌, ◌||◌, not, cond, ◌<◌, eqb};
 ghost use Rattle.text.specs.Characters.{is_blank};
 ghost use Rattle.text.specs.DataTypes.{every};
 ghost use Rattle.text.specs.Number.{number};
@@ -35,7 +35,6 @@ fn same_field(
     place: usize,
     size: usize,
 ) -> bool
-    requires { (1 ≤ first) × (first ≤ 200) × (1 ≤ place) × (place ≤ 200) }
     ensures { result ≡ same (characters file.now offset first size) (characters file.now other place size) }
 {
     same_bytes(
@@ -99,7 +98,6 @@ fn numbered_on(
 
 // Fields 7 and 8 of a 52 are not blank where its 50 says that the view is signed.
 fn is_signed(set: CharacterSet, file: &[u8], signature: u64, offset: usize, first: usize) -> bool
-    requires { (1 ≤ first) × (first ≤ 200) }
     ensures { result ≡ signed set signature (characters file.now offset first 16) }
 {
     signature != 1 || !slow_text::all_blank(set, field_at(file, offset, first, 16))
@@ -114,7 +112,7 @@ fn header_over(s: Standing) -> usize
 
 // Where an item has its sequence number: field 8 of a 61, field 7 of a 25 or a 31.
 fn sequence_place(holder: u64) -> usize
-    ensures { (result ≡ cond (eqb holder 61) 63 58) × (1 ≤ result) × (result ≤ 200) }
+    ensures { result ≡ cond (eqb holder 61) 63 58 }
 {
     if holder == 61 { 63 } else { 58 }
 }
@@ -189,7 +187,6 @@ fn states(
     size: usize,
     value: u64,
 ) -> bool
-    requires { (1 ≤ first) × (first ≤ 200) }
     ensures { result ≡ eqb (number set (characters file.now offset first size)) value }
 {
     number_at(set, file, offset, first, size) == value
