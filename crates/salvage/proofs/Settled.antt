@@ -10,7 +10,9 @@ use borrow.Author.Tests.{le-leb, lt-leb}
 use Rattle.std.specs.Prelude.{Err}
 use Rattle.text.specs.CharacterSet.{set_of}
 use Rattle.text.specs.declared.character_set.CharacterSet.{CharacterSet}
+use Rattle.passes.specs.declared.Fault.{Fault}
 use Rattle.passes.specs.declared.Refusal.{Refusal}
+use Rattle.passes.specs.Answers.{Answer, Accepted}
 use Rattle.passes.specs.declared.Fault.TheVariants.{Size, Room, Nothing}
 use Rattle.passes.specs.declared.Totals.{Totals}
 use Rattle.file_as_records.specs.Framed.{Body}
@@ -35,6 +37,15 @@ use Rattle.salvage_passes.specs.Writable.{Writable}
 use Rattle.salvage.specs.Steps.{WalkedTo, SalvagedAs}
 use Rattle.salvage.proofs.Begun.{cued}
 use Rattle.salvage_same.proofs.Promised as same
+
+-- a refusal of the file as a whole, as it is answered here
+abbrev as_outcome : Answer → Outcome
+as_outcome (Accepted t) = Written 0 t
+as_outcome (Err r) = Err r
+
+pub as-built : (r : Refusal) (fault : Fault) (place : ℕ) → ◌≡◌ {A = Answer} (Err r) (Err (record { fault = fault; place = place; offset = 0 }))
+    → ◌≡◌ {A = Outcome} (Err r) (Refused fault place 0)
+as-built r fault place e = ap as_outcome e
 
 module _ (file out list : List ℕ) where
   settled : (o : Outcome) → salvage_outcome file (length out) (length list) ≡ o

@@ -41,10 +41,11 @@ fn put_row(list: &mut [u64], row: usize, at: usize, mark: Marking)
     requires { row + 4 ≤ length list.old }
     ensures { list.new ≡ sets list.old row (at ∷ mark.kind ∷ status_of (meant mark.fate) ∷ fault_number (meant mark.fate) ∷ []) }
 {
+    let number = mark.fate.number();
     list[row] = at as u64;
     list[row + 1] = mark.kind;
     list[row + 2] = mark.fate.status();
-    list[row + 3] = mark.fate.number();
+    list[row + 3] = number;
 }
 
 // Offset, type, status and number of each record from here on.

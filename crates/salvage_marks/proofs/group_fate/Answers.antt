@@ -10,7 +10,7 @@ pub run_fault-requires : goal.run_fault-requires
 run_fault-requires c = c.requires (both_hold c.is_run.result c.args.plan.sound c.if-not-is_run-plan.false)
 
 pub returns-in-Err : goal.returns-in-Err
-returns-in-Err c = fate-fault c.args.set c.args.file.now c.args.plan c.args.group (ap (λ (b : Bool). b && c.args.plan.sound) (sym c.is_run.ensures) ∙ c.if-not-is_run-plan.false) _ c.run_fault.ensures c.in-Err.fault c.in-Err.is
+returns-in-Err c = fate-fault c.args.set c.args.file.now c.args.plan c.args.group (ap (λ (b : Bool). b && c.args.plan.sound) (sym c.is_run.ensures) ∙ c.if-not-is_run-plan.false) _ c.run_fault.ensures _ c.in-Err.is
 
 pub returns-in-Ok : goal.returns-in-Ok
 returns-in-Ok c = fate-through c.args.set c.args.file.now c.args.plan c.args.group (ap (λ (b : Bool). b && c.args.plan.sound) (sym c.is_run.ensures) ∙ c.if-not-is_run-plan.false) _ c.run_fault.ensures c.in-Ok.field-0 c.in-Ok.is c.kept_if.result c.kept_if.ensures
