@@ -4,57 +4,69 @@
 mod salvaging;
 mod slowly;
 
-ghost use Rattle.std.specs.Prelude.{◌≡◌, ℕ, Err};
+ghost use Rattle.std.specs.Prelude.{◌≡◌};
 ghost use Rattle.text.specs.declared.character_set.CharacterSet.TheVariants.{Ascii};
-ghost use Rattle.passes.specs.Answers.{Accepted, number_of, numbers_of};
-ghost use Rattle.book_model.specs.Entering.{Entered};
-ghost use Rattle.abi.specs.Filled.{set_numbered, entering_numbers};
+ghost use Rattle.passes.specs.Answers.{answer_number, numbers_of};
+ghost use Rattle.abi.specs.Filled.{set_numbered, outcome_number, outcome_numbers, entering_number, entering_numbers};
 ghost use Rattle.abi.specs.Outcomes.{Reading, Writing, Drafting, Picturing, Judging, Tagging, Booking, LookingUp, Tallying, Withdrawing, Tidying};
 
-use book_model::Tally;
-use passes::{Refusal, Totals};
+use book_model::{Entering, Tally};
+use draft::Outcome;
+use passes::Answer;
 pub use salvaging::x9_salvage;
 pub use slowly::x9_read_slowly;
 use text::CharacterSet;
 
-// The numbers of an acceptance, where the file has so many bytes, and of a refusal.
-fn fill_accepted(bytes: u64, totals: Totals, answer: &mut [u64; 12])
-    ensures { answer.new ≡ numbers_of bytes (Accepted totals) }
+// The number and the numbers of an answer, where the file has so many bytes: those of an acceptance, or of a refusal.
+fn tell(bytes: u64, told: Answer, answer: &mut [u64; 12]) -> u64
+    ensures { (result ≡ answer_number told) × (answer.new ≡ numbers_of bytes told) }
 {
-    let sums = totals.sums;
-    let records = totals.records.0;
-    let letters = totals.letters;
-    let bundles = totals.bundles;
-    let items = totals.items.0;
-    let views = sums.views.0;
-    let cents = sums.debit.0;
-    let credits = sums.credits.0;
-    let credit_cents = sums.credit.0;
-    *answer = [
-        0,
-        records,
-        0,
-        bytes,
-        records,
-        letters,
-        bundles,
-        items,
-        views,
-        cents,
-        credits,
-        credit_cents,
-    ];
+    match told {
+        Ok(totals) => {
+            let sums = totals.sums;
+            let records = totals.records.0;
+            let letters = totals.letters;
+            let bundles = totals.bundles;
+            let items = totals.items.0;
+            let views = sums.views.0;
+            let cents = sums.debit.0;
+            let credits = sums.credits.0;
+            let credit_cents = sums.credit.0;
+            *answer = [
+                0,
+                records,
+                0,
+                bytes,
+                records,
+                letters,
+                bundles,
+                items,
+                views,
+                cents,
+                credits,
+                credit_cents,
+            ];
+            0
+        }
+        Err(refusal) => {
+            let number = refusal.fault.number();
+            let field = refusal.fault.field() as u64;
+            let place = refusal.place;
+            let offset = refusal.offset;
+            *answer = [number, place, field, offset as u64, 0, 0, 0, 0, 0, 0, 0, 0];
+            number
+        }
+    }
 }
 
-fn fill_refused(refusal: Refusal, answer: &mut [u64; 12]) -> u64
-    ensures { (result ≡ number_of refusal.fault) × ((bytes : ℕ) → answer.new ≡ numbers_of bytes (Err refusal)) }
+// The same of a making out: the bytes written are the offset.
+fn tell_outcome(outcome: Outcome, answer: &mut [u64; 12]) -> u64
+    ensures { (result ≡ outcome_number outcome) × (answer.new ≡ outcome_numbers outcome) }
 {
-    let number = refusal.fault.number();
-    let field = refusal.fault.field() as u64;
-    let place = refusal.place;
-    let offset = refusal.offset;
-    *answer = [number, place, field, offset as u64, 0, 0, 0, 0, 0, 0, 0, 0];
-    number
+    match outcome {
+        Ok((bytes, totals)) => tell(bytes as u64, Ok(totals), answer),
+        Err(refusal) => tell(0, Err(refusal), answer),
+    }
 }
 
 // The reading of a whole file: the number, in `table` the rows of an accepted file, and in `answer` number, record, field, offset, and
@@ -64,13 +76,7 @@ pub extern "C" fn x9_read(file: &[u8], table: &mut [u64], answer: &mut [u64; 12]
     ensures { Reading file.now table.old result table.new answer.new }
 {
     let size = file.len() as u64;
-    match reader::read(file, table) {
-        Ok(totals) => {
-            fill_accepted(size, totals, answer);
-            0
-        }
-        Err(refusal) => fill_refused(refusal, answer),
-    }
+    tell(size, reader::read(file, table), answer)
 }
 
 // The making out of a whole file: the number, in `out` the bytes of a file that could be made out, and in `answer` the numbers as x9_read has them, with
@@ -84,13 +90,7 @@ pub extern "C" fn x9_write<'a>(
 ) -> u64
     ensures { Writing text.now draft.now out.old result out.new answer.new }
 {
-    match writer::write(text, draft, out) {
-        Ok((bytes, totals)) => {
-            fill_accepted(bytes as u64, totals, answer);
-            0
-        }
-        Err(refusal) => fill_refused(refusal, answer),
-    }
+    tell_outcome(writer::write(text, draft, out), answer)
 }
 
 // The draft of an accepted file: the number, in `draft` its rows, and in `answer` the numbers of the reading.
@@ -99,13 +99,7 @@ pub extern "C" fn x9_draft(file: &[u8], draft: &mut [u64], answer: &mut [u64; 12
     ensures { Drafting file.now draft.old result draft.new answer.new }
 {
     let bytes = file.len() as u64;
-    match drafting::draft_of(file, draft) {
-        Ok(totals) => {
-            fill_accepted(bytes, totals, answer);
-            0
-        }
-        Err(refusal) => fill_refused(refusal, answer),
-    }
+    tell(bytes, drafting::draft_of(file, draft), answer)
 }
 
 // The picture call: the number, and in `place` number, field, and start and length of the Image Data part within the file.
@@ -172,56 +166,18 @@ pub extern "C" fn x9_tiff(image: &[u8], answer: &mut [u64; 2]) -> u64
     number
 }
 
-// The numbers of an entering: those of the reading, and the first entry number given; and of its refusal.
-fn fill_entered(bytes: u64, totals: Totals, first: u64, answer: &mut [u64; 13])
-    ensures { answer.new ≡ entering_numbers bytes (Entered first totals) }
+// The number and the numbers of an entering: those of the reading, and the first entry number given.
+fn tell_entered(bytes: u64, entering: Entering, answer: &mut [u64; 13]) -> u64
+    ensures { (result ≡ entering_number entering) × (answer.new ≡ entering_numbers bytes entering) }
 {
-    let sums = totals.sums;
-    let records_read = totals.records.0;
-    let letters_read = totals.letters;
-    let bundles_read = totals.bundles;
-    let items_read = totals.items.0;
-    let views_read = sums.views.0;
-    let debit_cents = sums.debit.0;
-    let credits_read = sums.credits.0;
-    let credited_cents = sums.credit.0;
-    *answer = [
-        0,
-        records_read,
-        0,
-        bytes,
-        records_read,
-        letters_read,
-        bundles_read,
-        items_read,
-        views_read,
-        debit_cents,
-        credits_read,
-        credited_cents,
-        first,
-    ];
-}
-
-fn fill_not_entered(refusal: Refusal, answer: &mut [u64; 13]) -> u64
-    ensures { (result ≡ number_of refusal.fault) × ((bytes : ℕ) → answer.new ≡ entering_numbers bytes (Err refusal)) }
-{
-    let number = refusal.fault.number();
-    let field = refusal.fault.field() as u64;
-    *answer = [
-        number,
-        refusal.place,
-        field,
-        refusal.offset as u64,
-        0,
-        0,
-        0,
-        0,
-        0,
-        0,
-        0,
-        0,
-        0,
-    ];
+    let (first, told) = match entering {
+        Ok((first, totals)) => (first, Ok(totals)),
+        Err(refusal) => (0, Err(refusal)),
+    };
+    let mut read = [0; 12];
+    let number = tell(bytes, told, &mut read);
+    answer[..12].copy_from_slice(&read);
+    answer[12] = first;
     number
 }
 
@@ -240,13 +196,11 @@ pub extern "C" fn x9_book_enter(
     ensures { Booking file.now number owner table.old book.old list.old result table.new book.new list.new answer.new }
 {
     let bytes = file.len() as u64;
-    match book::enter(file, number, owner, table, book, list) {
-        Ok((first, totals)) => {
-            fill_entered(bytes, totals, first, answer);
-            0
-        }
-        Err(refusal) => fill_not_entered(refusal, answer),
-    }
+    tell_entered(
+        bytes,
+        book::enter(file, number, owner, table, book, list),
+        answer,
+    )
 }
 
 // Looking up one of an owner's entries in a day book: the number, and in `found` number, entry number, file number, and the letter's figures.

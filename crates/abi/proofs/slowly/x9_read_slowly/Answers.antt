@@ -1,13 +1,8 @@
 use Rattle.arrangement.proofs.Theorem.{of-answer}
-use mathlib.Core.Path.{sym, ◌∙◌}
+use mathlib.Core.Path.{sym}
 use Rattle.abi.proofs.slowly.x9_read_slowly.Goals as goal
 
-pub returns-in-Ok : goal.returns-in-Ok
-returns-in-Ok c =
-    let told = sym c.read_slowly.ensures.answer ∙ c.in-Ok.is in
-    record { number = rw told; rows = c.read_slowly.ensures.rows; answer = rw (told, c.fill_accepted.ensures); arranged = λ h. of-answer c.read_slowly.ensures.answer (c.read_slowly.ensures.arranged h) }
-
-pub returns-in-Err : goal.returns-in-Err
-returns-in-Err c =
-    let told = sym c.read_slowly.ensures.answer ∙ c.in-Err.is in
-    record { number = rw (told, c.fill_refused.ensures.0); rows = c.read_slowly.ensures.rows; answer = rw told (c.fill_refused.ensures.1 0); arranged = λ h. of-answer c.read_slowly.ensures.answer (c.read_slowly.ensures.arranged h) }
+pub returns : goal.returns
+returns c =
+    let told = sym c.read_slowly.ensures.answer in
+    record { number = rw told c.tell.ensures.0; rows = c.read_slowly.ensures.rows; answer = rw told c.tell.ensures.1; arranged = λ h. of-answer c.read_slowly.ensures.answer (c.read_slowly.ensures.arranged h) }
