@@ -26,12 +26,12 @@ fn enter_next<'a>(
     file: &'a [u8],
     entry: Entry,
     pen: Pen,
-    text: &mut [u8],
-    row: &mut [u64],
+    text: &mut [u8; 85],
+    row: &mut [u64; 10],
     sheet: &mut [u8],
 ) -> Entered
-    requires { (length text.old ≡ 85) × (length row.old ≡ 10) × NextEntered set file.now entry sheet.old pen }
-    ensures { (length text.new ≡ 85) × (length row.new ≡ 10) × ((e : NextEntered set file.now entry sheet.old pen) → EnteredAs e.value e.entering.others e.entering.begun.file e.entering.begun.past result sheet.new) }
+    requires { NextEntered set file.now entry sheet.old pen }
+    ensures { (e : NextEntered set file.now entry sheet.old pen) → EnteredAs e.value e.entering.others e.entering.begun.file e.entering.begun.past result sheet.new }
 {
     let body = frame::part_of(file, entry.start, entry.size);
     if entry.kept {
@@ -57,13 +57,13 @@ fn write_next<'a>(
     file: &'a [u8],
     entry: Entry,
     s: Standing,
-    text: &mut [u8],
-    row: &mut [u64],
+    text: &mut [u8; 85],
+    row: &mut [u64; 10],
     sheet: &mut [u8],
     out: &mut [u8],
 ) -> Progress
-    requires { (length text.old ≡ 85) × (length row.old ≡ 10) × NextWritten set file.now entry sheet.old s (length out.old) }
-    ensures { (length text.new ≡ 85) × (length row.new ≡ 10) × ((w : NextWritten set file.now entry sheet.old s (length out.old)) → Onward (w.value ∷ w.ready.others) w.ready.ready.file w.ready.ready.past out.old w.ready.others sheet.new result.standing result.bytes out.new) }
+    requires { NextWritten set file.now entry sheet.old s (length out.old) }
+    ensures { (w : NextWritten set file.now entry sheet.old s (length out.old)) → Onward (w.value ∷ w.ready.others) w.ready.ready.file w.ready.ready.past out.old w.ready.others sheet.new result.standing result.bytes out.new }
 {
     let body = frame::part_of(file, entry.start, entry.size);
     if entry.kept {

@@ -8,7 +8,7 @@ use mathlib.Core.Option.{some}
 use mathlib.Core.Path.{◌≡◌, refl, sym, ap, ap₂, ◌∙◌, subst}
 use borrow.Author.Tests.{eqb-true}
 use lib.Dec.{eqb}
-use lib.ListN.{length, get_or, take, set, length-set}
+use lib.ListN.{length, get_or, take, set}
 use lib.Seq.{sets, length-sets}
 use Rattle.text.specs.declared.character_set.CharacterSet.{CharacterSet}
 use Rattle.text.specs.declared.character_set.CharacterSet.TheVariants.{Ascii}
@@ -144,12 +144,8 @@ module _ (numbers : List ℕ) (kind : ℕ) {own : List ℕ} (packed : Packed num
         seven = free-given s body seventh both (omega (arith, both_long, own-two.room)) (free-stored s body seventh once both room-seventh second)
 
         -- both stand in the text, and the row says so
-        values : (row : List ℕ) → 2 ≤ length row → values_of_row Ascii both (set (set row 0 kind) 1 0) ≡ control_values s (layout_of kind) (some body)
+        pub control-put : (row : List ℕ) → length row ≡ 10 → values_of_row Ascii both (set (set row 0 kind) 1 0) ≡ control_values s (layout_of kind) (some body)
         unfolding values_of_row
-        values row h =
-            let head = row-head kind row h in
+        control-put row ten =
+            let head = row-head kind row (omega (arith, ten)) in
             rw (head.0, head.1) (own-two.given Ascii both _ _ ∙ ap₂ (two_of kind) six seven ∙ sym (own-two.kept s body))
-
-        pub control-put : (row : List ℕ) → length row ≡ 10
-            → (length both ≡ 85) × (length (set (set row 0 kind) 1 0) ≡ 10) × (values_of_row Ascii both (set (set row 0 kind) 1 0) ≡ control_values s (layout_of kind) (some body))
-        control-put row ten = (both_long, simp length-set ten, values row (omega arith))

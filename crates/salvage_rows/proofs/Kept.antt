@@ -4,7 +4,7 @@ use native.Mathlib.Omega.{arith}
 use mathlib.Core.List.{List}
 use mathlib.Core.Path.{◌≡◌, ap, ◌∙◌}
 use lib.ListN.{length, drop}
-use lib.Seq.{sets, length-sets, sets-eq}
+use lib.Seq.{sets, sets-eq}
 use Rattle.text.specs.declared.character_set.CharacterSet.{CharacterSet}
 use Rattle.draft.specs.Values.{values_of_row, values_of_body}
 use Rattle.drafting.specs.DraftOf.{row_of}
@@ -12,9 +12,7 @@ use Rattle.drafting.proofs.Rows.{row-long}
 use Rattle.drafting.proofs.Itself.{values-itself}
 
 pub kept_put : (set : CharacterSet) (body row after : List ℕ) → length row ≡ 10 → after ≡ sets row 0 (row_of set body 0)
-    → (length after ≡ 10) × (values_of_row set body after ≡ values_of_body set body)
+    → values_of_row set body after ≡ values_of_body set body
 kept_put set body row after long e =
-    let own = row_of set body 0 in (
-      ap length e ∙ length-sets row 0 own ∙ long,
-      ap (values_of_row set body) (e ∙ sets-eq own row 0 (omega (arith, row-long set body 0))) ∙ values-itself set body (drop (0 + length own) row),
-    )
+    let own = row_of set body 0 in
+    ap (values_of_row set body) (e ∙ sets-eq own row 0 (omega (arith, row-long set body 0))) ∙ values-itself set body (drop (0 + length own) row)

@@ -16,9 +16,8 @@ use layout::Layouts;
 use text::CharacterSet;
 
 // A record that is kept: its own body is the text.
-pub fn put_kept<'a>(set: CharacterSet, layouts: &'a Layouts, body: &'a [u8], row: &mut [u64])
-    requires { length row.old ≡ 10 }
-    ensures { (length row.new ≡ 10) × (values_of_row set body.now row.new ≡ values_of_body set body.now) }
+pub fn put_kept<'a>(set: CharacterSet, layouts: &'a Layouts, body: &'a [u8], row: &mut [u64; 10])
+    ensures { values_of_row set body.now row.new ≡ values_of_body set body.now }
 {
     drafting::put_row(set, layouts, body, 0, row, 0);
 }
@@ -58,11 +57,11 @@ pub fn put_control<'a>(
     layouts: &'a Layouts,
     kind: u64,
     body: &'a [u8],
-    text: &mut [u8],
-    row: &mut [u64],
+    text: &mut [u8; 85],
+    row: &mut [u64; 10],
 )
-    requires { (is_control kind ≡ true) × (length text.old ≡ 85) × (length row.old ≡ 10) }
-    ensures { (length text.new ≡ 85) × (length row.new ≡ 10) × (values_of_row Ascii text.new row.new ≡ control_values set (layout_of kind) (some body.now)) }
+    requires { is_control kind ≡ true }
+    ensures { values_of_row Ascii text.new row.new ≡ control_values set (layout_of kind) (some body.now) }
 {
     let own = layouts.own_numbers(kind);
     put_free(set, own[6], body, text);

@@ -3,39 +3,29 @@ use mathlib.Core.List.{[]}
 use borrow.Author.Tests.{not-true, not-false}
 use Rattle.text.specs.declared.character_set.CharacterSet.TheVariants.{Ascii}
 use Rattle.std.proofs.result.Match.{err_is}
-use Rattle.salvage_next.specs.Cued.{turns}
 use Rattle.salvage_passes.proofs.Deciding.{sofar-first, sofar-roomy, sofar-end, next-entered, next-fewer, sofar-stop, sofar-on}
 use Rattle.salvage_passes.proofs.decide.Goals as goal
 
 pub loop-at-init : goal.loop-at-init
-loop-at-init c = (refl, refl, λ all cued. sofar-first cued refl (c.start.ensures Ascii []))
+loop-at-init c = λ all cued. sofar-first cued refl (c.start.ensures Ascii [])
 
 pub next_entry-entry-requires : goal.next_entry-entry-requires
-next_entry-entry-requires c = (not-true _ c.loop-at-test.true, record { values = (c.loop-at.invariant.2 c.requires.values c.requires.cued).left; cued = (c.loop-at.invariant.2 c.requires.values c.requires.cued).cued })
-
-pub slice_bounds-enter_next-end : goal.slice_bounds-enter_next-end
-slice_bounds-enter_next-end c = sym c.loop-at.invariant.0
-
-pub slice_bounds-enter_next-end-in-loop-at : goal.slice_bounds-enter_next-end-in-loop-at
-slice_bounds-enter_next-end-in-loop-at c = sym c.loop-at.invariant.1
-
-pub slice_bounds-enter_next-end-in-loop-at-2 : goal.slice_bounds-enter_next-end-in-loop-at-2
-slice_bounds-enter_next-end-in-loop-at-2 c = sym (c.loop-at.invariant.2 c.requires.values c.requires.cued).begun.stands.long
+next_entry-entry-requires c = (not-true _ c.loop-at-test.true, record { values = (c.loop-at.invariant c.requires.values c.requires.cued).left; cued = (c.loop-at.invariant c.requires.values c.requires.cued).cued })
 
 pub enter_next-requires : goal.enter_next-requires
-enter_next-requires c = (c.loop-at.invariant.0, c.loop-at.invariant.1, next-entered (c.loop-at.invariant.2 c.requires.values c.requires.cued) c.next_entry-entry.ensures)
+enter_next-requires c = next-entered (c.loop-at.invariant c.requires.values c.requires.cued) c.next_entry-entry.ensures
 
 pub returns-in_err-pen : goal.returns-in_err-pen
-returns-in_err-pen c = λ all cued. sofar-stop (c.loop-at.invariant.2 all cued) c.next_entry-entry.ensures c.enter_next.result _ c.enter_next.ensures.2 c.in_err-pen.was _ (err_is _ _ c.from_residual.ensures.1)
+returns-in_err-pen c = λ all cued. sofar-stop (c.loop-at.invariant all cued) c.next_entry-entry.ensures c.enter_next.result _ c.enter_next.ensures c.in_err-pen.was _ (err_is _ _ c.from_residual.ensures.1)
 
 pub loop-at-smaller : goal.loop-at-smaller
-loop-at-smaller c = next-fewer (c.loop-at.invariant.2 c.requires.values c.requires.cued) c.next_entry-entry.ensures
+loop-at-smaller c = next-fewer (c.loop-at.invariant c.requires.values c.requires.cued) c.next_entry-entry.ensures
 
 pub loop-at-preserved : goal.loop-at-preserved
-loop-at-preserved c = (c.enter_next.ensures.0, c.enter_next.ensures.1, λ all cued. sofar-on (c.loop-at.invariant.2 all cued) c.next_entry-entry.ensures c.enter_next.result _ c.enter_next.ensures.2 c.in_ok-pen.was)
+loop-at-preserved c = λ all cued. sofar-on (c.loop-at.invariant all cued) c.next_entry-entry.ensures c.enter_next.result _ c.enter_next.ensures c.in_ok-pen.was
 
 pub rows_ended-requires : goal.rows_ended-requires
-rows_ended-requires c = sofar-roomy (c.loop-at.invariant.2 c.requires.values c.requires.cued)
+rows_ended-requires c = sofar-roomy (c.loop-at.invariant c.requires.values c.requires.cued)
 
 pub returns : goal.returns
-returns c = λ all cued. let u = c.loop-at.invariant.2 all cued in c.rows_ended.ensures u.begun.file u.begun.past c.loop-at.sheet u.begun.stands u.begun.size ∙ sym (sofar-end u (not-false _ c.loop-at-test.false))
+returns c = λ all cued. let u = c.loop-at.invariant all cued in c.rows_ended.ensures u.begun.file u.begun.past c.loop-at.sheet u.begun.stands u.begun.size ∙ sym (sofar-end u (not-false _ c.loop-at-test.false))

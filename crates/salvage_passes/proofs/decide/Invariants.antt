@@ -1,13 +1,11 @@
-use mathlib.Core.Path.{◌≡◌}
 use mathlib.Core.List.{List}
-use lib.ListN.{length}
 use Rattle.draft.specs.Values.{Values}
 use Rattle.salvage_next.specs.Cued.{Cued, turns}
 use Rattle.salvage_passes.proofs.Deciding.{Sofar}
 use Rattle.salvage_passes.proofs.decide.Given as goal
 
 abbrev pub invariant-loop-at : goal.invariant-loop-at
-invariant-loop-at l = (length l.text ≡ 85) × (length l.row ≡ 10) × ((all : List Values) → Cued l.set l.file l.end l.initial.at all → Sofar l.set l.file l.end all l.sheet l.pen l.at)
+invariant-loop-at l = (all : List Values) → Cued l.set l.file l.end l.initial.at all → Sofar l.set l.file l.end all l.sheet l.pen l.at
 
 abbrev pub decreases-loop-at : goal.decreases-loop-at
 decreases-loop-at l = turns l.end l.at

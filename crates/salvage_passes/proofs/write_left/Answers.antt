@@ -1,48 +1,38 @@
-use mathlib.Core.Path.{refl, sym}
+use mathlib.Core.Path.{refl}
 use mathlib.Core.List.{[]}
 use native.Mathlib.Omega.{arith}
 use borrow.Author.Tests.{not-true, not-false}
 use Rattle.text.specs.declared.character_set.CharacterSet.TheVariants.{Ascii}
 use Rattle.set_out.proofs.Rows.{same-long}
-use Rattle.salvage_next.specs.Cued.{turns}
 use Rattle.salvage_passes.proofs.Writing.{writing-first, writing-room, writing-all, next-written, next-less, writing-on}
 use Rattle.salvage_passes.proofs.write_left.Goals as goal
 
 pub loop-at-init : goal.loop-at-init
-loop-at-init c = (refl, refl, λ w. writing-first c.args.out.now w refl (c.start-s.ensures Ascii []))
+loop-at-init c = λ w. writing-first c.args.out.now w refl (c.start-s.ensures Ascii [])
 
 pub next_entry-entry-requires : goal.next_entry-entry-requires
-next_entry-entry-requires c = (not-true _ c.loop-at-test.true, record { values = (c.loop-at.invariant.2 c.requires).left; cued = (c.loop-at.invariant.2 c.requires).cued })
-
-pub slice_bounds-write_next-end : goal.slice_bounds-write_next-end
-slice_bounds-write_next-end c = sym c.loop-at.invariant.0
-
-pub slice_bounds-write_next-end-in-loop-at : goal.slice_bounds-write_next-end-in-loop-at
-slice_bounds-write_next-end-in-loop-at c = sym c.loop-at.invariant.1
-
-pub slice_bounds-write_next-end-in-loop-at-2 : goal.slice_bounds-write_next-end-in-loop-at-2
-slice_bounds-write_next-end-in-loop-at-2 c = sym (c.loop-at.invariant.2 c.requires).onward.stands.long
+next_entry-entry-requires c = (not-true _ c.loop-at-test.true, record { values = (c.loop-at.invariant c.requires).left; cued = (c.loop-at.invariant c.requires).cued })
 
 pub slice_bounds-write_next-count : goal.slice_bounds-write_next-count
-slice_bounds-write_next-count c = writing-room (c.loop-at.invariant.2 c.requires)
+slice_bounds-write_next-count c = writing-room (c.loop-at.invariant c.requires)
 
 pub slice_bounds-write_next-start : goal.slice_bounds-write_next-start
-slice_bounds-write_next-start c = writing-room (c.loop-at.invariant.2 c.requires)
+slice_bounds-write_next-start c = writing-room (c.loop-at.invariant c.requires)
 
 pub write_next-one-requires : goal.write_next-one-requires
-write_next-one-requires c = (c.loop-at.invariant.0, c.loop-at.invariant.1, next-written (c.loop-at.invariant.2 c.requires) c.next_entry-entry.ensures)
+write_next-one-requires c = next-written (c.loop-at.invariant c.requires) c.next_entry-entry.ensures
 
 pub overflow_add-bytes : goal.overflow_add-bytes
-overflow_add-bytes c = let d = writing-on (c.loop-at.invariant.2 c.requires) c.next_entry-entry.ensures c.write_next-one.ensures.2 in record { fits = omega (arith, d.onward.within, c.well_formed) }
+overflow_add-bytes c = let d = writing-on (c.loop-at.invariant c.requires) c.next_entry-entry.ensures c.write_next-one.ensures in record { fits = omega (arith, d.onward.within, c.well_formed) }
 
 pub loop-at-smaller : goal.loop-at-smaller
-loop-at-smaller c = next-less (c.loop-at.invariant.2 c.requires) c.next_entry-entry.ensures
+loop-at-smaller c = next-less (c.loop-at.invariant c.requires) c.next_entry-entry.ensures
 
 pub loop-at-preserved : goal.loop-at-preserved
-loop-at-preserved c = (c.write_next-one.ensures.0, c.write_next-one.ensures.1, λ w. writing-on (c.loop-at.invariant.2 w) c.next_entry-entry.ensures c.write_next-one.ensures.2)
+loop-at-preserved c = λ w. writing-on (c.loop-at.invariant w) c.next_entry-entry.ensures c.write_next-one.ensures
 
 pub shape_of-out : goal.shape_of-out
-shape_of-out c = same-long (c.loop-at.invariant.2 c.requires).onward
+shape_of-out c = same-long (c.loop-at.invariant c.requires).onward
 
 pub returns : goal.returns
-returns c = λ w. writing-all (c.loop-at.invariant.2 w) (not-false _ c.loop-at-test.false)
+returns c = λ w. writing-all (c.loop-at.invariant w) (not-false _ c.loop-at-test.false)
