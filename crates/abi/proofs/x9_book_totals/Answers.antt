@@ -11,7 +11,7 @@ use Rattle.abi.proofs.x9_book_totals.Goals as goal
 pub returns-in-Ok : goal.returns-in-Ok
 returns-in-Ok c =
     let told = sym c.totals.ensures ∙ c.in-Ok.is in
-    record { number = rw told; totals = rw (told, c.bits_of-net.ensures) (ap (λ (z : ℤ). 0 ∷ c.in-Ok.entries ∷ numbers_of c.in-Ok.figures ++ (bits_of z ∷ [])) (to_z-of_z w64 c.in-Ok.net (record { sfits = search rules }))) }
+    record { number = rw told; totals = rw (told, c.bits_of-net.ensures) (ap (λ (z : ℤ). 0 ∷ c.in-Ok.field-0.entries ∷ numbers_of c.in-Ok.field-0.figures ++ (bits_of z ∷ [])) (to_z-of_z w64 c.in-Ok.field-0.net (record { sfits = search rules }))) }
 
 pub returns-in-Err : goal.returns-in-Err
 returns-in-Err c =
