@@ -164,7 +164,7 @@ module _ (set : CharacterSet) (file : List ℕ) (end : ℕ) (c : Cue) (d : c.don
           control = λ never. absurd (false≢true (sym never));
           addenda = sym (found.addenda e o) ∙ ap (λ (t : ℕ). addenda_behind t (others o)) (found.kind e ∙ sym (kept-type set found.body));
           next = behind o;
-          fewer = fewer-left o (found.moved (λ no _. never_both (is_kept m.fate) no e));
+          fewer = fewer-left o (found.moved (λ made _. never_both (is_kept m.fate) (ap is_kept made) e));
         })
 
     module _ (n : is_kept m.fate ≡ false) (k : ℕ) (r : Entry) (e : r ≡ new_control k m.start m.size m.next) where

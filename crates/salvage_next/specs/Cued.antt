@@ -12,6 +12,7 @@ use Rattle.salvage_model.specs.Kept.{Marked, control_values}
 use Rattle.salvage_walk.specs.Spans.{Spans}
 use Rattle.salvage_marks.specs.declared.Plan.{Plan}
 use Rattle.salvage_marks.specs.declared.Marking.{Marking}
+use Rattle.salvage_marks.specs.declared.Fate.TheVariants.{MadeNew}
 use Rattle.salvage_marks.specs.Left.{is_kept, Left}
 use Rattle.salvage_made.specs.ByMarks.{closing, by_marks, bodies_in, addenda_among, CountedAlike, is_control}
 use Rattle.salvage_next.specs.declared.Cue.{Cue}
@@ -44,7 +45,7 @@ pub record NextLeft (set : CharacterSet) (file : List ℕ) (end : ℕ) (p : Plan
   pub kind : is_kept r.fate ≡ true → r.kind ≡ type_of set body
   pub addenda : is_kept r.fate ≡ true → (is_open : Bool) → addenda_behind r.kind (by_marks set is_open others) ≡ addenda_among set r.kind (bodies_in others)
   pub on : p.at ≤ r.next.at
-  pub moved : (is_kept r.fate ≡ false → r.kind ≡ 99 → ⊥) → p.at < r.next.at
+  pub moved : (r.fate ≡ MadeNew → r.kind ≡ 99 → ⊥) → p.at < r.next.at
 
 abbrev pub closes_first : Bool → ℕ → Bool
 closes_first keeps kind = cond keeps (eqb kind 10) (eqb kind 99)

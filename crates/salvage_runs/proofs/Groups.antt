@@ -102,7 +102,7 @@ module _ (set : CharacterSet) (file : List ℕ) (at end : ℕ) (seen : Seen) (to
   abbrev pub Grouping : Grouped → Type 0
   Grouping r = at < end → (bs : List Body) → Spans file at bs end → GroupAt set file at bs end r
 
-  pub group-other : (seen.kind ≡ 20 → ⊥) → (seen.kind ≡ 61 → ⊥) → Grouping (record { end = seen.next; group = Loose })
+  pub group-other : (seen.kind ≡ 20 → ⊥) → (seen.kind ≡ 61 → ⊥) → Grouping (record { end = seen.next; group = Loose; kind = seen.kind })
   group-other p q h bs s =
       let f = first_of file at bs end s h in
       let as_seen = told f.body f.stands in
@@ -117,10 +117,11 @@ module _ (set : CharacterSet) (file : List ℕ) (at end : ℕ) (seen : Seen) (to
         spans = (f.stands, sym as_seen.next);
         behind = rw as_seen.next f.spans;
         bundle = refl;
+        kind = as_seen.kind;
       }
 
   pub group-61 : seen.kind ≡ 61 → (stop : ℕ) → ((bs : List Body) → Spans file seen.next bs end → Parted set file (among (50 ∷ 52 ∷ 54 ∷ [])) seen.next bs end stop)
-      → Grouping (record { end = stop; group = Credit })
+      → Grouping (record { end = stop; group = Credit; kind = seen.kind })
   group-61 q stop parts h bs s =
       let f = first_of file at bs end s h in
       let as_seen = told f.body f.stands in
@@ -134,6 +135,7 @@ module _ (set : CharacterSet) (file : List ℕ) (at end : ℕ) (seen : Seen) (to
         spans = (f.stands, rw as_seen.next at p.before);
         behind = p.behind;
         bundle = rw type refl;
+        kind = as_seen.kind;
       }
 
   module _ (q : seen.kind ≡ 20) (stop : ℕ) (parts : (bs : List Body) → Spans file seen.next bs end → Parted set file (not_among (20 ∷ 70 ∷ [])) seen.next bs end stop) where
@@ -158,7 +160,7 @@ module _ (set : CharacterSet) (file : List ℕ) (at end : ℕ) (seen : Seen) (to
           groups-first set f.body f.others f.is
           (rw (eq-eqb (type_of set f.body) 20 (sym as_seen.kind ∙ q)) at (groups-one set f.body f.others))
 
-    pub group-torn : end ≤ stop → Grouping (record { end = stop; group = Loose })
+    pub group-torn : end ≤ stop → Grouping (record { end = stop; group = Loose; kind = seen.kind })
     group-torn l h bs s =
         let f = first_of file at bs end s h in
         let gone = none_left file stop (later bs f) end (parted bs f).behind l in
@@ -172,10 +174,11 @@ module _ (set : CharacterSet) (file : List ℕ) (at end : ℕ) (seen : Seen) (to
           spans = inside bs f;
           behind = gone.1;
           bundle = refl;
+          kind = (as_seen bs f).kind;
         }
 
     module _ (l : stop < end) (closing : Seen) (known : (b : Body) → Stands file stop b → SeenAs set stop b closing) where
-      pub group-open : (closing.kind ≡ 70 → ⊥) → Grouping (record { end = stop; group = Loose })
+      pub group-open : (closing.kind ≡ 70 → ⊥) → Grouping (record { end = stop; group = Loose; kind = seen.kind })
       group-open t h bs s =
           let f = first_of file at bs end s h in
           let g = first_of file stop (later bs f) end (parted bs f).behind l in
@@ -190,9 +193,10 @@ module _ (set : CharacterSet) (file : List ℕ) (at end : ℕ) (seen : Seen) (to
             spans = inside bs f;
             behind = (g.stands, g.spans);
             bundle = refl;
+            kind = (as_seen bs f).kind;
           }
 
-      pub group-run : closing.kind ≡ 70 → Grouping (record { end = closing.next; group = Bundle })
+      pub group-run : closing.kind ≡ 70 → Grouping (record { end = closing.next; group = Bundle; kind = seen.kind })
       group-run t h bs s =
           let f = first_of file at bs end s h in
           let g = first_of file stop (later bs f) end (parted bs f).behind l in
@@ -208,6 +212,7 @@ module _ (set : CharacterSet) (file : List ℕ) (at end : ℕ) (seen : Seen) (to
             spans = spans-append file (f.body ∷ stretch bs f) (g.body ∷ []) at stop closing.next (inside bs f) (g.stands, sym as-closing.next);
             behind = rw as-closing.next g.spans;
             bundle = sym (eq-eqb (type_of set f.body) 20 (sym (as_seen bs f).kind ∙ q));
+            kind = (as_seen bs f).kind;
           }
 
 -- a run without a fault is read through

@@ -45,3 +45,4 @@ pub record GroupAt (set : CharacterSet) (file : List ℕ) (at : ℕ) (bs : List 
   pub spans : Spans file at (first ∷ own) r.end
   pub behind : Spans file r.end others end
   pub bundle : is_bundle r.group ≡ (is_run r.group && eqb (type_of set first) 20)
+  pub kind : r.kind ≡ type_of set first

@@ -38,15 +38,21 @@ impl Group {
     }
 }
 
-// A group under a header, and where it ends.
+// A group under a header: where it ends, what it is, and the type of its first record.
 #[derive(Clone, Copy)]
 pub struct Grouped {
     pub end: usize,
     pub group: Group,
+    pub kind: u64,
 }
 
 // Whether a record is one of a type and sound alone.
-pub fn is_sound_alone<'a>(set: CharacterSet, layouts: &'a Layouts, kind: u64, body: &'a [u8]) -> bool
+pub fn is_sound_alone<'a>(
+    set: CharacterSet,
+    layouts: &'a Layouts,
+    kind: u64,
+    body: &'a [u8],
+) -> bool
     ensures { result ≡ sound_alone set kind body.now }
 {
     if body.len() < 2 {
@@ -117,12 +123,14 @@ pub fn group_at(set: CharacterSet, file: &[u8], at: usize, end: usize) -> Groupe
         return Grouped {
             end: stop,
             group: Group::Credit,
+            kind,
         };
     }
     if kind != 20 {
         return Grouped {
             end: behind,
             group: Group::Loose,
+            kind,
         };
     }
     let stop = salvage_walk::end_of(set, file, behind, end, |kind| !matches!(kind, 20 | 70));
@@ -132,12 +140,14 @@ pub fn group_at(set: CharacterSet, file: &[u8], at: usize, end: usize) -> Groupe
             return Grouped {
                 end: closing.next,
                 group: Group::Bundle,
+                kind,
             };
         }
     }
     Grouped {
         end: stop,
         group: Group::Loose,
+        kind,
     }
 }
 
@@ -156,7 +166,11 @@ pub fn any_bundle<'a>(
     let mut at = from;
     // Stays: (d) the step is what the group's records take, so that no range counts it.
     while at < end {
-        let Grouped { end: stop, group } = group_at(set, file, at, end);
+        let Grouped {
+            end: stop,
+            group,
+            ..
+        } = group_at(set, file, at, end);
         if group.is_bundle() && run_fault(set, layouts, file, heading, at, stop).is_ok() {
             return true;
         }
