@@ -11,7 +11,7 @@ use Rattle.std.specs.Prelude.{Some}
 use Rattle.text.specs.CharacterSet.{set_of}
 use Rattle.text.specs.declared.character_set.CharacterSet.{CharacterSet}
 use Rattle.frame.specs.Frames.{Frame}
-use Rattle.frame.specs.Frames.{Cut, Whole}
+use Rattle.frame.specs.Frames.{Cut}
 use Rattle.frame.specs.Frames.{part, frame_at}
 use Rattle.judge.specs.Alone.{type_of, judged_record}
 use Rattle.file_as_records.specs.Framed.{Body}

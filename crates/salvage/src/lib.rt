@@ -9,11 +9,9 @@ ghost use Rattle.salvage_model.specs.Promises.{Promised};
 ghost use Rattle.salvage.specs.Steps.{WalkedTo, SalvagedAs};
 
 use draft::Outcome;
-use layout::Layouts;
 use passes::{Fault, Refusal};
+use salvage_marks::Torn;
 use salvage_next::Cue;
-use salvage_walk::Way;
-use text::CharacterSet;
 
 // Neither empty nor longer than what is read.
 fn is_of_size(bytes: usize) -> bool
@@ -23,54 +21,45 @@ fn is_of_size(bytes: usize) -> bool
 }
 
 // Whether the file header is sound and any cash letter is left.
-fn is_anything<'a>(set: CharacterSet, layouts: &'a Layouts, file: &'a [u8], end: usize) -> bool
-    requires { WalkedTo set file.now end }
-    ensures { result ≡ is_anything set (walked file.now) }
+fn is_anything<'a>(torn: Torn<'a>) -> bool
+    requires { WalkedTo torn.set torn.file.now torn.end }
+    ensures { result ≡ is_anything torn.entry.set (walked torn.entry.file.now) }
 {
-    if end == 0 {
+    if torn.end == 0 {
         return false;
     }
-    let seen = salvage_walk::seen_at(set, file, 0, end);
-    let body = frame::part_of(file, seen.start, seen.size);
-    if !salvage_runs::is_sound_alone(set, layouts, 1, body) {
+    let seen = salvage_walk::seen_at(torn.set, torn.file, 0, torn.end);
+    let body = frame::part_of(torn.file, seen.start, seen.size);
+    if !salvage_runs::is_sound_alone(torn.set, torn.layouts, 1, body) {
         return false;
     }
     let plan = salvage_marks::plan_at(seen.next);
-    salvage_list::is_any_kept(set, layouts, file, end, plan)
+    salvage_list::is_any_kept(torn, plan)
 }
 
 // Of a file of which anything is left: the writer's answer, and the new file and the list where there is room for both.
-fn salvage_left<'a>(
-    set: CharacterSet,
-    layouts: &'a Layouts,
-    file: &'a [u8],
-    way: Way,
-    out: &mut [u8],
-    list: &mut [u64],
-) -> Outcome
-    requires { WalkedTo set file.now way.end × (way.count ≡ length (walked file.now)) × (is_anything set (walked file.now) ≡ true) }
-    ensures { SalvagedAs file.now out.old list.old result out.new list.new }
+fn salvage_left<'a>(torn: Torn<'a>, rows: u64, out: &mut [u8], list: &mut [u64]) -> Outcome
+    requires { WalkedTo torn.set torn.file.now torn.end × (rows ≡ length (walked torn.file.now)) × (is_anything torn.set (walked torn.file.now) ≡ true) }
+    ensures { SalvagedAs torn.entry.file.now out.old list.old result out.new list.new }
 {
-    let end = way.end;
-    let plan = salvage_marks::plan_of_file(set, file, end);
+    let plan = torn.plan_of_file();
     let cue = Cue {
         plan,
         open: false,
         done: false,
     };
-    let (bytes, totals) = salvage_passes::decide(set, layouts, file, end, cue)?;
+    let (bytes, totals) = salvage_passes::decide(torn, cue)?;
     if 268_435_456 < bytes {
         return Err(Refusal::of_file(Fault::Size, 0));
     }
     if out.len() < bytes {
         return Err(Refusal::of_file(Fault::Room, bytes as u64));
     }
-    let rows = way.count;
     if (list.len() as u64) / 4 < rows {
         return Err(Refusal::of_file(Fault::Room, rows));
     }
-    salvage_passes::write_left(set, layouts, file, end, cue, out);
-    salvage_list::put_list(set, layouts, file, end, plan, list);
+    salvage_passes::write_left(torn, cue, out);
+    salvage_list::put_list(torn, plan, list);
     Ok((bytes, totals))
 }
 
@@ -88,8 +77,14 @@ pub fn salvage(file: &[u8], out: &mut [u8], list: &mut [u64]) -> Outcome
     let set = text::set_of(file);
     let layouts = layout::table();
     let way = salvage_walk::walk(set, file);
-    if !is_anything(set, &layouts, file, way.end) {
+    let torn = Torn {
+        set,
+        layouts: &layouts,
+        file,
+        end: way.end,
+    };
+    if !is_anything(torn) {
         return Err(Refusal::of_file(Fault::Nothing, 0));
     }
-    salvage_left(set, &layouts, file, way, out, list)
+    salvage_left(torn, way.count, out, list)
 }

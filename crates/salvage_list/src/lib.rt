@@ -9,25 +9,17 @@ ghost use Rattle.salvage_marks.specs.Left.{meant, Left, Planned};
 ghost use Rattle.salvage_made.specs.ByMarks.{any_marked};
 ghost use Rattle.salvage_list.specs.Listable.{Listable};
 
-use layout::Layouts;
-use salvage_marks::{Marking, Plan};
-use text::CharacterSet;
+use salvage_marks::{Marking, Plan, Torn};
 
 // Whether any record from here on is kept.
-pub fn is_any_kept<'a>(
-    set: CharacterSet,
-    layouts: &'a Layouts,
-    file: &'a [u8],
-    end: usize,
-    from: Plan,
-) -> bool
-    requires { Planned set file.now end from }
-    ensures { (ms : List Marked) → Left set file.now end from ms → result ≡ any_marked ms }
+pub fn is_any_kept<'a>(torn: Torn<'a>, from: Plan) -> bool
+    requires { Planned torn.set torn.file.now torn.end from }
+    ensures { (ms : List Marked) → Left torn.entry.set torn.entry.file.now torn.entry.end from ms → result ≡ any_marked ms }
 {
     let mut plan = from;
     // Stays: (d) the step is what the record's length says, so that no range counts it.
-    while plan.at < end {
-        let mark = salvage_marks::mark_next(set, layouts, file, end, plan);
+    while plan.at < torn.end {
+        let mark = torn.mark_next(plan);
         if mark.fate.is_kept() {
             return true;
         }
@@ -49,22 +41,15 @@ fn put_row(list: &mut [u64], row: usize, at: usize, mark: Marking)
 }
 
 // Offset, type, status and number of each record from here on.
-pub fn put_list<'a>(
-    set: CharacterSet,
-    layouts: &'a Layouts,
-    file: &'a [u8],
-    end: usize,
-    from: Plan,
-    list: &mut [u64],
-)
-    requires { Listable set file.now end from (length list.old) }
-    ensures { (ms : List Marked) → Left set file.now end from ms → list.new ≡ listed set from.at ms ++ drop (length (listed set from.at ms)) list.old }
+pub fn put_list<'a>(torn: Torn<'a>, from: Plan, list: &mut [u64])
+    requires { Listable torn.set torn.file.now torn.end from (length list.old) }
+    ensures { (ms : List Marked) → Left torn.entry.set torn.entry.file.now torn.entry.end from ms → list.new ≡ listed torn.entry.set from.at ms ++ drop (length (listed torn.entry.set from.at ms)) list.old }
 {
     let mut plan = from;
     let mut row: usize = 0;
     // Stays: (d) as above.
-    while plan.at < end {
-        let mark = salvage_marks::mark_next(set, layouts, file, end, plan);
+    while plan.at < torn.end {
+        let mark = torn.mark_next(plan);
         put_row(list, row, plan.at, mark);
         row += 4;
         plan = mark.next;

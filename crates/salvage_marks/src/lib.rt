@@ -17,6 +17,15 @@ use salvage_runs::Grouped;
 use salvage_walk::Seen;
 use text::CharacterSet;
 
+// A torn file as far as its lengths lead.
+#[derive(Clone, Copy)]
+pub struct Torn<'a> {
+    pub set: CharacterSet,
+    pub layouts: &'a Layouts,
+    pub file: &'a [u8],
+    pub end: usize,
+}
+
 // What becomes of a record: it is kept, made new, or dropped with a fault.
 #[derive(Clone, Copy)]
 pub enum Fate {
@@ -109,190 +118,170 @@ pub fn plan_at(at: usize) -> Plan
     }
 }
 
-// At the first record of a file, which is kept.
-pub fn plan_of_file(set: CharacterSet, file: &[u8], end: usize) -> Plan
-    ensures { ((b : Body) (bs : List Body) → Spans file.now 0 (b ∷ bs) end → end ≤ 268_435_456 → Left set file.now end result (marks_of set (b ∷ bs))) × (result.at ≡ 0) }
-{
-    let next = salvage_walk::seen_at(set, file, 0, end).next;
-    Plan {
-        at: 0,
-        group: next,
-        stop: next,
-        heading: 0,
-        sound: false,
-        kept: false,
-        fate: Fate::Kept,
+impl<'a> Torn<'a> {
+    // At the first record of a file, which is kept.
+    pub fn plan_of_file(self) -> Plan
+        ensures { ((b : Body) (bs : List Body) → Spans self.entry.file.now 0 (b ∷ bs) self.entry.end → self.entry.end ≤ 268_435_456 → Left self.entry.set self.entry.file.now self.entry.end result (marks_of self.entry.set (b ∷ bs))) × (result.at ≡ 0) }
+    {
+        let next = salvage_walk::seen_at(self.set, self.file, 0, self.end).next;
+        Plan {
+            at: 0,
+            group: next,
+            stop: next,
+            heading: 0,
+            sound: false,
+            kept: false,
+            fate: Fate::Kept,
+        }
     }
-}
 
-// A header that is sound alone, of a letter of N or, as Annex B has it, with a sound bundle.
-fn is_letter_kept<'a>(
-    set: CharacterSet,
-    layouts: &'a Layouts,
-    file: &'a [u8],
-    heading: usize,
-    from: usize,
-    stop: usize,
-    body: &'a [u8],
-    sound: bool,
-) -> bool
-    requires { sound ≡ true → RunAt set file.now heading from stop }
-    ensures { (sound ≡ false → result ≡ false) × (sound ≡ true → (w : RunAt set file.now heading from stop) → body.now ≡ w.header → result ≡ (eqb (indicator set w.header) N || any_bundle set w.header (groups_of set w.bodies))) }
-{
-    if !sound {
-        return false;
+    // A header that is sound alone, of a letter of N or, as Annex B has it, with a sound bundle.
+    fn is_letter_kept(
+        self,
+        heading: usize,
+        from: usize,
+        stop: usize,
+        body: &'a [u8],
+        sound: bool,
+    ) -> bool
+        requires { sound ≡ true → RunAt self.set self.file.now heading from stop }
+        ensures { (sound ≡ false → result ≡ false) × (sound ≡ true → (w : RunAt self.entry.set self.entry.file.now heading from stop) → body.now ≡ w.header → result ≡ (eqb (indicator self.entry.set w.header) N || any_bundle self.entry.set w.header (groups_of self.entry.set w.bodies))) }
+    {
+        if !sound {
+            return false;
+        }
+        if salvage_runs::indicator_of(self.set, body) == 0x4E {
+            return true;
+        }
+        salvage_runs::any_bundle(self.set, self.layouts, self.file, heading, from, stop)
     }
-    if salvage_runs::indicator_of(set, body) == 0x4E {
-        return true;
-    }
-    salvage_runs::any_bundle(set, layouts, file, heading, from, stop)
-}
 
-// A cash letter header.
-fn letter_begun<'a>(
-    set: CharacterSet,
-    layouts: &'a Layouts,
-    file: &'a [u8],
-    end: usize,
-    seen: Seen,
-    plan: Plan,
-) -> Marking
-    requires { (plan.group ≤ plan.at) × (plan.stop ≤ plan.at) × (plan.at < end) × (seen.kind ≡ 10) × Planned set file.now end plan × ((b : Body) → Stands file.now plan.at b → SeenAs set plan.at b seen) }
-    ensures { (ms : List Marked) → Left set file.now end plan ms → NextMark set file.now end plan ms result }
-{
-    let at = plan.at;
-    let start = seen.start;
-    let size = seen.size;
-    let from = seen.next;
-    let body = frame::part_of(file, start, size);
-    let stop = salvage_walk::end_of(set, file, from, end, |kind| !matches!(kind, 10 | 90 | 99));
-    let sound = salvage_runs::is_sound_alone(set, layouts, 10, body);
-    let kept = is_letter_kept(set, layouts, file, at, from, stop, body, sound);
-    let next = Plan {
-        at: from,
-        group: from,
-        stop,
-        heading: at,
-        sound,
-        kept,
-        fate: Fate::Dropped(Fault::Place),
-    };
-    Marking {
-        start,
-        size,
-        kind: 10,
-        fate: Fate::kept_if(kept),
-        next,
+    // A cash letter header.
+    fn letter_begun(self, seen: Seen, plan: Plan) -> Marking
+        requires { (plan.group ≤ plan.at) × (plan.stop ≤ plan.at) × (plan.at < self.end) × (seen.kind ≡ 10) × Planned self.set self.file.now self.end plan × ((b : Body) → Stands self.file.now plan.at b → SeenAs self.set plan.at b seen) }
+        ensures { (ms : List Marked) → Left self.entry.set self.entry.file.now self.entry.end plan ms → NextMark self.entry.set self.entry.file.now self.entry.end plan ms result }
+    {
+        let at = plan.at;
+        let start = seen.start;
+        let size = seen.size;
+        let from = seen.next;
+        let body = frame::part_of(self.file, start, size);
+        let stop = salvage_walk::end_of(
+            self.set,
+            self.file,
+            from,
+            self.end,
+            |kind| !matches!(kind, 10 | 90 | 99),
+        );
+        let sound = salvage_runs::is_sound_alone(self.set, self.layouts, 10, body);
+        let kept = self.is_letter_kept(at, from, stop, body, sound);
+        let next = Plan {
+            at: from,
+            group: from,
+            stop,
+            heading: at,
+            sound,
+            kept,
+            fate: Fate::Dropped(Fault::Place),
+        };
+        Marking {
+            start,
+            size,
+            kind: 10,
+            fate: Fate::kept_if(kept),
+            next,
+        }
     }
-}
 
-// A record that lies under no header.
-fn outside_letters<'a>(
-    set: CharacterSet,
-    layouts: &'a Layouts,
-    file: &'a [u8],
-    end: usize,
-    seen: Seen,
-    plan: Plan,
-) -> Marking
-    requires { (plan.group ≤ plan.at) × (plan.stop ≤ plan.at) × (plan.at < end) × Planned set file.now end plan × ((b : Body) → Stands file.now plan.at b → SeenAs set plan.at b seen) }
-    ensures { (ms : List Marked) → Left set file.now end plan ms → NextMark set file.now end plan ms result }
-{
-    let kind = seen.kind;
-    if kind == 10 {
-        return letter_begun(set, layouts, file, end, seen, plan);
+    // A record that lies under no header.
+    fn outside_letters(self, seen: Seen, plan: Plan) -> Marking
+        requires { (plan.group ≤ plan.at) × (plan.stop ≤ plan.at) × (plan.at < self.end) × Planned self.set self.file.now self.end plan × ((b : Body) → Stands self.file.now plan.at b → SeenAs self.set plan.at b seen) }
+        ensures { (ms : List Marked) → Left self.entry.set self.entry.file.now self.entry.end plan ms → NextMark self.entry.set self.entry.file.now self.entry.end plan ms result }
+    {
+        let kind = seen.kind;
+        if kind == 10 {
+            return self.letter_begun(seen, plan);
+        }
+        let next = plan_at(seen.next);
+        let fate = if (kind == 99) | (plan.kept & (kind == 90)) {
+            Fate::MadeNew
+        } else {
+            Fate::Dropped(Fault::Place)
+        };
+        Marking {
+            start: seen.start,
+            size: seen.size,
+            kind,
+            fate,
+            next,
+        }
     }
-    let next = plan_at(seen.next);
-    let fate = if (kind == 99) | (plan.kept & (kind == 90)) {
-        Fate::MadeNew
-    } else {
-        Fate::Dropped(Fault::Place)
-    };
-    Marking {
-        start: seen.start,
-        size: seen.size,
-        kind,
-        fate,
-        next,
-    }
-}
 
-// What becomes of the records of a group.
-fn group_fate<'a>(
-    set: CharacterSet,
-    layouts: &'a Layouts,
-    file: &'a [u8],
-    plan: Plan,
-    group: Grouped,
-) -> Fate
-    requires { plan.sound ≡ true → RunAt set file.now plan.heading plan.at group.end }
-    ensures { GroupFate set file.now plan group result }
-{
-    if !(group.group.is_run() & plan.sound) {
-        return Fate::Dropped(Fault::Place);
+    // What becomes of the records of a group.
+    fn group_fate(self, plan: Plan, group: Grouped) -> Fate
+        requires { plan.sound ≡ true → RunAt self.set self.file.now plan.heading plan.at group.end }
+        ensures { GroupFate self.entry.set self.entry.file.now plan group result }
+    {
+        if !(group.group.is_run() & plan.sound) {
+            return Fate::Dropped(Fault::Place);
+        }
+        match salvage_runs::run_fault(
+            self.set,
+            self.layouts,
+            self.file,
+            plan.heading,
+            plan.at,
+            group.end,
+        ) {
+            Err(fault) => Fate::Dropped(fault),
+            Ok(()) => Fate::kept_if(plan.kept),
+        }
     }
-    match salvage_runs::run_fault(set, layouts, file, plan.heading, plan.at, group.end) {
-        Err(fault) => Fate::Dropped(fault),
-        Ok(()) => Fate::kept_if(plan.kept),
-    }
-}
 
-// The first record of a group under a header.
-fn group_begun<'a>(
-    set: CharacterSet,
-    layouts: &'a Layouts,
-    file: &'a [u8],
-    seen: Seen,
-    plan: Plan,
-    end: usize,
-) -> Marking
-    requires { (plan.group ≤ plan.at) × (plan.at < plan.stop) × Planned set file.now end plan × ((b : Body) → Stands file.now plan.at b → SeenAs set plan.at b seen) }
-    ensures { (ms : List Marked) → Left set file.now end plan ms → NextMark set file.now end plan ms result }
-{
-    let group = salvage_runs::group_at(set, file, plan.at, plan.stop);
-    let fate = group_fate(set, layouts, file, plan, group);
-    let next = Plan {
-        at: seen.next,
-        group: group.end,
-        fate,
-        ..plan
-    };
-    Marking {
-        start: seen.start,
-        size: seen.size,
-        kind: seen.kind,
-        fate,
-        next,
-    }
-}
-
-// The next record marked.
-pub fn mark_next<'a>(
-    set: CharacterSet,
-    layouts: &'a Layouts,
-    file: &'a [u8],
-    end: usize,
-    plan: Plan,
-) -> Marking
-    requires { (plan.at < end) × Planned set file.now end plan }
-    ensures { (ms : List Marked) → Left set file.now end plan ms → NextMark set file.now end plan ms result }
-{
-    let at = plan.at;
-    let seen = salvage_walk::seen_at(set, file, at, end);
-    if at < plan.group {
-        return Marking {
+    // The first record of a group under a header.
+    fn group_begun(self, seen: Seen, plan: Plan) -> Marking
+        requires { (plan.group ≤ plan.at) × (plan.at < plan.stop) × Planned self.set self.file.now self.end plan × ((b : Body) → Stands self.file.now plan.at b → SeenAs self.set plan.at b seen) }
+        ensures { (ms : List Marked) → Left self.entry.set self.entry.file.now self.entry.end plan ms → NextMark self.entry.set self.entry.file.now self.entry.end plan ms result }
+    {
+        let group = salvage_runs::group_at(self.set, self.file, plan.at, plan.stop);
+        let fate = self.group_fate(plan, group);
+        let next = Plan {
+            at: seen.next,
+            group: group.end,
+            fate,
+            ..plan
+        };
+        Marking {
             start: seen.start,
             size: seen.size,
             kind: seen.kind,
-            fate: plan.fate,
-            next: Plan {
-                at: seen.next,
-                ..plan
-            },
-        };
+            fate,
+            next,
+        }
     }
-    if at < plan.stop {
-        return group_begun(set, layouts, file, seen, plan, end);
+
+    // The next record marked.
+    pub fn mark_next(self, plan: Plan) -> Marking
+        requires { (plan.at < self.end) × Planned self.set self.file.now self.end plan }
+        ensures { (ms : List Marked) → Left self.entry.set self.entry.file.now self.entry.end plan ms → NextMark self.entry.set self.entry.file.now self.entry.end plan ms result }
+    {
+        let at = plan.at;
+        let seen = salvage_walk::seen_at(self.set, self.file, at, self.end);
+        if at < plan.group {
+            return Marking {
+                start: seen.start,
+                size: seen.size,
+                kind: seen.kind,
+                fate: plan.fate,
+                next: Plan {
+                    at: seen.next,
+                    ..plan
+                },
+            };
+        }
+        if at < plan.stop {
+            return self.group_begun(seen, plan);
+        }
+        self.outside_letters(seen, plan)
     }
-    outside_letters(set, layouts, file, end, seen, plan)
 }

@@ -10,9 +10,7 @@ ghost use Rattle.salvage_marks.specs.Left.{is_kept};
 ghost use Rattle.salvage_made.specs.ByMarks.{addenda_among};
 ghost use Rattle.salvage_next.specs.Cued.{Going, Underway, NextLeft, closes_first, new_control, kept_entry, Cued, Cueing, NextEntry};
 
-use layout::Layouts;
-use salvage_marks::{Fate, Marking, Plan};
-use text::CharacterSet;
+use salvage_marks::{Fate, Marking, Plan, Torn};
 
 // Where the making out stands: what is marked next; whether a cash letter is open; whether the file's control has been made out.
 #[derive(Clone, Copy)]
@@ -35,20 +33,14 @@ pub struct Entry {
 }
 
 // The next record that is not dropped, from here on. Where there is none: the file's control, as though one of no characters had been walked.
-fn next_left<'a>(
-    set: CharacterSet,
-    layouts: &'a Layouts,
-    file: &'a [u8],
-    end: usize,
-    from: Plan,
-) -> Marking
-    requires { Underway set file.now end from }
-    ensures { (ms : List Marked) → Going set file.now end from ms → NextLeft set file.now end from ms result }
+fn next_left<'a>(torn: Torn<'a>, from: Plan) -> Marking
+    requires { Underway torn.set torn.file.now torn.end from }
+    ensures { (ms : List Marked) → Going torn.entry.set torn.entry.file.now torn.entry.end from ms → NextLeft torn.entry.set torn.entry.file.now torn.entry.end from ms result }
 {
     let mut plan = from;
     // Stays: (d) the step is what the record's length says, so that no range counts it.
-    while plan.at < end {
-        let mark = salvage_marks::mark_next(set, layouts, file, end, plan);
+    while plan.at < torn.end {
+        let mark = torn.mark_next(plan);
         if !mark.fate.is_dropped() {
             return mark;
         }
@@ -93,12 +85,12 @@ fn new_control(kind: u64, start: usize, size: usize, plan: Plan) -> Entry
 }
 
 // A record that is kept.
-fn kept_entry(set: CharacterSet, file: &[u8], end: usize, opened: bool, mark: Marking) -> Entry
-    ensures { (bs : List Body) → Spans file.now mark.next.at bs end → result ≡ kept_entry opened mark (addenda_among set mark.kind bs) }
+fn kept_entry<'a>(torn: Torn<'a>, opened: bool, mark: Marking) -> Entry
+    ensures { (bs : List Body) → Spans torn.entry.file.now mark.next.at bs torn.entry.end → result ≡ kept_entry opened mark (addenda_among torn.entry.set mark.kind bs) }
 {
     let plan = mark.next;
     let kind = mark.kind;
-    let addenda = salvage_pieces::addenda_among(set, file, plan.at, end, kind);
+    let addenda = salvage_pieces::addenda_among(torn.set, torn.file, plan.at, torn.end, kind);
     let next = Cue {
         plan,
         open: opened | (kind == 10),
@@ -115,24 +107,18 @@ fn kept_entry(set: CharacterSet, file: &[u8], end: usize, opened: bool, mark: Ma
 }
 
 // The next record of the new file: a letter that is open is closed before another begins and before the file ends.
-pub fn next_entry<'a>(
-    set: CharacterSet,
-    layouts: &'a Layouts,
-    file: &'a [u8],
-    end: usize,
-    cue: Cue,
-) -> Entry
-    requires { (cue.done ≡ false) × Cueing set file.now end cue }
-    ensures { (vs : List Values) → Cued set file.now end cue vs → NextEntry set file.now end cue vs result }
+pub fn next_entry<'a>(torn: Torn<'a>, cue: Cue) -> Entry
+    requires { (cue.done ≡ false) × Cueing torn.set torn.file.now torn.end cue }
+    ensures { (vs : List Values) → Cued torn.entry.set torn.entry.file.now torn.entry.end cue vs → NextEntry torn.entry.set torn.entry.file.now torn.entry.end cue vs result }
 {
     let plan = cue.plan;
-    let mark = next_left(set, layouts, file, end, plan);
+    let mark = next_left(torn, plan);
     let kind = mark.kind;
     if cue.open & closes_first(mark.fate, kind) {
         return new_control(90, 0, 0, plan);
     }
     if mark.fate.is_kept() {
-        return kept_entry(set, file, end, cue.open, mark);
+        return kept_entry(torn, cue.open, mark);
     }
     let made = if kind == 99 { 99 } else { 90 };
     new_control(made, mark.start, mark.size, mark.next)

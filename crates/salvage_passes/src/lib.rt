@@ -12,8 +12,8 @@ ghost use Rattle.salvage_passes.specs.Says.{NextEntered, NextWritten};
 ghost use Rattle.salvage_passes.specs.Writable.{Writable};
 
 use draft::Outcome;
-use layout::Layouts;
 use salvage_entry::{Entered, Pen};
+use salvage_marks::Torn;
 use salvage_next::{Cue, Entry};
 use set_out::Progress;
 use standing::Standing;
@@ -21,27 +21,25 @@ use text::CharacterSet;
 
 // One record more of the new file, judged on the sheet; `text` and `row` are lent to say it as a draft does.
 fn enter_next<'a>(
-    set: CharacterSet,
-    layouts: &'a Layouts,
-    file: &'a [u8],
+    torn: Torn<'a>,
     entry: Entry,
     pen: Pen,
     text: &mut [u8; 85],
     row: &mut [u64; 10],
     sheet: &mut [u8],
 ) -> Entered
-    requires { NextEntered set file.now entry sheet.old pen }
-    ensures { (e : NextEntered set file.now entry sheet.old pen) → EnteredAs e.value e.entering.others e.entering.begun.file e.entering.begun.past result sheet.new }
+    requires { NextEntered torn.set torn.file.now entry sheet.old pen }
+    ensures { (e : NextEntered torn.entry.set torn.entry.file.now entry sheet.old pen) → EnteredAs e.value e.entering.others e.entering.begun.file e.entering.begun.past result sheet.new }
 {
-    let body = frame::part_of(file, entry.start, entry.size);
+    let body = frame::part_of(torn.file, entry.start, entry.size);
     if entry.kept {
-        salvage_rows::put_kept(set, layouts, body, row);
-        return salvage_entry::enter(set, layouts, body, row, entry.addenda, pen, sheet);
+        salvage_rows::put_kept(torn.set, torn.layouts, body, row);
+        return salvage_entry::enter(torn.set, torn.layouts, body, row, entry.addenda, pen, sheet);
     }
-    salvage_rows::put_control(set, layouts, entry.kind, body, text, row);
+    salvage_rows::put_control(torn.set, torn.layouts, entry.kind, body, text, row);
     salvage_entry::enter(
         CharacterSet::Ascii,
-        layouts,
+        torn.layouts,
         text,
         row,
         entry.addenda,
@@ -52,9 +50,7 @@ fn enter_next<'a>(
 
 // One record more of the new file, written.
 fn write_next<'a>(
-    set: CharacterSet,
-    layouts: &'a Layouts,
-    file: &'a [u8],
+    torn: Torn<'a>,
     entry: Entry,
     s: Standing,
     text: &mut [u8; 85],
@@ -62,18 +58,27 @@ fn write_next<'a>(
     sheet: &mut [u8],
     out: &mut [u8],
 ) -> Progress
-    requires { NextWritten set file.now entry sheet.old s (length out.old) }
-    ensures { (w : NextWritten set file.now entry sheet.old s (length out.old)) → Onward (w.value ∷ w.ready.others) w.ready.ready.file w.ready.ready.past out.old w.ready.others sheet.new result.standing result.bytes out.new }
+    requires { NextWritten torn.set torn.file.now entry sheet.old s (length out.old) }
+    ensures { (w : NextWritten torn.entry.set torn.entry.file.now entry sheet.old s (length out.old)) → Onward (w.value ∷ w.ready.others) w.ready.ready.file w.ready.ready.past out.old w.ready.others sheet.new result.standing result.bytes out.new }
 {
-    let body = frame::part_of(file, entry.start, entry.size);
+    let body = frame::part_of(torn.file, entry.start, entry.size);
     if entry.kept {
-        salvage_rows::put_kept(set, layouts, body, row);
-        return set_out::write_counted(set, layouts, body, row, entry.addenda, s, sheet, out);
+        salvage_rows::put_kept(torn.set, torn.layouts, body, row);
+        return set_out::write_counted(
+            torn.set,
+            torn.layouts,
+            body,
+            row,
+            entry.addenda,
+            s,
+            sheet,
+            out,
+        );
     }
-    salvage_rows::put_control(set, layouts, entry.kind, body, text, row);
+    salvage_rows::put_control(torn.set, torn.layouts, entry.kind, body, text, row);
     set_out::write_counted(
         CharacterSet::Ascii,
-        layouts,
+        torn.layouts,
         text,
         row,
         entry.addenda,
@@ -84,15 +89,9 @@ fn write_next<'a>(
 }
 
 // The answer to what is left, whatever the buffer; 2^64 - 1 bytes stand for as many or more.
-pub fn decide<'a>(
-    set: CharacterSet,
-    layouts: &'a Layouts,
-    file: &'a [u8],
-    end: usize,
-    cue: Cue,
-) -> Outcome
-    requires { Cueing set file.now end cue }
-    ensures { (vs : List Values) → Cued set file.now end cue vs → result ≡ capped_outcome (answer_from vs [] []) }
+pub fn decide<'a>(torn: Torn<'a>, cue: Cue) -> Outcome
+    requires { Cueing torn.set torn.file.now torn.end cue }
+    ensures { (vs : List Values) → Cued torn.entry.set torn.entry.file.now torn.entry.end cue vs → result ≡ capped_outcome (answer_from vs [] []) }
 {
     let mut sheet: [u8; 800] = [0; 800];
     let mut text: [u8; 85] = [0; 85];
@@ -104,26 +103,17 @@ pub fn decide<'a>(
     let mut at = cue;
     // Stays: what comes next is found from where the making out stands; nothing is counted.
     while !at.done {
-        let entry = salvage_next::next_entry(set, layouts, file, end, at);
-        pen = enter_next(
-            set, layouts, file, entry, pen, &mut text, &mut row, &mut sheet,
-        )?;
+        let entry = salvage_next::next_entry(torn, at);
+        pen = enter_next(torn, entry, pen, &mut text, &mut row, &mut sheet)?;
         at = entry.next;
     }
     draft_survey::rows_ended(pen.standing, pen.bytes)
 }
 
 // What is left set out in the buffer, record behind record.
-pub fn write_left<'a>(
-    set: CharacterSet,
-    layouts: &'a Layouts,
-    file: &'a [u8],
-    end: usize,
-    cue: Cue,
-    out: &mut [u8],
-)
-    requires { Writable set file.now end cue (length out.old) }
-    ensures { (w : Writable set file.now end cue (length out.old)) → out.new ≡ made w.values ++ drop (length (made w.values)) out.old }
+pub fn write_left<'a>(torn: Torn<'a>, cue: Cue, out: &mut [u8])
+    requires { Writable torn.set torn.file.now torn.end cue (length out.old) }
+    ensures { (w : Writable torn.entry.set torn.entry.file.now torn.entry.end cue (length out.old)) → out.new ≡ made w.values ++ drop (length (made w.values)) out.old }
 {
     let mut sheet: [u8; 800] = [0; 800];
     let mut text: [u8; 85] = [0; 85];
@@ -133,11 +123,9 @@ pub fn write_left<'a>(
     let mut at = cue;
     // Stays: as in `decide`.
     while !at.done {
-        let entry = salvage_next::next_entry(set, layouts, file, end, at);
+        let entry = salvage_next::next_entry(torn, at);
         let one = write_next(
-            set,
-            layouts,
-            file,
+            torn,
             entry,
             s,
             &mut text,

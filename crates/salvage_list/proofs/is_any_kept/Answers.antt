@@ -13,7 +13,7 @@ pub returns-then-is_kept : goal.returns-then-is_kept
 returns-then-is_kept c = looks-kept _ _ _ _ c.loop-plan.invariant c.mark_next-mark.ensures (sym c.is_kept.ensures ∙ c.if-is_kept.true)
 
 pub loop-plan-smaller : goal.loop-plan-smaller
-loop-plan-smaller c = omega (arith, c.loop-plan-test.true, step-onward c.args.set c.args.file.now c.args.end c.args.from c.loop-plan.plan c.mark_next-mark.result c.mark_next-mark.ensures (looks-planned _ _ _ _ c.loop-plan.invariant c.requires))
+loop-plan-smaller c = omega (arith, c.loop-plan-test.true, step-onward c.args.torn.set c.args.torn.file.now c.args.torn.end c.args.from c.loop-plan.plan c.mark_next-mark.result c.mark_next-mark.ensures (looks-planned _ _ _ _ c.loop-plan.invariant c.requires))
 
 pub loop-plan-preserved : goal.loop-plan-preserved
 loop-plan-preserved c = looks_on _ _ _ _ c.loop-plan.invariant c.mark_next-mark.ensures (sym c.is_kept.ensures ∙ c.if-is_kept.false)

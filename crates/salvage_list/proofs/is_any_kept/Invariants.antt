@@ -3,7 +3,7 @@ use Rattle.salvage_list.proofs.Marking.{Looks}
 use Rattle.salvage_list.proofs.is_any_kept.Given as goal
 
 abbrev pub invariant-loop-plan : goal.invariant-loop-plan
-invariant-loop-plan l = Looks l.set l.file l.end l.initial.plan l.plan
+invariant-loop-plan l = Looks l.torn.set l.torn.file.now l.torn.end l.initial.plan l.plan
 
 abbrev pub decreases-loop-plan : goal.decreases-loop-plan
-decreases-loop-plan l = l.end - l.plan.at
+decreases-loop-plan l = l.torn.end - l.plan.at

@@ -15,7 +15,7 @@ pub overflow_add-row : goal.overflow_add-row
 overflow_add-row c = let h = lists-room _ _ _ _ c.loop-plan.invariant c.requires c.mark_next-mark.ensures in omega (arith, h, c.loop-plan.invariant.long, c.well_formed)
 
 pub loop-plan-smaller : goal.loop-plan-smaller
-loop-plan-smaller c = omega (arith, c.loop-plan-test.true, step-onward c.args.set c.args.file.now c.args.end c.args.from c.loop-plan.plan c.mark_next-mark.result c.mark_next-mark.ensures (lists-planned _ _ _ _ c.loop-plan.invariant c.requires))
+loop-plan-smaller c = omega (arith, c.loop-plan-test.true, step-onward c.args.torn.set c.args.torn.file.now c.args.torn.end c.args.from c.loop-plan.plan c.mark_next-mark.result c.mark_next-mark.ensures (lists-planned _ _ _ _ c.loop-plan.invariant c.requires))
 
 pub loop-plan-preserved : goal.loop-plan-preserved
 loop-plan-preserved c = lists-on _ _ _ _ c.loop-plan.invariant c.requires c.mark_next-mark.ensures c.put_row.ensures

@@ -5,7 +5,7 @@ use Rattle.salvage_passes.proofs.Writing.{Writing}
 use Rattle.salvage_passes.proofs.write_left.Given as goal
 
 abbrev pub invariant-loop-at : goal.invariant-loop-at
-invariant-loop-at l = (w : Writable l.set l.file l.end l.initial.at (length l.initial.out)) → Writing l.set l.file l.end w.values l.initial.out l.out l.sheet l.s l.bytes l.at
+invariant-loop-at l = (w : Writable l.torn.set l.torn.file.now l.torn.end l.initial.at (length l.initial.out)) → Writing l.torn.set l.torn.file.now l.torn.end w.values l.initial.out l.out l.sheet l.s l.bytes l.at
 
 abbrev pub decreases-loop-at : goal.decreases-loop-at
-decreases-loop-at l = turns l.end l.at
+decreases-loop-at l = turns l.torn.end l.at

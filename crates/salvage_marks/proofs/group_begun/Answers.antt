@@ -1,8 +1,0 @@
-use Rattle.salvage_marks.proofs.Marks.{group-run-at, next-group}
-use Rattle.salvage_marks.proofs.group_begun.Goals as goal
-
-pub group_fate-fate-requires : goal.group_fate-fate-requires
-group_fate-fate-requires c = group-run-at c.args.set c.args.file.now c.args.end c.args.plan c.args.seen c.requires.3 c.requires.0 c.requires.1 c.group_at-group.result c.group_at-group.ensures.group c.requires.2.marks c.requires.2.left
-
-pub returns : goal.returns
-returns c = λ ms v. next-group c.args.set c.args.file.now c.args.end c.args.plan c.args.seen c.requires.3 c.requires.0 c.requires.1 c.group_at-group.result c.group_at-group.ensures.group ms v c.group_fate-fate.result c.group_fate-fate.ensures
