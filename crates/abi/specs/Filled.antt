@@ -7,7 +7,7 @@ use Rattle.picture.specs.Picture.{Found}
 use Rattle.tiff.specs.Required.{Tags}
 use Rattle.passes.specs.Answers.{number_of, numbers_of}
 use Rattle.draft.specs.Outcomes.{Outcome}
-use Rattle.draft.specs.Outcomes.{Written, Refused}
+use Rattle.draft.specs.Outcomes.{Written}
 use Rattle.net.specs.Net.{bits_of}
 use Rattle.book_model.specs.Entering.{Entering}
 use Rattle.book_model.specs.PlainList.{Finding, Tallying, Change}

@@ -1,5 +1,5 @@
 use mathlib.Core.List.{List, [], ◌∷◌, ◌++◌}
-use mathlib.Core.Path.{◌≡◌, refl, sym, ap, ◌∙◌}
+use mathlib.Core.Path.{◌≡◌, refl, ap, ◌∙◌}
 use Prim.Native.Nat.{ℕ}
 use lib.ListN.{length, drop, set}
 use Rattle.passes.specs.Answers.{answer_number, numbers_of}
@@ -22,5 +22,5 @@ returns c =
     ] in
     let read : c.copy_from_slice.new.self ≡ numbers_of c.args.bytes told = c.copy_from_slice.ensures.after ∙ c.tell-number.ensures.1 in
     let placed : set (c.copy_from_slice.new.self ++ drop 12 c.args.answer.now) 12 first ≡ c.copy_from_slice.new.self ++ (first ∷ []) =
-        set-last c.copy_from_slice.new.self c.args.answer.now 12 first (ap length read ∙ twelve c.args.bytes told) c.told-answer in
+    set-last c.copy_from_slice.new.self c.args.answer.now 12 first (ap length read ∙ twelve c.args.bytes told) c.told-answer in
     (c.tell-number.ensures.0 ∙ number, placed ∙ ap (λ (l : List ℕ). l ++ (first ∷ [])) read ∙ numbers)
