@@ -65,7 +65,7 @@ say("1", "parameters and fields that hold a record's type number", lines(r"\b(ki
 say("1", "functions from a code to an enum", functions(lambda m: re.match(r"(code|n|bits|list|line): u64", m.group(3)) and re.match(r"\s*-> (Usage|Origin|DataType|Rule|CodeList|Forms|CharacterSet)\b", m.group(4))))
 say("2", "functions named for one of the two character sets", functions(lambda m: re.search(r"_(in|of_type_in)_(ascii|ebcdic)$", m.group(2))))
 say("2", "types with nothing but three constants", lines(r"^pub struct \w+ \{\}"))
-say("3", "loops by while", lines(r"\bwhile\b(?! let)"))
+say("3", "loops by while", lines(r"\bwhile\b"))
 say("3", "of these, by an index or a count that a constant moves", lines(r"\bwhile (i <|0 < (rows|left|places|end)|1 < left|10 <=)"))
 say("3", "loops by for, and iterators", lines(r"\bfor .+ in |\.(iter|iter_mut|chunks_exact|chunks)\("))
 say("4", "derives of more than Clone and Copy", lines(r"#\[derive\((?!Clone, Copy\)\])"))
