@@ -70,13 +70,7 @@ pub fn put_row<'a>(
     draft[base] = kind;
     draft[base + 1] = start as u64;
     draft[base + 2] = standing::one_if(blank);
-    put_sizes(
-        set,
-        layouts.own_numbers(kind),
-        body,
-        draft,
-        base + 3,
-    );
+    put_sizes(set, layouts.own_numbers(kind), body, draft, base + 3);
 }
 
 // The second pass: a row for each record.

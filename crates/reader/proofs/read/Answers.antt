@@ -13,7 +13,7 @@ fill-requires c = let g = rw c.in_ok-totals.was at c.survey.ensures.1 in (accept
 pub returns-then-table-needed : goal.returns-then-table-needed
 returns-then-table-needed c =
     let k = subst (λ (a : Answer). Meets c.args.file.now c.args.table.now a c.args.table.now) (sym c.of_file.ensures)
-            (no_room c.args.file.now c.args.table.now (λ i. omega (arith, c.shared_slice_known-1.given i)) _ (sym c.survey.ensures.0 ∙ c.in_ok-totals.was) c.if-table-needed.true) in
+    (no_room c.args.file.now c.args.table.now (λ i. omega (arith, c.shared_slice_known-1.given i)) _ (sym c.survey.ensures.0 ∙ c.in_ok-totals.was) c.if-table-needed.true) in
     record { answer = k.0; rows = k.1.0; arranged = k.1.1.0; copy = k.1.1.1.0; own = k.1.1.1.1 }
 
 pub returns : goal.returns
