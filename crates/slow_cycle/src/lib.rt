@@ -3,6 +3,8 @@
 // against those before it, and calls for what the figures show behind it. A record that it does not call for has no place there.
 // The names are the standard's, cut short. `own_` is what stands directly in a cash letter: a credit of its own, with its views, which Figure 1c
 // leaves out "in order to enhance clarity".
+// Stays: what `enter` gives is matched on and not handed up by `?`. So a call takes 744 to 1,208 bytes of the stack, and with `?` 1,000 to 1,704, by which
+// the longest files pass the one MiB that is enough for every file (tests/tests/slow_stack.rs).
 // Stays: each function matches on the type that is called for and calls the function of that record. That is the form that request 12 names: a function
 // for each box of the figures, which call each other in a cycle with fewer bytes left at each call.
 #![tactic(auto)]
@@ -21,10 +23,12 @@ fn file_header(set: CharacterSet, file: &[u8], s: Standing, at: usize) -> Answer
     requires { Called set file.now s at false 1 }
     ensures { IsAnswer set file.now result }
 {
-    let (here, next, called) = enter(set, file, s, 1, at)?;
-    match called {
-        Some(10) => letter(set, file, here, next),
-        _ => not_called_for(set, file, here, next),
+    match enter(set, file, s, 1, at) {
+        Err(refusal) => Err(refusal),
+        Ok((here, next, called)) => match called {
+            Some(10) => letter(set, file, here, next),
+            _ => not_called_for(set, file, here, next),
+        },
     }
 }
 
@@ -34,12 +38,14 @@ fn letter(set: CharacterSet, file: &[u8], s: Standing, at: usize) -> Answer
     requires { Called set file.now s at false 10 }
     ensures { IsAnswer set file.now result }
 {
-    let (here, next, called) = enter(set, file, s, 10, at)?;
-    match called {
-        Some(20) => bundle(set, file, here, next),
-        Some(61) => own_credit(set, file, here, next),
-        Some(90) => letter_control(set, file, here, next),
-        _ => not_called_for(set, file, here, next),
+    match enter(set, file, s, 10, at) {
+        Err(refusal) => Err(refusal),
+        Ok((here, next, called)) => match called {
+            Some(20) => bundle(set, file, here, next),
+            Some(61) => own_credit(set, file, here, next),
+            Some(90) => letter_control(set, file, here, next),
+            _ => not_called_for(set, file, here, next),
+        },
     }
 }
 
@@ -49,12 +55,14 @@ fn bundle(set: CharacterSet, file: &[u8], s: Standing, at: usize) -> Answer
     requires { Called set file.now s at false 20 }
     ensures { IsAnswer set file.now result }
 {
-    let (here, next, called) = enter(set, file, s, 20, at)?;
-    match called {
-        Some(25) => check(set, file, here, next),
-        Some(31) => returned(set, file, here, next),
-        Some(61) => credit(set, file, here, next),
-        _ => not_called_for(set, file, here, next),
+    match enter(set, file, s, 20, at) {
+        Err(refusal) => Err(refusal),
+        Ok((here, next, called)) => match called {
+            Some(25) => check(set, file, here, next),
+            Some(31) => returned(set, file, here, next),
+            Some(61) => credit(set, file, here, next),
+            _ => not_called_for(set, file, here, next),
+        },
     }
 }
 
@@ -64,16 +72,18 @@ fn check(set: CharacterSet, file: &[u8], s: Standing, at: usize) -> Answer
     requires { Called set file.now s at true 25 }
     ensures { IsAnswer set file.now result }
 {
-    let (here, next, called) = enter(set, file, s, 25, at)?;
-    match called {
-        Some(26) => check_a(set, file, here, next),
-        Some(27) => check_b(set, file, here, next),
-        Some(28) => check_c(set, file, here, next),
-        Some(50) => view(set, file, here, next),
-        Some(25) => check(set, file, here, next),
-        Some(61) => credit(set, file, here, next),
-        Some(70) => bundle_control(set, file, here, next),
-        _ => not_called_for(set, file, here, next),
+    match enter(set, file, s, 25, at) {
+        Err(refusal) => Err(refusal),
+        Ok((here, next, called)) => match called {
+            Some(26) => check_a(set, file, here, next),
+            Some(27) => check_b(set, file, here, next),
+            Some(28) => check_c(set, file, here, next),
+            Some(50) => view(set, file, here, next),
+            Some(25) => check(set, file, here, next),
+            Some(61) => credit(set, file, here, next),
+            Some(70) => bundle_control(set, file, here, next),
+            _ => not_called_for(set, file, here, next),
+        },
     }
 }
 
@@ -83,16 +93,18 @@ fn check_a(set: CharacterSet, file: &[u8], s: Standing, at: usize) -> Answer
     requires { Called set file.now s at true 26 }
     ensures { IsAnswer set file.now result }
 {
-    let (here, next, called) = enter(set, file, s, 26, at)?;
-    match called {
-        Some(26) => check_a(set, file, here, next),
-        Some(27) => check_b(set, file, here, next),
-        Some(28) => check_c(set, file, here, next),
-        Some(50) => view(set, file, here, next),
-        Some(25) => check(set, file, here, next),
-        Some(61) => credit(set, file, here, next),
-        Some(70) => bundle_control(set, file, here, next),
-        _ => not_called_for(set, file, here, next),
+    match enter(set, file, s, 26, at) {
+        Err(refusal) => Err(refusal),
+        Ok((here, next, called)) => match called {
+            Some(26) => check_a(set, file, here, next),
+            Some(27) => check_b(set, file, here, next),
+            Some(28) => check_c(set, file, here, next),
+            Some(50) => view(set, file, here, next),
+            Some(25) => check(set, file, here, next),
+            Some(61) => credit(set, file, here, next),
+            Some(70) => bundle_control(set, file, here, next),
+            _ => not_called_for(set, file, here, next),
+        },
     }
 }
 
@@ -102,14 +114,16 @@ fn check_b(set: CharacterSet, file: &[u8], s: Standing, at: usize) -> Answer
     requires { Called set file.now s at true 27 }
     ensures { IsAnswer set file.now result }
 {
-    let (here, next, called) = enter(set, file, s, 27, at)?;
-    match called {
-        Some(28) => check_c(set, file, here, next),
-        Some(50) => view(set, file, here, next),
-        Some(25) => check(set, file, here, next),
-        Some(61) => credit(set, file, here, next),
-        Some(70) => bundle_control(set, file, here, next),
-        _ => not_called_for(set, file, here, next),
+    match enter(set, file, s, 27, at) {
+        Err(refusal) => Err(refusal),
+        Ok((here, next, called)) => match called {
+            Some(28) => check_c(set, file, here, next),
+            Some(50) => view(set, file, here, next),
+            Some(25) => check(set, file, here, next),
+            Some(61) => credit(set, file, here, next),
+            Some(70) => bundle_control(set, file, here, next),
+            _ => not_called_for(set, file, here, next),
+        },
     }
 }
 
@@ -119,14 +133,16 @@ fn check_c(set: CharacterSet, file: &[u8], s: Standing, at: usize) -> Answer
     requires { Called set file.now s at true 28 }
     ensures { IsAnswer set file.now result }
 {
-    let (here, next, called) = enter(set, file, s, 28, at)?;
-    match called {
-        Some(28) => check_c(set, file, here, next),
-        Some(50) => view(set, file, here, next),
-        Some(25) => check(set, file, here, next),
-        Some(61) => credit(set, file, here, next),
-        Some(70) => bundle_control(set, file, here, next),
-        _ => not_called_for(set, file, here, next),
+    match enter(set, file, s, 28, at) {
+        Err(refusal) => Err(refusal),
+        Ok((here, next, called)) => match called {
+            Some(28) => check_c(set, file, here, next),
+            Some(50) => view(set, file, here, next),
+            Some(25) => check(set, file, here, next),
+            Some(61) => credit(set, file, here, next),
+            Some(70) => bundle_control(set, file, here, next),
+            _ => not_called_for(set, file, here, next),
+        },
     }
 }
 
@@ -136,11 +152,13 @@ fn returned(set: CharacterSet, file: &[u8], s: Standing, at: usize) -> Answer
     requires { Called set file.now s at true 31 }
     ensures { IsAnswer set file.now result }
 {
-    let (here, next, called) = enter(set, file, s, 31, at)?;
-    match called {
-        Some(32) => return_a(set, file, here, next),
-        Some(33) => return_b(set, file, here, next),
-        _ => not_called_for(set, file, here, next),
+    match enter(set, file, s, 31, at) {
+        Err(refusal) => Err(refusal),
+        Ok((here, next, called)) => match called {
+            Some(32) => return_a(set, file, here, next),
+            Some(33) => return_b(set, file, here, next),
+            _ => not_called_for(set, file, here, next),
+        },
     }
 }
 
@@ -150,11 +168,13 @@ fn return_a(set: CharacterSet, file: &[u8], s: Standing, at: usize) -> Answer
     requires { Called set file.now s at true 32 }
     ensures { IsAnswer set file.now result }
 {
-    let (here, next, called) = enter(set, file, s, 32, at)?;
-    match called {
-        Some(32) => return_a(set, file, here, next),
-        Some(33) => return_b(set, file, here, next),
-        _ => not_called_for(set, file, here, next),
+    match enter(set, file, s, 32, at) {
+        Err(refusal) => Err(refusal),
+        Ok((here, next, called)) => match called {
+            Some(32) => return_a(set, file, here, next),
+            Some(33) => return_b(set, file, here, next),
+            _ => not_called_for(set, file, here, next),
+        },
     }
 }
 
@@ -164,15 +184,17 @@ fn return_b(set: CharacterSet, file: &[u8], s: Standing, at: usize) -> Answer
     requires { Called set file.now s at true 33 }
     ensures { IsAnswer set file.now result }
 {
-    let (here, next, called) = enter(set, file, s, 33, at)?;
-    match called {
-        Some(34) => return_c(set, file, here, next),
-        Some(35) => return_d(set, file, here, next),
-        Some(50) => view(set, file, here, next),
-        Some(31) => returned(set, file, here, next),
-        Some(61) => credit(set, file, here, next),
-        Some(70) => bundle_control(set, file, here, next),
-        _ => not_called_for(set, file, here, next),
+    match enter(set, file, s, 33, at) {
+        Err(refusal) => Err(refusal),
+        Ok((here, next, called)) => match called {
+            Some(34) => return_c(set, file, here, next),
+            Some(35) => return_d(set, file, here, next),
+            Some(50) => view(set, file, here, next),
+            Some(31) => returned(set, file, here, next),
+            Some(61) => credit(set, file, here, next),
+            Some(70) => bundle_control(set, file, here, next),
+            _ => not_called_for(set, file, here, next),
+        },
     }
 }
 
@@ -182,14 +204,16 @@ fn return_c(set: CharacterSet, file: &[u8], s: Standing, at: usize) -> Answer
     requires { Called set file.now s at true 34 }
     ensures { IsAnswer set file.now result }
 {
-    let (here, next, called) = enter(set, file, s, 34, at)?;
-    match called {
-        Some(35) => return_d(set, file, here, next),
-        Some(50) => view(set, file, here, next),
-        Some(31) => returned(set, file, here, next),
-        Some(61) => credit(set, file, here, next),
-        Some(70) => bundle_control(set, file, here, next),
-        _ => not_called_for(set, file, here, next),
+    match enter(set, file, s, 34, at) {
+        Err(refusal) => Err(refusal),
+        Ok((here, next, called)) => match called {
+            Some(35) => return_d(set, file, here, next),
+            Some(50) => view(set, file, here, next),
+            Some(31) => returned(set, file, here, next),
+            Some(61) => credit(set, file, here, next),
+            Some(70) => bundle_control(set, file, here, next),
+            _ => not_called_for(set, file, here, next),
+        },
     }
 }
 
@@ -199,14 +223,16 @@ fn return_d(set: CharacterSet, file: &[u8], s: Standing, at: usize) -> Answer
     requires { Called set file.now s at true 35 }
     ensures { IsAnswer set file.now result }
 {
-    let (here, next, called) = enter(set, file, s, 35, at)?;
-    match called {
-        Some(35) => return_d(set, file, here, next),
-        Some(50) => view(set, file, here, next),
-        Some(31) => returned(set, file, here, next),
-        Some(61) => credit(set, file, here, next),
-        Some(70) => bundle_control(set, file, here, next),
-        _ => not_called_for(set, file, here, next),
+    match enter(set, file, s, 35, at) {
+        Err(refusal) => Err(refusal),
+        Ok((here, next, called)) => match called {
+            Some(35) => return_d(set, file, here, next),
+            Some(50) => view(set, file, here, next),
+            Some(31) => returned(set, file, here, next),
+            Some(61) => credit(set, file, here, next),
+            Some(70) => bundle_control(set, file, here, next),
+            _ => not_called_for(set, file, here, next),
+        },
     }
 }
 
@@ -216,10 +242,12 @@ fn view(set: CharacterSet, file: &[u8], s: Standing, at: usize) -> Answer
     requires { Called set file.now s at true 50 }
     ensures { IsAnswer set file.now result }
 {
-    let (here, next, called) = enter(set, file, s, 50, at)?;
-    match called {
-        Some(52) => view_data(set, file, here, next),
-        _ => not_called_for(set, file, here, next),
+    match enter(set, file, s, 50, at) {
+        Err(refusal) => Err(refusal),
+        Ok((here, next, called)) => match called {
+            Some(52) => view_data(set, file, here, next),
+            _ => not_called_for(set, file, here, next),
+        },
     }
 }
 
@@ -229,15 +257,17 @@ fn view_data(set: CharacterSet, file: &[u8], s: Standing, at: usize) -> Answer
     requires { Called set file.now s at true 52 }
     ensures { IsAnswer set file.now result }
 {
-    let (here, next, called) = enter(set, file, s, 52, at)?;
-    match called {
-        Some(50) => view(set, file, here, next),
-        Some(54) => analysis(set, file, here, next),
-        Some(25) => check(set, file, here, next),
-        Some(31) => returned(set, file, here, next),
-        Some(61) => credit(set, file, here, next),
-        Some(70) => bundle_control(set, file, here, next),
-        _ => not_called_for(set, file, here, next),
+    match enter(set, file, s, 52, at) {
+        Err(refusal) => Err(refusal),
+        Ok((here, next, called)) => match called {
+            Some(50) => view(set, file, here, next),
+            Some(54) => analysis(set, file, here, next),
+            Some(25) => check(set, file, here, next),
+            Some(31) => returned(set, file, here, next),
+            Some(61) => credit(set, file, here, next),
+            Some(70) => bundle_control(set, file, here, next),
+            _ => not_called_for(set, file, here, next),
+        },
     }
 }
 
@@ -247,14 +277,16 @@ fn analysis(set: CharacterSet, file: &[u8], s: Standing, at: usize) -> Answer
     requires { Called set file.now s at true 54 }
     ensures { IsAnswer set file.now result }
 {
-    let (here, next, called) = enter(set, file, s, 54, at)?;
-    match called {
-        Some(50) => view(set, file, here, next),
-        Some(25) => check(set, file, here, next),
-        Some(31) => returned(set, file, here, next),
-        Some(61) => credit(set, file, here, next),
-        Some(70) => bundle_control(set, file, here, next),
-        _ => not_called_for(set, file, here, next),
+    match enter(set, file, s, 54, at) {
+        Err(refusal) => Err(refusal),
+        Ok((here, next, called)) => match called {
+            Some(50) => view(set, file, here, next),
+            Some(25) => check(set, file, here, next),
+            Some(31) => returned(set, file, here, next),
+            Some(61) => credit(set, file, here, next),
+            Some(70) => bundle_control(set, file, here, next),
+            _ => not_called_for(set, file, here, next),
+        },
     }
 }
 
@@ -264,14 +296,16 @@ fn credit(set: CharacterSet, file: &[u8], s: Standing, at: usize) -> Answer
     requires { Called set file.now s at true 61 }
     ensures { IsAnswer set file.now result }
 {
-    let (here, next, called) = enter(set, file, s, 61, at)?;
-    match called {
-        Some(50) => view(set, file, here, next),
-        Some(61) => credit(set, file, here, next),
-        Some(25) => check(set, file, here, next),
-        Some(31) => returned(set, file, here, next),
-        Some(70) => bundle_control(set, file, here, next),
-        _ => not_called_for(set, file, here, next),
+    match enter(set, file, s, 61, at) {
+        Err(refusal) => Err(refusal),
+        Ok((here, next, called)) => match called {
+            Some(50) => view(set, file, here, next),
+            Some(61) => credit(set, file, here, next),
+            Some(25) => check(set, file, here, next),
+            Some(31) => returned(set, file, here, next),
+            Some(70) => bundle_control(set, file, here, next),
+            _ => not_called_for(set, file, here, next),
+        },
     }
 }
 
@@ -281,12 +315,14 @@ fn bundle_control(set: CharacterSet, file: &[u8], s: Standing, at: usize) -> Ans
     requires { Called set file.now s at true 70 }
     ensures { IsAnswer set file.now result }
 {
-    let (here, next, called) = enter(set, file, s, 70, at)?;
-    match called {
-        Some(20) => bundle(set, file, here, next),
-        Some(61) => own_credit(set, file, here, next),
-        Some(90) => letter_control(set, file, here, next),
-        _ => not_called_for(set, file, here, next),
+    match enter(set, file, s, 70, at) {
+        Err(refusal) => Err(refusal),
+        Ok((here, next, called)) => match called {
+            Some(20) => bundle(set, file, here, next),
+            Some(61) => own_credit(set, file, here, next),
+            Some(90) => letter_control(set, file, here, next),
+            _ => not_called_for(set, file, here, next),
+        },
     }
 }
 
@@ -296,13 +332,15 @@ fn own_credit(set: CharacterSet, file: &[u8], s: Standing, at: usize) -> Answer
     requires { Called set file.now s at false 61 }
     ensures { IsAnswer set file.now result }
 {
-    let (here, next, called) = enter(set, file, s, 61, at)?;
-    match called {
-        Some(50) => own_view(set, file, here, next),
-        Some(61) => own_credit(set, file, here, next),
-        Some(20) => bundle(set, file, here, next),
-        Some(90) => letter_control(set, file, here, next),
-        _ => not_called_for(set, file, here, next),
+    match enter(set, file, s, 61, at) {
+        Err(refusal) => Err(refusal),
+        Ok((here, next, called)) => match called {
+            Some(50) => own_view(set, file, here, next),
+            Some(61) => own_credit(set, file, here, next),
+            Some(20) => bundle(set, file, here, next),
+            Some(90) => letter_control(set, file, here, next),
+            _ => not_called_for(set, file, here, next),
+        },
     }
 }
 
@@ -312,10 +350,12 @@ fn own_view(set: CharacterSet, file: &[u8], s: Standing, at: usize) -> Answer
     requires { Called set file.now s at false 50 }
     ensures { IsAnswer set file.now result }
 {
-    let (here, next, called) = enter(set, file, s, 50, at)?;
-    match called {
-        Some(52) => own_data(set, file, here, next),
-        _ => not_called_for(set, file, here, next),
+    match enter(set, file, s, 50, at) {
+        Err(refusal) => Err(refusal),
+        Ok((here, next, called)) => match called {
+            Some(52) => own_data(set, file, here, next),
+            _ => not_called_for(set, file, here, next),
+        },
     }
 }
 
@@ -325,14 +365,16 @@ fn own_data(set: CharacterSet, file: &[u8], s: Standing, at: usize) -> Answer
     requires { Called set file.now s at false 52 }
     ensures { IsAnswer set file.now result }
 {
-    let (here, next, called) = enter(set, file, s, 52, at)?;
-    match called {
-        Some(50) => own_view(set, file, here, next),
-        Some(54) => own_analysis(set, file, here, next),
-        Some(61) => own_credit(set, file, here, next),
-        Some(20) => bundle(set, file, here, next),
-        Some(90) => letter_control(set, file, here, next),
-        _ => not_called_for(set, file, here, next),
+    match enter(set, file, s, 52, at) {
+        Err(refusal) => Err(refusal),
+        Ok((here, next, called)) => match called {
+            Some(50) => own_view(set, file, here, next),
+            Some(54) => own_analysis(set, file, here, next),
+            Some(61) => own_credit(set, file, here, next),
+            Some(20) => bundle(set, file, here, next),
+            Some(90) => letter_control(set, file, here, next),
+            _ => not_called_for(set, file, here, next),
+        },
     }
 }
 
@@ -342,13 +384,15 @@ fn own_analysis(set: CharacterSet, file: &[u8], s: Standing, at: usize) -> Answe
     requires { Called set file.now s at false 54 }
     ensures { IsAnswer set file.now result }
 {
-    let (here, next, called) = enter(set, file, s, 54, at)?;
-    match called {
-        Some(50) => own_view(set, file, here, next),
-        Some(61) => own_credit(set, file, here, next),
-        Some(20) => bundle(set, file, here, next),
-        Some(90) => letter_control(set, file, here, next),
-        _ => not_called_for(set, file, here, next),
+    match enter(set, file, s, 54, at) {
+        Err(refusal) => Err(refusal),
+        Ok((here, next, called)) => match called {
+            Some(50) => own_view(set, file, here, next),
+            Some(61) => own_credit(set, file, here, next),
+            Some(20) => bundle(set, file, here, next),
+            Some(90) => letter_control(set, file, here, next),
+            _ => not_called_for(set, file, here, next),
+        },
     }
 }
 
@@ -358,11 +402,13 @@ fn letter_control(set: CharacterSet, file: &[u8], s: Standing, at: usize) -> Ans
     requires { Called set file.now s at false 90 }
     ensures { IsAnswer set file.now result }
 {
-    let (here, next, called) = enter(set, file, s, 90, at)?;
-    match called {
-        Some(10) => letter(set, file, here, next),
-        Some(99) => file_control(set, file, here, next),
-        _ => not_called_for(set, file, here, next),
+    match enter(set, file, s, 90, at) {
+        Err(refusal) => Err(refusal),
+        Ok((here, next, called)) => match called {
+            Some(10) => letter(set, file, here, next),
+            Some(99) => file_control(set, file, here, next),
+            _ => not_called_for(set, file, here, next),
+        },
     }
 }
 
@@ -371,8 +417,10 @@ fn file_control(set: CharacterSet, file: &[u8], s: Standing, at: usize) -> Answe
     requires { Called set file.now s at false 99 }
     ensures { IsAnswer set file.now result }
 {
-    let (here, next, _) = enter(set, file, s, 99, at)?;
-    not_called_for(set, file, here, next)
+    match enter(set, file, s, 99, at) {
+        Err(refusal) => Err(refusal),
+        Ok((here, next, _)) => not_called_for(set, file, here, next),
+    }
 }
 
 // The answer to a file of up to 65,536 bytes, whatever the table: at its start a file header is called for.
