@@ -32,7 +32,8 @@ fn in_sources() -> BTreeMap<String, Found> {
                 of.1 = number(behind);
             } else if let Some((record_type, call)) = line.trim().split_once(" => ") {
                 let called = call.strip_suffix("(set, file, here, next),");
-                if let (Ok(record_type), Some(called)) = (record_type.parse(), called) {
+                let record_type = record_type.strip_prefix("Some(").and_then(|digits| digits.strip_suffix(')'));
+                if let (Some(Ok(record_type)), Some(called)) = (record_type.map(str::parse), called) {
                     of.2.push((record_type, called.to_string()));
                 }
             }
