@@ -12,7 +12,9 @@ pub fn copy_bytes(text: &[u8], from: usize, size: usize, out: &mut [u8], at: usi
     requires { (from + size ≤ length text.now) × (at + size ≤ length out.old) }
     ensures { out.new ≡ sets out.old at (part from size text.now) }
 {
-    out[at..at + size].copy_from_slice(&text[from..from + size]);
+    for (i, byte) in text[from..from + size].iter().enumerate() {
+        out[at + i] = *byte;
+    }
 }
 
 // The characters of code page 037 as those of ASCII.
