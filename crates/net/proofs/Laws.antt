@@ -84,14 +84,10 @@ net-is (negsuc n) e =
       eq-eqb (bits_of (negsuc n)) (bits_of (negsuc n)) refl,
     )
 
--- what the library's difference is, and its sum where it fits
+-- what the library's difference is
 pub difference : (credit debit : ℕ) → pos credit -ℤ pos debit ≡ net_of credit debit
 difference credit zero = sym (net-pos (credit + 0) credit 0 (omega arith))
 difference credit (suc n) = refl
-
-pub none_is : (o : Option ℤ) {P : Type 0} (v : ℤ) → SomeIff o P v → o ≡ None → P → ⊥
-none_is None v s e = s
-none_is (Some x) v s e = cc
 
 -- bits that say a number, and a number that none say
 pub fits-said : (bits : ℕ) (z : ℤ) → SFits w64 z → eqb bits (bits_of z) ≡ is_net bits z
@@ -116,27 +112,7 @@ unsaid bits credit debit none = rw (← difference credit debit) (of (pos credit
         by true e = absurd (none (held z e))
         by false e = refl
 
--- a number within the bound is there, and one that no i64 holds is beyond it
+-- a difference within the bound is there
 pub within-some : (o : Option ℤ) (v : ℤ) (credit debit : ℕ) → within (net_of credit debit) ≡ true → SomeIff o (SFits w64 (pos credit -ℤ pos debit)) v → IsSome o
 within-some None v credit debit e s = absurd (s (subst (SFits w64) (sym (difference credit debit)) (within-fits (net_of credit debit) e)))
 within-some (Some x) v credit debit e s = refl
-
-beyond : (z : ℤ) → (SFits w64 z → ⊥) → false ≡ within z
-beyond z none = of (within z) refl
-  where
-    of : (t : Bool) → within z ≡ t → false ≡ t
-    of true e = absurd (none (within-fits z e))
-    of false e = refl
-
-module _ (net : ℤ) (holds : SFits w64 net) (credit debit : ℕ) where
-  pub beyond-above : debit ≤ credit → (SFits w64 (to_z w64 (of_z w64 net) +ℤ pos (credit - debit)) → ⊥) → false ≡ within (net +ℤ net_of credit debit)
-  beyond-above h none =
-      let same : net +ℤ net_of credit debit ≡ to_z w64 (of_z w64 net) +ℤ pos (credit - debit) = rw (to_z-of_z w64 net holds, net-pos (credit - debit) credit debit (omega arith)) in
-      beyond (net +ℤ net_of credit debit) (λ f. none (subst (SFits w64) same f))
-
-  pub beyond-below : credit < debit → (SFits w64 (to_z w64 (of_z w64 net) -ℤ pos (debit - credit)) → ⊥) → false ≡ within (net +ℤ net_of credit debit)
-  beyond-below h none =
-      let n = debit - credit - 1 in
-      let one_more : debit - credit ≡ suc n = omega arith in
-      let same : net +ℤ net_of credit debit ≡ to_z w64 (of_z w64 net) -ℤ pos (debit - credit) = rw (to_z-of_z w64 net holds, one_more, net-neg n credit debit (omega arith)) in
-      beyond (net +ℤ net_of credit debit) (λ f. none (subst (SFits w64) same f))
