@@ -3,7 +3,6 @@ use mathlib.Core.Path.{◌≡◌, refl, ap, sym, ◌∙◌}
 use mathlib.Core.Bool.{Bool, true, false, cond, ◌&&◌}
 use mathlib.Core.List.{List, [], ◌∷◌}
 use Prim.Native.Nat.{ℕ, zero, suc, ◌+◌, ◌-◌, ◌*◌, ◌≤◌, ◌<◌, min, max}
-use native.Mathlib.Nat.{add-zero, sub-zero, sub-eq-zero_of_le}
 use native.Mathlib.Omega.{arith}
 use Rattle.std.specs.Prelude.{Ok, Err}
 use Rattle.frame.specs.Unless.{unless}
@@ -11,11 +10,11 @@ use Rattle.tiff.specs.declared.TagFault.{TagFault}
 use Rattle.tiff.specs.declared.TagFault.TheVariants.{WrongValue}
 use Rattle.tiff.specs.Required.{Tags}
 use lib.Dec.{ltb}
-use lib.ListN.{get_or, get_or-eq_default}
-use borrow.Author.Tests.{eq-eqb, ne_eqb}
+use lib.ListN.{length, get_or, get_or-eq_default}
+use borrow.Author.Tests.{leb-true, eq-eqb, ne_eqb}
 use Rattle.tiff_directory.specs.declared.Entry.{Entry}
-use Rattle.tiff_directory.specs.Entries.{entry_at, entries_from, EntryRead}
-use Rattle.tiff.specs.Image.{type_size, value_inside, values_inside, first_with, directory_inside, is_inside, entries_of, strip_inside, IsFirst, not_above, disordered, lowest}
+use Rattle.tiff_directory.specs.Entries.{short_at, long_at, entry_at, entries_from, EntryRead}
+use Rattle.tiff.specs.Image.{type_size, value_inside, values_inside, first_with, absent, directory_start, entry_count, directory_inside, is_inside, entries_of, strip_inside, IsFirst, not_above, disordered, lowest}
 
 -- no number of a table is above its greatest
 abbrev greatest : List ℕ → ℕ
@@ -53,64 +52,53 @@ module _ {image seen : List ℕ} {first count : ℕ} (is : IsFirst image seen fi
   unfolding is_inside
   inside-is = rw (first-entries, is.same, is.inside)
 
--- the entries of a directory from one on
-abbrev pub left : List ℕ → ℕ → ℕ → ℕ → List Entry
-left image first count i = entries_from image (count - i) (first + 12 * i)
+-- where all lies within the image, the directory does
+pub directory-within : (image : List ℕ) (start count : ℕ) → start ≡ long_at image 4 → count ≡ short_at image start → is_inside image ≡ true
+    → start + 2 + 12 * count + 4 ≤ length image
+unfolding is_inside directory_inside directory_start entry_count
+directory-within image start count at many e = rw (many, at) (leb-true _ _ (first_of _ _ _ e))
+  where
+    first_of : (a b c : Bool) → a && b && c ≡ true → a ≡ true
+    first_of true b c e = refl
+    first_of false b c e = e
 
-module _ (image : List ℕ) (first count : ℕ) where
-  pub left-all : left image first count 0 ≡ entries_from image count first
-  left-all = rw (sub-zero count, add-zero first)
+module _ (image : List ℕ) (at : ℕ) where
+  entries_none : (left : ℕ) → left ≤ 0 → entries_from image left at ≡ []
+  entries_none zero h = refl
+  entries_none (suc n) h = absurd (omega arith)
 
-  pub left-none : (i : ℕ) → count ≤ i → left image first count i ≡ []
-  left-none i h = rw (sub-eq-zero_of_le h)
+  entries-on : (left : ℕ) → 0 < left → entries_from image left at ≡ entry_at image at ∷ entries_from image (left - 1) (at + 12)
+  entries-on zero h = absurd (omega arith)
+  entries-on (suc n) h = let e : n ≡ suc n - 1 = omega arith in ap (λ (m : ℕ). entry_at image at ∷ entries_from image m (at + 12)) e
 
-  entries-on : (n at : ℕ) → 0 < n → entries_from image n at ≡ entry_at image at ∷ entries_from image (n - 1) (at + 12)
-  entries-on zero at h = absurd (omega arith)
-  entries-on (suc n) at h = let e : n ≡ suc n - 1 = omega arith in ap (λ (m : ℕ). entry_at image at ∷ entries_from image m (at + 12)) e
+-- no entry is left
+module _ (image : List ℕ) (at left : ℕ) (none : left ≤ 0) where
+  pub values-none : values_inside image (entries_from image left at) ≡ true
+  values-none = ap (values_inside image) (entries_none image at left none)
 
-  -- the entry at a place, and those behind it
-  module _ (i : ℕ) (more : i < count) (e : Entry) (read : EntryRead image (first + 12 * i) e) where
-    pub left-on : left image first count i ≡ e ∷ left image first count (i + 1)
-    left-on =
-        let fewer : count - i - 1 ≡ count - (i + 1) = omega arith in
-        let on : first + 12 * i + 12 ≡ first + 12 * (i + 1) = omega arith in
-        entries-on (count - i) (first + 12 * i) (omega arith) ∙ rw (fewer, on, sym read.is)
+  pub first-none : (tag : ℕ) → first_with tag (entries_from image left at) ≡ absent
+  first-none tag = ap (first_with tag) (entries_none image at left none)
 
-    pub values-out : value_inside image e ≡ false → values_inside image (left image first count i) ≡ false
-    values-out outside = rw (left-on, outside)
+-- the entry at a place, and those behind it
+module _ (image : List ℕ) (at left : ℕ) (more : 0 < left) (e : Entry) (read : EntryRead image at e) where
+  entry-on : entries_from image left at ≡ e ∷ entries_from image (left - 1) (at + 12)
+  entry-on = entries-on image at left more ∙ ap (λ (x : Entry). x ∷ entries_from image (left - 1) (at + 12)) (sym read.is)
 
-    pub values-on : value_inside image e ≡ true → values_inside image (left image first count (i + 1)) ≡ values_inside image (left image first count i)
-    values-on inside = rw (left-on, inside)
+  pub values-out : value_inside image e ≡ false → values_inside image (entries_from image left at) ≡ false
+  values-out outside = rw (entry-on, outside)
 
-    pub first-here : (tag : ℕ) → e.tag ≡ tag → first_with tag (left image first count i) ≡ e
-    first-here tag same = rw (left-on, eq-eqb _ _ same)
+  pub values-on : value_inside image e ≡ true → values_inside image (entries_from image (left - 1) (at + 12)) ≡ values_inside image (entries_from image left at)
+  values-on inside = rw (entry-on, inside)
 
-    pub first_on : (tag : ℕ) → (e.tag ≡ tag → ⊥) → first_with tag (left image first count (i + 1)) ≡ first_with tag (left image first count i)
-    first_on tag other = rw (left-on, ne_eqb _ _ other)
+  pub first-here : (tag : ℕ) → e.tag ≡ tag → first_with tag (entries_from image left at) ≡ e
+  first-here tag same = rw (entry-on, eq-eqb _ _ same)
 
-  -- the lowest tag so far, with the lowest of those that are left
-  abbrev pub lowest_left : ℕ → ℕ → ℕ
-  lowest_left low i = min low (lowest (disordered (left image first count i)))
+  pub first_on : (tag : ℕ) → (e.tag ≡ tag → ⊥) → first_with tag (entries_from image (left - 1) (at + 12)) ≡ first_with tag (entries_from image left at)
+  first_on tag other = rw (entry-on, ne_eqb _ _ other)
 
-  -- one entry has none before it
-  pub lowest-none : (low i : ℕ) → count ≤ i + 1 → low ≤ 0x1_0000 → lowest_left low i ≡ low
-  lowest-none low i h small = of (count - i) (first + 12 * i) (omega arith)
-    where
-      of : (n at : ℕ) → n ≤ 1 → min low (lowest (disordered (entries_from image n at))) ≡ low
-      of zero at k = omega arith
-      of (suc zero) at k = omega arith
-      of (suc (suc n)) at k = absurd (omega arith)
-
-  -- one more pair of neighbours: the second tag comes in where it is not above the first
-  pub lowest_step : (low i : ℕ) → i + 1 < count → (before e : Entry) → EntryRead image (first + 12 * i) before → EntryRead image (first + 12 * (i + 1)) e
-      → lowest_left (cond (ltb before.tag e.tag) low (min low e.tag)) (i + 1) ≡ lowest_left low i
-  lowest_step low i more before e read next =
-      rw (left-on i (omega arith) before read, left-on (i + 1) more e next)
-      (cases (ltb before.tag e.tag) (not_above e.tag (left image first count (i + 1 + 1))))
-    where
-      cases : (above : Bool) (tags : List ℕ) → min (cond above low (min low e.tag)) (lowest tags) ≡ min low (lowest (cond above tags (e.tag ∷ tags)))
-      cases true tags = refl
-      cases false tags = omega arith
+-- the lowest tag so far, with the lowest of those that are left
+abbrev pub lowest_left : List ℕ → ℕ → ℕ → ℕ → ℕ
+lowest_left image low left at = min low (lowest (disordered (entries_from image left at)))
 
 pub lowest-all : (tags : List ℕ) → min 0x1_0000 (lowest tags) ≡ lowest tags
 lowest-all tags = let h = most tags in omega arith
@@ -119,10 +107,26 @@ lowest-all tags = let h = most tags in omega arith
     most [] = omega arith
     most (tag ∷ tags) = let h = most tags in omega arith
 
--- no tag is above 65,536
+-- one entry has none before it
+pub lowest-none : (image : List ℕ) (low at left : ℕ) → left ≤ 1 → low ≤ 0x1_0000 → lowest_left image low left at ≡ low
+lowest-none image low at zero h small = omega arith
+lowest-none image low at (suc zero) h small = omega arith
+lowest-none image low at (suc (suc n)) h small = absurd (omega arith)
+
+-- one more pair of neighbours: no tag is above 65,536, and the second tag comes in where it is not above the first
 pub low_small : (above : Bool) (low tag : ℕ) → low ≤ 0x1_0000 → cond above low (min low tag) ≤ 0x1_0000
 low_small true low tag h = h
 low_small false low tag h = omega arith
+
+pub lowest_step : (image : List ℕ) (low at left : ℕ) → 1 < left → (before e : Entry) → EntryRead image at before → EntryRead image (at + 12) e
+    → lowest_left image (cond (ltb before.tag e.tag) low (min low e.tag)) (left - 1) (at + 12) ≡ lowest_left image low left at
+lowest_step image low at left more before e read next =
+    rw (entry-on image at left (omega arith) before read, entry-on image (at + 12) (left - 1) (omega arith) e next)
+    (cases (ltb before.tag e.tag) (not_above e.tag (entries_from image (left - 1 - 1) (at + 12 + 12))))
+  where
+    cases : (above : Bool) (tags : List ℕ) → min (cond above low (min low e.tag)) (lowest tags) ≡ min low (lowest (cond above tags (e.tag ∷ tags)))
+    cases true tags = refl
+    cases false tags = omega arith
 
 -- what `required` said of one tag after the other: a tag that is right passes, and at the first that is not it ends
 pub passes : (b : Bool) (tag : ℕ) (next : Tags) {said answer : Tags} {u : Unit {0}}

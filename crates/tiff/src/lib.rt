@@ -2,9 +2,9 @@
 // byte of the picture itself is looked at, so the time grows with the directory alone.
 #![tactic(auto)]
 
-ghost use Rattle.std.specs.Prelude.{cond, ◌≡◌, ◌+◌, ◌*◌, ◌≤◌, ◌<◌, min, ltb, length, false, MatchOption};
+ghost use Rattle.std.specs.Prelude.{ℕ, cond, ◌≡◌, ◌+◌, ◌*◌, ◌≤◌, ◌<◌, min, ltb, length, false, MatchOption};
 ghost use Rattle.frame.specs.Unless.{unless};
-ghost use Rattle.tiff_directory.specs.Entries.{entries_from, EntryRead};
+ghost use Rattle.tiff_directory.specs.Entries.{entries_from};
 ghost use Rattle.tiff.specs.Image.{is_marked, type_size, value_inside, values_inside, first_with, is_number, number_in, strip_inside, directory_inside, IsFirst, disordered, lowest};
 ghost use Rattle.tiff.specs.Required.{is_measure, is_code, is_resolution, is_like, required_tags};
 ghost use Rattle.tiff.specs.Judged.{number_of, tag_of, tags_of};
@@ -39,6 +39,46 @@ impl TagFault {
         match self {
             TagFault::Cut => 0,
             TagFault::WrongOrder(tag) | TagFault::WrongValue(tag) => tag,
+        }
+    }
+}
+
+// An image's tags: as they should be, or what is wrong.
+pub type Tags = Result<(), TagFault>;
+
+// What an answer says, right tags too: its number and its tag, each 0 of right ones.
+pub trait TagsExt {
+    ghost number_told: { Self → ℕ };
+
+    ghost tag_told: { Self → ℕ };
+
+    fn number(self) -> u64
+        ensures { result ≡ number_told self };
+
+    fn tag(self) -> u64
+        ensures { result ≡ tag_told self };
+}
+
+impl TagsExt for Tags {
+    ghost number_told = { number_of };
+
+    ghost tag_told = { tag_of };
+
+    fn number(self) -> u64
+        ensures { result ≡ number_of self }
+    {
+        match self {
+            Ok(()) => 0,
+            Err(fault) => fault.number(),
+        }
+    }
+
+    fn tag(self) -> u64
+        ensures { result ≡ tag_of self }
+    {
+        match self {
+            Ok(()) => 0,
+            Err(fault) => fault.tag(),
         }
     }
 }
@@ -130,7 +170,7 @@ fn is_like(image: &[u8], x: Entry, y: Entry) -> bool
 }
 
 // That a required tag is as it should be.
-fn required(tag: u64, holds: bool) -> Result<(), TagFault>
+fn required(tag: u64, holds: bool) -> Tags
     ensures { result ≡ unless holds (Err (TagFault.WrongValue tag)) (Ok tt) }
 {
     if holds {
@@ -166,20 +206,16 @@ impl<'a> Directory<'a> {
         })
     }
 
-    fn entry(self, i: u64) -> Entry
-        requires { i < self.count }
-        ensures { EntryRead self.entry.image.now (self.entry.first + 12 * i) result }
-    {
-        tiff_directory::entry_here(self.image, self.first + 12 * i as usize)
-    }
-
     fn values_inside(self) -> bool
         ensures { result ≡ values_inside self.entry.image.now (entries_from self.entry.image.now self.entry.count self.entry.first) }
     {
-        for i in 0..self.count {
-            if !value_inside(self.image, self.entry(i)) {
+        let mut at = self.first;
+        for _ in 0..self.count {
+            let e = tiff_directory::entry_here(self.image, at);
+            if !value_inside(self.image, e) {
                 return false;
             }
+            at += 12;
         }
         true
     }
@@ -188,11 +224,13 @@ impl<'a> Directory<'a> {
     fn first_with(self, tag: u64) -> Entry
         ensures { (result ≡ first_with tag (entries_from self.entry.image.now self.entry.count self.entry.first)) × (result.count ≤ 0xFFFF_FFFF) × (result.value ≤ 0xFFFF_FFFF) }
     {
-        for i in 0..self.count {
-            let e = self.entry(i);
+        let mut at = self.first;
+        for _ in 0..self.count {
+            let e = tiff_directory::entry_here(self.image, at);
             if e.tag == tag {
                 return e;
             }
+            at += 12;
         }
         Entry {
             tag: 0,
@@ -219,14 +257,18 @@ impl<'a> Directory<'a> {
         ensures { result ≡ lowest (disordered (entries_from self.entry.image.now self.entry.count self.entry.first)) }
     {
         let mut low: u64 = 0x1_0000;
-        for i in 1..self.count {
-            low = lowest_with(low, self.entry(i - 1).tag, self.entry(i).tag);
+        let mut at = self.first;
+        for _ in 1..self.count {
+            let before = tiff_directory::entry_here(self.image, at);
+            let e = tiff_directory::entry_behind(self.image, at);
+            low = lowest_with(low, before.tag, e.tag);
+            at += 12;
         }
         low
     }
 
     // Table 1, in the order of the tags.
-    fn required_tags(self) -> Result<(), TagFault>
+    fn required_tags(self) -> Tags
         ensures { result ≡ required_tags self.entry.image.now (entries_from self.entry.image.now self.entry.count self.entry.first) }
     {
         required(256, is_measure(self.first_with(256)))?;
@@ -252,7 +294,7 @@ impl<'a> Directory<'a> {
 }
 
 // The call on one image: any bytes get their answer.
-pub fn judge_tags(image: &[u8]) -> Result<(), TagFault>
+pub fn judge_tags(image: &[u8]) -> Tags
     ensures { result ≡ tags_of image.now }
 {
     if image.len() < 8 {
@@ -264,7 +306,10 @@ pub fn judge_tags(image: &[u8]) -> Result<(), TagFault>
     let Some(directory) = Directory::within(image) else {
         return Err(TagFault::Cut);
     };
-    if !(directory.values_inside() & directory.strip_inside()) {
+    if !directory.values_inside() {
+        return Err(TagFault::Cut);
+    }
+    if !directory.strip_inside() {
         return Err(TagFault::Cut);
     }
     let low = directory.lowest_disordered();

@@ -26,10 +26,13 @@ pub struct DirectoryReader<'a> {
 fn byte_ahead(image: &[u8], at: usize, ahead: usize) -> u8
     ensures { result ≡ get_or image.now (at + ahead) 0 }
 {
-    at.checked_add(ahead)
-        .and_then(|place| image.get(place))
-        .copied()
-        .unwrap_or(0)
+    if image.len() <= at {
+        return 0;
+    }
+    if image.len() - at <= ahead {
+        return 0;
+    }
+    image[at + ahead]
 }
 
 // Two bytes, low byte first.

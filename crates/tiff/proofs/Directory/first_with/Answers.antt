@@ -1,8 +1,11 @@
-use mathlib.Core.Path.{◌∙◌}
+use mathlib.Core.Path.{◌≡◌, ◌∙◌}
+use Prim.Native.Nat.{◌+◌, ◌-◌}
+use native.Mathlib.Omega.{arith}
 use Rattle.tiff.proofs.Laws.{first_on}
 use Rattle.tiff.proofs.Directory.first_with.Goals as goal
 
-pub loop-i-preserved : goal.loop-i-preserved
-loop-i-preserved c =
+pub loop-preserved : goal.loop-preserved
+loop-preserved c =
     let d = c.args.self in
-    first_on d.image.now d.first d.count c.loop-i.i c.loop-i-test.true c.entry-e.result c.entry-e.ensures c.args.tag c.if-e-tag.false ∙ c.loop-i.invariant
+    let fewer : d.count - (c.loop.counter + 1) ≡ d.count - c.loop.counter - 1 = omega arith in
+    (omega arith, rw fewer (first_on d.image.now c.loop.at (d.count - c.loop.counter) (omega arith) c.entry_here-e.result c.entry_here-e.ensures c.args.tag c.if-e-tag.false ∙ c.loop.invariant.1))

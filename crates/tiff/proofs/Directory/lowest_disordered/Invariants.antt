@@ -1,9 +1,9 @@
 use mathlib.Core.Path.{◌≡◌}
-use Prim.Native.Nat.{◌-◌, ◌≤◌}
+use Prim.Native.Nat.{◌+◌, ◌-◌, ◌*◌, ◌≤◌}
 use Rattle.tiff_directory.specs.Entries.{entries_from}
 use Rattle.tiff.specs.Image.{disordered, lowest}
 use Rattle.tiff.proofs.Laws.{lowest_left}
 use Rattle.tiff.proofs.Directory.lowest_disordered.Given as goal
 
-abbrev pub invariant-loop-i : goal.invariant-loop-i
-invariant-loop-i l = (l.low ≤ 0x1_0000) × (lowest_left l.self.image.now l.self.first l.self.count l.low (l.i - 1) ≡ lowest (disordered (entries_from l.self.image.now l.self.count l.self.first)))
+abbrev pub invariant-loop : goal.invariant-loop
+invariant-loop l = (l.at ≡ l.self.first + 12 * (l.counter - 1)) × (l.low ≤ 0x1_0000) × (lowest_left l.self.image.now l.low (l.self.count - (l.counter - 1)) l.at ≡ lowest (disordered (entries_from l.self.image.now l.self.count l.self.first)))

@@ -1,8 +1,11 @@
-use mathlib.Core.Path.{sym, ◌∙◌}
+use mathlib.Core.Path.{◌≡◌, sym, ◌∙◌}
+use Prim.Native.Nat.{◌+◌, ◌-◌}
+use native.Mathlib.Omega.{arith}
 use Rattle.tiff.proofs.Laws.{values-on}
 use Rattle.tiff.proofs.Directory.values_inside.Goals as goal
 
-pub loop-i-preserved : goal.loop-i-preserved
-loop-i-preserved c =
+pub loop-preserved : goal.loop-preserved
+loop-preserved c =
     let d = c.args.self in
-    values-on d.image.now d.first d.count c.loop-i.i c.loop-i-test.true c.entry.result c.entry.ensures (sym c.value_inside.ensures ∙ c.if-not-value_inside.false) ∙ c.loop-i.invariant
+    let fewer : d.count - (c.loop.counter + 1) ≡ d.count - c.loop.counter - 1 = omega arith in
+    (omega arith, rw fewer (values-on d.image.now c.loop.at (d.count - c.loop.counter) (omega arith) c.entry_here-e.result c.entry_here-e.ensures (sym c.value_inside.ensures ∙ c.if-not-value_inside.false) ∙ c.loop.invariant.1))
