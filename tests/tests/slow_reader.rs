@@ -1,11 +1,19 @@
 //! Request 12: the slow reader shares no decision with the first. The sources of every crate named slow_.. are read: of the other crates of the
-//! repository they name types and the variants of enums, each on the list below, and call no function, method or constant of them. No other
-//! crate but `abi` names a slow one. (Contracts and definitions are shared, and are no calls.)
+//! repository they name types and the variants of enums, each on the list below, and call no function, method or constant of them; nor do they reach
+//! one without its name, as by a `?` or an operator. What both readers call of the library only hands on. No other crate but `abi` names a slow one.
+//! (Contracts and definitions are shared, and are no calls.)
+#[path = "slow_reader/functions.rs"]
+mod functions;
+#[path = "slow_reader/sources.rs"]
+mod sources;
+#[path = "slow_reader/unnamed.rs"]
+mod unnamed;
+
+use functions::without_clauses;
+use sources::{bare, crates, declared, is_name, is_slow, paths, sources_of, tokens};
 use std::collections::BTreeMap;
 use std::collections::BTreeSet;
-use std::fs;
-use std::path::Path;
-use std::path::PathBuf;
+use unnamed::Unnamed;
 
 /// The types that both readers may name: words of the standard, what is found of a record, measures and answers.
 const SHARED: [(&str, &str); 22] = [
@@ -33,179 +41,32 @@ const SHARED: [(&str, &str); 22] = [
     ("passes", "Answer"),
 ];
 
-fn root() -> PathBuf {
-    Path::new(env!("CARGO_MANIFEST_DIR")).parent().expect("tests/ stands in the repository").to_path_buf()
-}
-
-/// A line without its comment and its single characters, as `b'{'`.
-fn bare_line(line: &str) -> String {
-    let code = line.split("//").next().unwrap_or("");
-    let pieces: Vec<&str> = code.split('\'').collect();
-    let is_single = |at: usize| at > 0 && at + 1 < pieces.len() && pieces[at].chars().count() == 1;
-    let kept = pieces.iter().enumerate().filter(|(at, _)| !is_single(*at));
-    kept.map(|(_, piece)| *piece).collect::<Vec<_>>().join(" ")
-}
-
-/// What only the prover reads: an attribute that names definitions or lemmas.
-fn is_tactic(line: &&str) -> bool {
-    line.starts_with("#[tactic(") && line.ends_with(")]")
-}
-
-/// A source without its comments, single characters and tactics.
-fn bare(source: &str) -> String {
-    source.lines().filter(|line| !is_tactic(line)).map(bare_line).collect::<Vec<_>>().join("\n")
-}
-
-fn is_slow(name: &str) -> bool {
-    name.starts_with("slow_")
-}
-
-/// All sources of a crate, in one text without comments.
-fn sources_of(name: &str) -> String {
-    let mut text = String::new();
-    let mut folders = vec![root().join("crates").join(name).join("src")];
-    while let Some(folder) = folders.pop() {
-        for entry in fs::read_dir(&folder).unwrap_or_else(|error| panic!("{}: {error}", folder.display())) {
-            let path = entry.expect("a name").path();
-            if path.is_dir() {
-                folders.push(path);
-            } else if path.extension().is_some_and(|ending| ending == "rt") {
-                text += &bare(&fs::read_to_string(&path).expect("a source"));
-                text.push('\n');
-            }
-        }
-    }
-    text
-}
-
-/// The crates of `crates.txt`, each with those that it names. A static library says so behind its name.
-fn crates() -> BTreeMap<String, Vec<String>> {
-    let list = fs::read_to_string(root().join("crates.txt")).expect("crates.txt");
-    list.lines()
-        .filter(|line| !line.starts_with('#'))
-        .filter_map(|line| line.split_once(':'))
-        .map(|(name, named)| {
-            (
-                name.split_whitespace().next().expect("a name").to_string(),
-                named.split_whitespace().map(str::to_string).collect(),
-            )
-        })
-        .collect()
-}
-
-/// The words and marks of a source: names, `::`, and every other character but blanks by itself.
-fn tokens(source: &str) -> Vec<String> {
-    let mut found: Vec<String> = Vec::new();
-    let mut word = String::new();
-    for c in source.chars().chain([' ']) {
-        if c.is_alphanumeric() || c == '_' || c == '·' {
-            word.push(c);
-            continue;
-        }
-        if !word.is_empty() {
-            found.push(std::mem::take(&mut word));
-        }
-        if c == ':' && found.last().is_some_and(|last| last == ":") {
-            found.pop();
-            found.push("::".to_string());
-        } else if !c.is_whitespace() {
-            found.push(c.to_string());
-        }
-    }
-    found
-}
-
-fn is_name(token: &str) -> bool {
-    token.starts_with(|c: char| c.is_alphabetic() || c == '_')
-}
-
-/// The paths of two or more names, and whether each stands in a `use`; the braces of a `use` are taken apart. A `*` counts as a name.
-fn paths(tokens: &[String]) -> Vec<(Vec<String>, bool)> {
-    let mut found = Vec::new();
-    let mut at = 0;
-    while at < tokens.len() {
-        if tokens[at] == "use" && (at == 0 || tokens[at - 1] != "ghost") {
-            at = used(tokens, at + 1, &[], &mut found);
-        } else if is_name(&tokens[at]) && tokens.get(at + 1).is_some_and(|next| next == "::") {
-            let mut path = vec![tokens[at].clone()];
-            while tokens.get(at + 1).is_some_and(|next| next == "::")
-                && tokens.get(at + 2).is_some_and(|next| is_name(next))
-            {
-                path.push(tokens[at + 2].clone());
-                at += 2;
-            }
-            found.push((path, false));
-        }
-        at += 1;
-    }
-    found
-}
-
-/// One tree of a `use` from a place on, behind the names that stand before it; the place of what ends it.
-fn used(tokens: &[String], from: usize, before: &[String], found: &mut Vec<(Vec<String>, bool)>) -> usize {
-    let mut path = before.to_vec();
-    let mut at = from;
-    while at < tokens.len() {
-        match tokens[at].as_str() {
-            "{" => {
-                while tokens[at] != "}" {
-                    at = used(tokens, at + 1, &path, found);
-                }
-                return at + 1;
-            }
-            ";" | "," | "}" => break,
-            "::" => {}
-            name => path.push(name.to_string()),
-        }
-        at += 1;
-    }
-    if path.len() > before.len() {
-        found.push((path, true));
-    }
-    at
-}
-
-/// The variants of each enum, and the methods of each type, that a source declares.
-fn declared(tokens: &[String]) -> (BTreeMap<String, BTreeSet<String>>, BTreeSet<String>) {
-    let mut variants: BTreeMap<String, BTreeSet<String>> = BTreeMap::new();
-    let mut methods = BTreeSet::new();
-    let (mut depth, mut owner, mut kind) = (0, String::new(), "");
-    for (at, token) in tokens.iter().enumerate() {
-        match token.as_str() {
-            "enum" | "impl" if depth == 0 => {
-                kind = if token == "enum" { "enum" } else { "impl" };
-                owner = tokens.get(at + 1).cloned().unwrap_or_default();
-            }
-            "{" | "(" => depth += 1,
-            "}" | ")" => {
-                depth -= 1;
-                if depth == 0 && token == "}" {
-                    kind = "";
-                }
-            }
-            "fn" if kind == "impl" && depth == 1 => {
-                methods.extend(tokens.get(at + 1).cloned());
-            }
-            name if kind == "enum" && depth == 1 && is_name(name) => {
-                variants.entry(owner.clone()).or_default().insert(name.to_string());
-            }
-            _ => {}
-        }
-    }
-    (variants, methods)
-}
+/// What both readers may call of the library: they go over bytes, or hand on what another call found. None of them tests a character, a field, a
+/// place, a link or a sum, or reads a length or a number.
+const CARRIERS: [&str; 6] = [".copied", ".enumerate", ".get", ".iter", ".len", ".unwrap_or"];
 
 /// What the crates that are not slow declare: the variants of each enum, by crate, and the names of all methods.
 struct First {
     names: BTreeSet<String>,
     variants: BTreeMap<(String, String), BTreeSet<String>>,
     methods: BTreeSet<String>,
+    unnamed: Unnamed,
 }
 
 fn first() -> First {
-    let mut all = First { names: BTreeSet::new(), variants: BTreeMap::new(), methods: BTreeSet::new() };
+    let mut all = First {
+        names: BTreeSet::new(),
+        variants: BTreeMap::new(),
+        methods: BTreeSet::new(),
+        unnamed: Unnamed::default(),
+    };
+    for name in crates().into_keys().filter(|name| is_slow(name)) {
+        all.unnamed.slow(&tokens(&sources_of(&name)));
+    }
     for name in crates().into_keys().filter(|name| !is_slow(name)) {
-        let (variants, methods) = declared(&tokens(&sources_of(&name)));
+        let tokens = tokens(&sources_of(&name));
+        all.unnamed.first(&tokens);
+        let (variants, methods) = declared(&tokens);
         for (owner, of_it) in variants {
             all.variants.insert((name.clone(), owner), of_it);
         }
@@ -254,7 +115,48 @@ fn decisions_shared(first: &First, source: &str) -> Vec<String> {
             wrong.push(format!(".{}()", three[1]));
         }
     }
+    wrong.extend(first.unnamed.reached(&tokens));
     wrong
+}
+
+/// A crate with all that it stands on.
+fn below(name: &str, all: &BTreeMap<String, Vec<String>>, found: &mut BTreeSet<String>) {
+    if found.insert(name.to_string()) {
+        for named in &all[name] {
+            below(named, all, found);
+        }
+    }
+}
+
+/// Names that begin a path into this repository.
+fn is_own(head: &str) -> bool {
+    let shared = SHARED.iter().any(|(_, name)| *name == head);
+    shared || matches!(head, "crate" | "self" | "super" | "Self") || crates().contains_key(head)
+}
+
+/// What a source calls or brings of the library: `.name` of a method, the last two names of a path.
+fn called(source: &str) -> BTreeSet<String> {
+    let tokens = without_clauses(&tokens(&bare(source)));
+    let methods = tokens
+        .windows(4)
+        .filter(|four| four[0] != "." && four[1] == "." && is_name(&four[2]) && matches!(four[3].as_str(), "(" | "::"));
+    let mut found: BTreeSet<String> = methods.map(|four| format!(".{}", four[2])).collect();
+    for (path, _) in paths(&tokens).into_iter().filter(|(path, _)| !is_own(&path[0])) {
+        found.insert(path[path.len().saturating_sub(2)..].join("::"));
+    }
+    found
+}
+
+/// What the first reader calls of the library.
+fn called_by_the_first() -> BTreeSet<String> {
+    let mut names = BTreeSet::new();
+    below("reader", &crates(), &mut names);
+    names.iter().flat_map(|name| called(&sources_of(name))).collect()
+}
+
+/// What a source of a slow crate calls of the library as the first reader does, and that does more than hand on.
+fn library_shared(of_first: &BTreeSet<String>, source: &str) -> Vec<String> {
+    called(source).intersection(of_first).filter(|name| !CARRIERS.contains(&name.as_str())).cloned().collect()
 }
 
 #[test]
@@ -269,6 +171,21 @@ fn slow_crates_call_nothing_of_the_first_reader() {
         assert!(wrong.is_empty(), "{name} shares these with the first reader: {wrong:#?}");
     }
     println!("{} crates of the slow reader call nothing of the first", slow.len());
+}
+
+#[test]
+fn both_readers_call_only_what_hands_on() {
+    let of_first = called_by_the_first();
+    for name in crates().into_keys().filter(|name| is_slow(name)) {
+        let both = library_shared(&of_first, &sources_of(&name));
+        assert!(both.is_empty(), "{name} calls these of the library, and the first reader does: {both:#?}");
+    }
+}
+
+#[test]
+fn each_trait_is_known() {
+    let unknown = first().unnamed.unknown;
+    assert!(unknown.is_empty(), "traits of which this test does not know how they are reached: {unknown:#?}");
 }
 
 #[test]
@@ -302,8 +219,61 @@ fn a_shared_decision_is_found() {
         "fn f() -> u64 { layout::FileHeader::TYPE }",
         "fn f() -> u64 { text ::\n number_in(set, s) }",
         "fn f() -> [u64; 322] { layout::table() }",
+        "#[tactic(auto)] fn f(set: CharacterSet, s: &[u8]) -> u64 { text::number_in(set, s) } #[allow(unused)]",
+        "#[tactic(auto,\n    unfolding(text::specs::Number::number))] fn f(s: &[u8]) -> u64 { text::number_in(set, s) }",
     ] {
         assert!(!decisions_shared(&first, source).is_empty(), "not found: {source}");
+    }
+}
+
+/// What is reached without a name: conversions, operators, comparisons and printing.
+#[test]
+fn a_decision_without_a_name_is_found() {
+    let first = first();
+    for source in [
+        "fn g() -> Result<u64, Flaw> { Err(Flaw::Length) }\nfn f() -> Result<u64, Fault> { Ok(g()?) }",
+        "fn g() -> Judged { Ok(()) }\nfn f() -> Turn { g()?; Ok(1) }",
+        "fn f(set: CharacterSet, kind: u64, body: &[u8]) -> Step { slow_record::judge(set, kind, body)?; Ok((kind, 0)) }",
+        "use passes::Turn as Told;\nfn f() -> Told { found_in(1)?; Ok(1) }",
+        "use passes::Fault as Wrong;\nfn g() -> Judged { Ok(()) }\nfn f() -> Result<(), Wrong> { g()?; Ok(()) }",
+        "fn f(judged: Judged) -> Turn { judged?; Ok(1) }",
+        "fn f(flaw: Flaw) -> Fault { flaw.into() }",
+        "fn f(judged: Judged) -> Turn { judged.map_err(Into::into).map(|_| 1) }",
+        "fn f(judged: Judged) -> Turn { judged.map_err(From::from).map(|_| 1) }",
+        "use passes::Fault;\nfn f(flaw: Flaw) -> Fault { Fault::from(flaw) }",
+        "fn f(flaw: Flaw) -> Fault { <Fault as From<Flaw>>::from(flaw) }",
+        "fn f(a: Standing, b: Standing) -> Items { a.items + b.items }",
+        "fn f(s: Sums) -> Views { s.views + Views(1) }",
+        "fn f(n: u64) -> Items { Items(n) + Items(1) }",
+        "fn f(n: u64, s: Sums) -> Items { let more = Items(n); more + s.debits }",
+        "fn f(more: Items) -> Items { Items(1) + more }",
+        "fn f(mut s: Sums, more: Items) -> Sums { s.credits += more; s }",
+        "fn f(more: [Items; 2]) -> Items { (more[0]) + more[1] }",
+        "use measure::Items as Count;\nfn f(n: u64) -> Count { Count(n) + Count(1) }",
+        "type Count = Items;\nfn f(n: Count, m: Count) -> Count { n + m }",
+        "fn f(set: CharacterSet) -> bool { set == CharacterSet::Ascii }",
+        "fn f(t: DataType) -> bool { t != DataType::NB }",
+        "fn f(a: &[u8], b: &[u8]) -> bool { a == b }",
+        "fn f(a: &[u8], b: &[u8]) -> bool { a[1..3] != b[..2] }",
+        "fn f(file: &[u8]) -> bool { slow_text::behind(file, 4) == [1, 2] }",
+        "fn f(rt: R, set: CharacterSet) { println!(rt; \"{set}\")?; }",
+    ] {
+        assert!(!decisions_shared(&first, source).is_empty(), "not found: {source}");
+    }
+}
+
+/// What the first reader calls of the library too, and that tests or reads.
+#[test]
+fn a_decision_of_the_library_is_found() {
+    let of_first = called_by_the_first();
+    for source in [
+        "fn f(s: [u8; 4]) -> u32 { u32::from_be_bytes(s) }",
+        "fn f(n: u64) -> u64 { n.min(5) }",
+        "fn f(n: u64) -> u64 { n.saturating_sub(1) }",
+        "fn f(s: &[u8]) -> bool { s.iter().any(|x| *x == 0) }",
+        "fn f(x: u8) -> u64 { u64::from(x) }",
+    ] {
+        assert!(!library_shared(&of_first, source).is_empty(), "not found: {source}");
     }
 }
 
@@ -320,6 +290,12 @@ fn types_and_variants_and_own_functions_are_no_decision() {
         "use crate::lines::field_in;\nuse slow_text::{number_in, all_blank};",
         "ghost use Rattle·text.specs.Number.{number};\nfn f(s: &[u8]) -> usize { s.len() }",
         "fn f() -> u64\n    ensures { λ r. ⌜ r ≡ number set (now (s .entry)) ⌝ }\n{ 0 }",
+        "fn g() -> Turn { Ok(1) }\nfn f() -> Step { let kind = g()?; Ok((kind, 0)) }",
+        "fn f(s: &[u8]) -> Judged { g(s).ok_or(Flaw::Length)?; Ok(()) }",
+        "fn f(s: Standing) -> Items { Items(1 + s.items.0) }",
+        "fn f(s: Sums, more: Sums) -> Views { Views(more.views.0 + s.views.0) }",
+        "fn f(s: &[u8], t: &[u8]) -> bool { s.len() == t.len() && s[0] == t[1] }",
+        "fn f(set: CharacterSet, n: u64) -> u64\n    requires { a.items + b.items ≡ n }\n{ n + 1 }",
     ] {
         assert_eq!(decisions_shared(&first, source), Vec::<String>::new(), "{source}");
     }

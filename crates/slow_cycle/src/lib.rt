@@ -3,8 +3,9 @@
 // against those before it, and calls for what the figures show behind it. A record that it does not call for has no place there.
 // The names are the standard's, cut short. `own_` is what stands directly in a cash letter: a credit of its own, with its views, which Figure 1c
 // leaves out "in order to enhance clarity".
-// Stays: what `enter` gives is matched on and not handed up by `?`. So a call takes 744 to 1,208 bytes of the stack, and with `?` 1,000 to 1,704, by which
-// the longest files pass the one MiB that is enough for every file (tests/tests/slow_stack.rs).
+// Stays: what `enter` gives is matched on and not handed up by `?`. So a call takes 800 to 1,264 bytes of the stack: a frame of 744 to 1,208, six registers and
+// the return address. With `?` the frame alone took 1,000 to 1,704, by which the longest files pass the one MiB that is enough for every file
+// (tests/tests/slow_stack.rs).
 // Stays: each function matches on the type that is called for and calls the function of that record. That is the form that request 12 names: a function
 // for each box of the figures, which call each other in a cycle with fewer bytes left at each call.
 #![tactic(auto)]

@@ -8,8 +8,6 @@ use borrow.Author.Tests.{eqb-true, le-leb}
 use Rattle.measure.specs.Measures.{unstatable, capped}
 use Rattle.measure.proofs.Capped.{capped_small}
 use Rattle.order.specs.MayFollow.{is_item}
-use mir.Val.{bool_byte}
-use Rattle.standing.specs.History.{one}
 use Rattle.standing.specs.Standing.{capped_figures}
 use Rattle.standing.specs.declared.Standing.{Standing}
 
@@ -65,8 +63,3 @@ stopped s e =
       bundle-credit = fixed _ s.bundle.credit.0 (ap (λ (u : Standing). u.bundle.credit.0) e);
       micr = fixed _ s.micr.0 (ap (λ (u : Standing). u.micr.0) e);
     }
-
--- a test, as the library turns it into a number
-pub counted : (n : ℕ) (b : Bool) → n ≡ bool_byte b → n ≡ one b
-counted n true e = e
-counted n false e = e

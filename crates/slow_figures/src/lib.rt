@@ -2,12 +2,12 @@
 // Stays: some of it does what a function of `standing` does, since the two readers are to stand on separate code (request 12).
 #![tactic(auto)]
 
-ghost use Rattle.std.specs.Prelude.{◌≡◌, true, false, cond, List, [], ◌∷◌, ℕ, ◌+◌, ◌<◌};
+ghost use Rattle.std.specs.Prelude.{◌≡◌, true, false, cond, List, [], ◌∷◌, ℕ, ◌+◌, ◌<◌, ◌≤◌};
 ghost use Rattle.text.specs.declared.character_set.CharacterSet.{CharacterSet};
 ghost use Rattle.text.specs.Number.{number};
 ghost use Rattle.measure.specs.Measures.{cents, sums, capped, no_sums, together, capped_sums, Small};
 ghost use Rattle.order.specs.MayFollow.{is_one_of, is_check_or_return, is_item, is_addendum};
-ghost use Rattle.standing.specs.History.{characters, amount_of, is_debit, micr_of, stated_by, indicator_in, adds, is_bofd_addendum, is_endorser_addendum};
+ghost use Rattle.standing.specs.History.{one, characters, amount_of, is_debit, micr_of, stated_by, indicator_in, adds, is_bofd_addendum, is_endorser_addendum};
 ghost use Rattle.standing.specs.Standing.{standing, onward, capped_figures, Roomy};
 
 use measure::{Cents, Items, Records, Sums, Views};
@@ -19,7 +19,7 @@ pub fn field_at(file: &[u8], offset: usize, first: usize, size: usize) -> &[u8]
     ensures { result.now ≡ characters file.now offset first size }
 {
     let body = slow_text::behind(slow_text::behind(file, offset), 4);
-    slow_record::part_of(body, first.saturating_sub(1), size)
+    slow_record::part_of(body, slow_text::place_of(first), size)
 }
 
 // The number in a field.
@@ -119,11 +119,16 @@ fn view_sums() -> Sums
 }
 
 // More cents. No control field has more than 16 digits, and a sum that none can state stays at the first such number.
+// Stays: no `min`, since `measure` stops its sums by that.
 fn cents_and(sum: Cents, more: u64) -> Cents
     requires { (sum.0 < 0x4000_0000_0000_0000) × (more < 0x4000_0000_0000_0000) }
     ensures { result ≡ cents (capped (more + sum.0)) }
 {
-    Cents((more + sum.0).min(10_000_000_000_000_000))
+    let all = more + sum.0;
+    if 10_000_000_000_000_000 < all {
+        return Cents(10_000_000_000_000_000);
+    }
+    Cents(all)
 }
 
 // Like is added to like.
@@ -299,6 +304,13 @@ fn is_endorser_addendum(kind: u64) -> bool
     matches!(kind, 28 | 35)
 }
 
+// Stays: no `u64::from`, since `standing` counts by that.
+fn one_if(test: bool) -> u64
+    ensures { (result ≡ one test) × (result ≤ 1) }
+{
+    if test { 1 } else { 0 }
+}
+
 // An addendum of the item, or a record that is only counted. 26 and 32 are numbered on by themselves, and so are 28 and 35.
 fn with_addendum_or_other(s: Standing, kind: u64) -> Standing
     requires { Roomy s × (capped_figures s ≡ s) × (is_one_of kind (10 ∷ 20 ∷ 25 ∷ 31 ∷ 50 ∷ 61 ∷ 70 ∷ []) ≡ false) }
@@ -307,9 +319,9 @@ fn with_addendum_or_other(s: Standing, kind: u64) -> Standing
     Standing {
         last: kind,
         records: Records(s.records.0 + 1),
-        addenda: u64::from(is_addendum(kind)) + s.addenda,
-        bofd: u64::from(is_bofd_addendum(kind)) + s.bofd,
-        endorser: u64::from(is_endorser_addendum(kind)) + s.endorser,
+        addenda: one_if(is_addendum(kind)) + s.addenda,
+        bofd: one_if(is_bofd_addendum(kind)) + s.bofd,
+        endorser: one_if(is_endorser_addendum(kind)) + s.endorser,
         ..s
     }
 }

@@ -11,9 +11,7 @@ use Rattle.text.proofs.Laws.{rest}
 use denote.Ref.{Bor}
 use Rattle.std.specs.Prelude.{Option, None, Some, MatchOption}
 use Rattle.std.specs.List.{AllWithin, HoldsAt}
-use Rattle.std.specs.Int.{w32, from_be_bytes}
 use native.Mathlib.Omega.{arith}
-use Rattle.frame.specs.Frames.{length_in}
 use Rattle.layout.specs.Fault.{as_field}
 use Rattle.slow_record.specs.Rows.{Entry, entry_of, is_field, is_part, is_record, field_holds, stated_in, fields_of, parts_of, length_of, wrong_field, stated, wrong_part}
 
@@ -100,14 +98,6 @@ pub found-number : {P : Type 0} {Q : Bor ℕ → Type 0} (r : Option (Bor ℕ)) 
     → MatchOption r P Q → (P → o ≡ None) → ((x : Bor ℕ) → Q x → o ≡ as_field (v x.now)) → o ≡ as_field n
 found-number None n v o h k p q = rw h (p k)
 found-number (Some x) n v o h k p q = rw h (q x k)
-
--- four bytes, the high one first
-pub high_first : (xs : List ℕ) → 4 ≤ length xs → from_be_bytes w32 (take 4 xs) ≡ length_in xs
-high_first (a ∷ b ∷ c ∷ d ∷ xs) h = omega arith
-high_first [] h = absurd (omega arith)
-high_first (a ∷ []) h = absurd (omega arith)
-high_first (a ∷ b ∷ []) h = absurd (omega arith)
-high_first (a ∷ b ∷ c ∷ []) h = absurd (omega arith)
 
 module _ (set : CharacterSet) (kind : ℕ) (body : List ℕ) where
   abbrev is_wrong : ℕ → Bool

@@ -6,11 +6,12 @@
 mod lines;
 mod table;
 
-ghost use Rattle.std.specs.Prelude.{◌≡◌, ◌&&◌, not, cond, map, eqb, unwrap_or, MatchOption};
+ghost use Rattle.std.specs.Prelude.{◌≡◌, ◌≤◌, ◌&&◌, not, cond, map, eqb, MatchOption};
 ghost use Rattle.text.specs.DataTypes.{of_type};
-ghost use Rattle.frame.specs.Frames.{part, frame_at};
+ghost use Rattle.frame.specs.Frames.{part, length_in, frame_at};
 ghost use Rattle.layout.specs.Fault.{as_field};
 ghost use Rattle.judge.specs.Alone.{Sound, WrongField, type_of, judged_as};
+ghost use Rattle.slow_record.specs.Types.{as_type};
 ghost use Rattle.slow_record.specs.Rows.{entry_of, is_field, is_part, field_holds, stated_in, fields_of, parts_of, length_of, wrong_field, stated, wrong_part, judged_by};
 
 use crate::lines::{
@@ -29,14 +30,33 @@ pub fn part_of(s: &[u8], start: usize, size: usize) -> &[u8]
     slow_text::part_of(s, start, size)
 }
 
-// The record whose length stands at a place of the file (Annex D: four bytes, the high one first).
-#[tactic(auto, using(crate::proofs::Laws::high_first), unfolding(frame::specs::Frames::frame_at))]
+fn wide(x: u8) -> usize
+    ensures { (result ≡ x) × (result ≤ 255) }
+{
+    x as usize
+}
+
+// Annex D: the length of a record, four bytes, the high one first.
+// Stays: no `u32::from_be_bytes`, since `frame` reads its lengths by that.
+fn length_in(s: &[u8]) -> usize
+    ensures { (result ≡ length_in s.now) × (result ≤ 0xFFFF_FFFF) }
+{
+    let first = wide(slow_text::byte_at(s, 0));
+    let second = wide(slow_text::byte_at(s, 1));
+    let third = wide(slow_text::byte_at(s, 2));
+    let fourth = wide(slow_text::byte_at(s, 3));
+    first * 0x100_0000 + second * 0x1_0000 + third * 0x100 + fourth
+}
+
+// The record whose length stands at a place of the file.
+#[tactic(auto, unfolding(frame::specs::Frames::frame_at))]
 pub fn frame_at(file: &[u8], at: usize) -> Frame
     ensures { result ≡ frame_at file.now at }
 {
-    let (length, rest) = slow_text::behind(file, at).split_first_chunk::<4>()?;
-    let size = u32::from_be_bytes(*length) as usize;
-    if rest.len() < size {
+    let rest = slow_text::behind(file, at);
+    let (_, body) = rest.split_first_chunk::<4>()?;
+    let size = length_in(rest);
+    if body.len() < size {
         return None;
     }
     Some(Extent {
@@ -48,10 +68,16 @@ pub fn frame_at(file: &[u8], at: usize) -> Frame
 // The type that a record's first two characters name, where they are digits.
 #[tactic(auto, unfolding(judge::specs::Alone::type_of))]
 pub fn type_of(set: CharacterSet, body: &[u8]) -> Option<u64>
-    ensures { unwrap_or result 0 ≡ type_of set body.now }
+    ensures { result ≡ as_type (type_of set body.now) }
 {
     let characters = body.get(..2)?;
-    slow_text::all_digits(set, characters).then(|| slow_text::number_in(set, characters))
+    if !slow_text::all_digits(set, characters) {
+        return None;
+    }
+    match slow_text::number_in(set, characters) {
+        0 => None, // 00 names no type
+        kind => Some(kind),
+    }
 }
 
 // A field of the fixed part is right.

@@ -61,8 +61,7 @@ pub fn field_in(line: u64) -> Option<usize>
 pub fn place_in(line: u64) -> usize
     ensures { result ≡ (entry_of line).first - 1 }
 {
-    let first = (line / 1_000_000_000_000 % 1_000) as usize;
-    first.saturating_sub(1)
+    slow_text::place_of((line / 1_000_000_000_000 % 1_000) as usize)
 }
 
 pub fn size_in(line: u64) -> usize
@@ -154,7 +153,7 @@ pub fn rule_of(code: u64, low: u64, high: u64) -> Rule
         9 => Rule::HoursMinutes,
         10 => Rule::HoursMinutesSeconds,
         11 => Rule::Routing(forms_in(high)),
-        12 => Rule::ClippingCoordinate(high.saturating_sub(1) as usize),
+        12 => Rule::ClippingCoordinate(slow_text::place_of(high as usize)),
         13 => Rule::Code(list_of(high)),
         _ => Rule::DataTypeAlone,
     }

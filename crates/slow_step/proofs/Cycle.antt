@@ -1,7 +1,7 @@
 -- How a function of the cycle hands on to the next one. Assumes nothing.
 use Prim.Native.Nat.{ℕ, ◌-◌, ◌<◌}
 use native.Mathlib.Omega.{arith}
-use mathlib.Core.Path.{◌≡◌, refl, sym, ap, ◌∙◌, subst}
+use mathlib.Core.Path.{◌≡◌, refl, ap, ◌∙◌, subst}
 use mathlib.Core.Bool.{Bool, true, false, cond}
 use mathlib.Core.List.{List}
 use lib.Dec.{eqb}
@@ -10,6 +10,7 @@ use Rattle.text.specs.declared.character_set.CharacterSet.{CharacterSet}
 use Rattle.order.specs.MayFollow.{table, in_table, follows}
 use Rattle.standing.specs.declared.Standing.{Standing}
 use Rattle.std.specs.Prelude.{Option, Err, unwrap_or}
+use Rattle.slow_record.proofs.Types.{type-told}
 use Rattle.passes.specs.declared.Refusal.{Refusal}
 use Rattle.slow_step.specs.Entered.{Entered, On}
 use Rattle.slow_step.specs.Places.{type_at, IsAnswer, Reached, Called, GoesOn, Enters}
@@ -32,8 +33,11 @@ module _ {set : CharacterSet} {file : List ℕ} {s : Standing} {at : ℕ} {b : B
     stopped q = subst (Enters set file s at kind) q e
 
     module _ {here : Standing} {next : ℕ} {called : Option ℕ} (q : r ≡ On here next called) where
-      goes : GoesOn set file s at kind here next (unwrap_or called 0)
+      goes : GoesOn set file s at kind here next called
       goes = subst (Enters set file s at kind) q e
+
+      told : type_at set file next ≡ unwrap_or called 0
+      told = type-told called (type_at set file next) goes.type
 
       -- with fewer bytes left
       pub calls : (k t : ℕ) → length file - at ≡ t → unwrap_or called 0 ≡ k → in_table (table (behind b kind)) kind k ≡ true
@@ -43,11 +47,11 @@ module _ {set : CharacterSet} {file : List ℕ} {s : Standing} {at : ℕ} {b : B
         record {
           reached = goes.reached;
           level = goes.level ∙ ap (λ (x : Bool). behind x kind) p.level;
-          type = sym goes.type ∙ c;
+          type = told ∙ c;
           place = rw goes.last (said (behind b kind) kind k f);
         },
       )
 
       pub turns-away : in_table (table (behind b kind)) kind (unwrap_or called 0) ≡ false
           → Reached set file next here × (follows here.inside here.last (type_at set file next) ≡ false)
-      turns-away f = (goes.reached, rw (goes.level, p.level, goes.last, sym goes.type) (said (behind b kind) kind (unwrap_or called 0) f))
+      turns-away f = (goes.reached, rw (goes.level, p.level, goes.last, told) (said (behind b kind) kind (unwrap_or called 0) f))

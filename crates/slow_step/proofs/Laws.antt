@@ -5,6 +5,7 @@ use native.Mathlib.Omega.{arith}
 use mathlib.Core.Path.{◌≡◌, refl, sym, ap, ◌∙◌, subst}
 use mathlib.Core.Bool.{Bool, true, false, ◌&&◌, cond, and-false}
 use mathlib.Core.List.{List}
+use Rattle.std.specs.Prelude.{Option}
 use lib.Dec.{leb, eqb}
 use lib.ListN.{length}
 use borrow.Author.Tests.{eqb-true}
@@ -27,6 +28,7 @@ use Rattle.passes.specs.CheckOrder.{unless_alone, agreement, turn_of}
 use Rattle.passes.specs.Reading.{of_turn, step_of, ended_with, Counted}
 use Rattle.passes.proofs.Laws.{framed}
 use Rattle.passes.proofs.Passes.{Survey, Moves, place-moves, survey-stop, survey-end, counted-end, survey-on, on-within}
+use Rattle.slow_record.specs.Types.{as_type}
 use Rattle.slow_step.specs.Places.{type_at, IsAnswer, Reached, Called, GoesOn}
 
 -- 0 is no type, and nothing follows a 99
@@ -150,8 +152,8 @@ module _ {set : CharacterSet} {file : List ℕ} {at : ℕ} {s : Standing} where
         }
 
 -- the record that was called for is good
-pub entered : {set : CharacterSet} {file : List ℕ} {at : ℕ} {s : Standing} {b : Bool} {kind t size : ℕ} {here : Standing} {called : ℕ} → Called set file s at b kind
-    → step_of set file s at ≡ On t size → Moves set file s kind at here → called ≡ type_at set file (at + 4 + size)
+pub entered : {set : CharacterSet} {file : List ℕ} {at : ℕ} {s : Standing} {b : Bool} {kind t size : ℕ} {here : Standing} {called : Option ℕ} → Called set file s at b kind
+    → step_of set file s at ≡ On t size → Moves set file s kind at here → called ≡ as_type (type_at set file (at + 4 + size))
     → GoesOn set file s at kind here (at + 4 + size) called
 unfolding onward
 entered {set} {file} {at} {s} {b} {kind} {t} {size} {here} p e m q =

@@ -1,11 +1,13 @@
 -- What the slow reader's functions promise each other. Each stands at an offset of the file and gives the answer to the whole file.
-use Rattle.std.specs.Prelude.{ℕ, ◌+◌, ◌*◌, ◌≤◌, ◌<◌, Bool, true, false, ◌&&◌, cond, ◌≡◌, List, [], leb, eqb, length, Some, Err, unwrap_or}
+use Rattle.std.specs.Prelude.{ℕ, ◌+◌, ◌*◌, ◌≤◌, ◌<◌, Bool, true, false, ◌&&◌, cond, ◌≡◌, List, [], leb, eqb, length, Some, Err}
 use Rattle.text.specs.declared.character_set.CharacterSet.{CharacterSet}
+use Rattle.std.specs.declared.option.Option.{Option}
 use Rattle.frame.specs.Frames.{Frame}
 use Rattle.frame.specs.Frames.{Cut}
 use Rattle.frame.specs.Frames.{part, frame_at}
 use Rattle.judge.specs.Alone.{type_of}
 use Rattle.order.specs.MayFollow.{is_carried, follows}
+use Rattle.slow_record.specs.Types.{as_type}
 use Rattle.standing.specs.History.{Entry}
 use Rattle.standing.specs.Standing.{standing, capped_figures}
 use Rattle.standing.specs.declared.Standing.{Standing}
@@ -50,14 +52,14 @@ pub record Called (set : CharacterSet) (file : List ℕ) (s : Standing) (at : �
   pub type : type_at set file at ≡ kind
   pub place : follows inside s.last kind ≡ true
 
--- Behind that record: its figures, the offset where the next one is to stand, and the next one's type.
-pub record GoesOn (set : CharacterSet) (file : List ℕ) (s : Standing) (at kind : ℕ) (here : Standing) (next called : ℕ) : Type 0 where
+-- Behind that record: its figures, the offset where the next one is to stand, and the next one's type, if it can be told.
+pub record GoesOn (set : CharacterSet) (file : List ℕ) (s : Standing) (at kind : ℕ) (here : Standing) (next : ℕ) (called : Option ℕ) : Type 0 where
   pub reached : Reached set file next here
   pub level : here.inside ≡ cond (eqb kind 20) true (cond (eqb kind 70) false s.inside)
   pub last : here.last ≡ kind
   pub fewer : at < next
-  pub type : called ≡ type_at set file next
+  pub type : called ≡ as_type (type_at set file next)
 
 abbrev pub Enters : CharacterSet → List ℕ → Standing → ℕ → ℕ → Entered → Type 0
 Enters set file s at kind (Err refusal) = IsAnswer set file (Err refusal)
-Enters set file s at kind (On here next called) = GoesOn set file s at kind here next (unwrap_or called 0)
+Enters set file s at kind (On here next called) = GoesOn set file s at kind here next called

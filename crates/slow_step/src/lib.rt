@@ -2,7 +2,7 @@
 // Stays: some of it does what a function of `passes` or `order` does, since the two readers are to stand on separate code (request 12).
 #![tactic(auto)]
 
-ghost use Rattle.std.specs.Prelude.{◌≡◌, false, leb, length, unwrap_or};
+ghost use Rattle.std.specs.Prelude.{◌≡◌, false, leb, length};
 ghost use Rattle.frame.specs.Unless.{unless};
 ghost use Rattle.judge.specs.Alone.{type_of, judged_as};
 ghost use Rattle.order.specs.MayFollow.{is_carried, follows, one_item_type};
@@ -12,6 +12,7 @@ ghost use Rattle.passes.specs.Answers.{Faulty};
 ghost use Rattle.passes.specs.Answers.{Stop};
 ghost use Rattle.passes.specs.CheckOrder.{unless_alone, agreement};
 ghost use Rattle.passes.specs.Reading.{step_of, ended_with};
+ghost use Rattle.slow_record.specs.Types.{as_type};
 ghost use Rattle.slow_step.specs.Places.{type_in, type_at, IsAnswer, Reached, Called, Enters};
 
 use frame::Extent;
@@ -34,7 +35,7 @@ fn is_carried(kind: u64) -> bool
 // The type of a record, where it can be told and is carried.
 #[tactic(auto, unfolding(judge::specs::Alone::type_of))]
 fn type_in(set: CharacterSet, body: &[u8]) -> Option<u64>
-    ensures { unwrap_or result 0 ≡ type_in set body.now }
+    ensures { result ≡ as_type (type_in set body.now) }
 {
     slow_record::type_of(set, body).filter(|kind| is_carried(*kind))
 }
@@ -42,7 +43,7 @@ fn type_in(set: CharacterSet, body: &[u8]) -> Option<u64>
 // The type of the record at an offset; none also where the bytes end there or are cut.
 #[tactic(auto, unfolding(crate::specs::Places::type_at))]
 pub fn type_at(set: CharacterSet, file: &[u8], at: usize) -> Option<u64>
-    ensures { unwrap_or result 0 ≡ type_at set file.now at }
+    ensures { result ≡ as_type (type_at set file.now at) }
 {
     let Extent { start, size } = slow_record::frame_at(file, at)?;
     type_in(set, slow_record::part_of(file, start, size))

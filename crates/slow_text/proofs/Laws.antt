@@ -1,4 +1,4 @@
--- What `all` and `any` of the library tell, and one turn of the search for a blank within digits, on plain lists. Assumes nothing.
+-- What `all` of the library tells, and one turn of the search for a blank within digits, on plain lists. Assumes nothing.
 use mathlib.Core.Path.{◌≡◌, refl, sym}
 use mathlib.Core.Bool.{Bool, true, false, ◌&&◌, ◌||◌}
 use mathlib.Core.List.{List, [], ◌∷◌}
@@ -24,10 +24,6 @@ module _ (test : ℕ → Bool) where
   every-passes [] h = refl
   every-passes (x ∷ xs) h = rw (h 0 0 (omega arith) (omega arith)) (every-passes xs (λ k d _ l. h (suc k) d (omega arith) (omega arith)))
 
-  some-fails : (xs : List ℕ) → AllWithin Fails xs 0 (length xs) → some test xs ≡ false
-  some-fails [] h = refl
-  some-fails (x ∷ xs) h = rw (h 0 0 (omega arith) (omega arith)) (some-fails xs (λ k d _ l. h (suc k) d (omega arith) (omega arith)))
-
   every-fails : (xs : List ℕ) (k : ℕ) → k < length xs → Fails (get_or xs k 0) → every test xs ≡ false
   every-fails [] k l h = absurd (omega arith)
   every-fails (x ∷ xs) zero l h = rw h
@@ -37,24 +33,10 @@ module _ (test : ℕ → Bool) where
       ends true = refl
       ends false = refl
 
-  some-passes : (xs : List ℕ) (k : ℕ) → k < length xs → Passes (get_or xs k 0) → some test xs ≡ true
-  some-passes [] k l h = absurd (omega arith)
-  some-passes (x ∷ xs) zero l h = rw h
-  some-passes (x ∷ xs) (suc k) l h = rw (some-passes xs k (omega arith) h) (ends (test x))
-    where
-      ends : (b : Bool) → b || true ≡ true
-      ends true = refl
-      ends false = refl
-
   pub every-told : (told : Bool) (xs : List ℕ) → MatchBool told (AllWithin Passes xs 0 (length xs)) ((k : ℕ) × (k < length xs) × HoldsAt Fails xs k)
       → told ≡ every test xs
   every-told true xs h = sym (every-passes xs h)
   every-told false xs h = sym (every-fails xs h.0 h.1 (h.2 0))
-
-  pub some-told : (told : Bool) (xs : List ℕ) → MatchBool told ((k : ℕ) × (k < length xs) × HoldsAt Passes xs k) (AllWithin Fails xs 0 (length xs))
-      → told ≡ some test xs
-  some-told true xs h = sym (some-passes xs h.0 h.1 (h.2 0))
-  some-told false xs h = sym (some-fails xs h)
 
 -- the end of a list, as a range of a slice takes it
 pub end_taken : (i : ℕ) (s : List ℕ) → take (length s - i) (drop i s) ≡ drop i s

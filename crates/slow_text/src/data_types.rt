@@ -93,13 +93,23 @@ pub fn digits_and_blanks(set: CharacterSet, s: &[u8]) -> bool
 pub fn some_digit(set: CharacterSet, s: &[u8]) -> bool
     ensures { result ≡ some (is_numeric set) s.now }
 {
-    s.iter().any(|x| is_numeric(set, *x))
+    for x in s {
+        if is_numeric(set, *x) {
+            return true;
+        }
+    }
+    false
 }
 
 pub fn some_mark(set: CharacterSet, t: DataType, s: &[u8]) -> bool
     ensures { result ≡ some (is_mark set t) s.now }
 {
-    s.iter().any(|x| is_mark(set, t, *x))
+    for x in s {
+        if is_mark(set, t, *x) {
+            return true;
+        }
+    }
+    false
 }
 
 // A blank with a digit somewhere before it and a digit somewhere behind it.

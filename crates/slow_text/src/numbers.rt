@@ -1,5 +1,5 @@
 // For the slow reader: letters as capitals, digits as numbers, and parts of a run of bytes.
-ghost use Rattle.std.specs.Prelude.{◌≡◌, ◌≤◌, length, get_or, take, drop};
+ghost use Rattle.std.specs.Prelude.{◌≡◌, ◌-◌, ◌≤◌, length, get_or, take, drop};
 ghost use Rattle.text.specs.Capitals.{capital};
 ghost use Rattle.text.specs.Number.{digit, value_after, number};
 
@@ -28,6 +28,14 @@ pub fn byte_at(s: &[u8], place: usize) -> u8
     s.get(place).copied().unwrap_or(0)
 }
 
+// A position counted from 1 as a place counted from 0.
+// Stays: no `saturating_sub`, since `layout` and `standing` find their places by that.
+pub fn place_of(position: usize) -> usize
+    ensures { result ≡ position - 1 }
+{
+    if position == 0 { 0 } else { position - 1 }
+}
+
 // 5.1.1: the letter that a character is, as a capital, or the digit, by its ASCII code; 0 for any other
 #[tactic(auto, unfolding(text::specs::Capitals::capital))]
 pub fn capital_of(set: CharacterSet, x: u8) -> u8
@@ -54,12 +62,13 @@ pub fn capital_of(set: CharacterSet, x: u8) -> u8
 }
 
 // 5.1.3: the number that a digit stands for
+// Stays: `as` and no `u64::from`, since `text` reads its digits by that.
 pub fn digit_of(set: CharacterSet, x: u8) -> u64
     ensures { (result ≡ digit set x) × (result ≤ 9) }
 {
     match (set, x) {
-        (CharacterSet::Ascii, b'0'..=b'9') => u64::from(x - b'0'),
-        (CharacterSet::Ebcdic, 0xF0..=0xF9) => u64::from(x - 0xF0),
+        (CharacterSet::Ascii, b'0'..=b'9') => (x - b'0') as u64,
+        (CharacterSet::Ebcdic, 0xF0..=0xF9) => (x - 0xF0) as u64,
         _ => 0,
     }
 }

@@ -3,6 +3,7 @@ use native.Mathlib.Omega.{arith}
 use Rattle.frame.proofs.Laws.{whole-start, whole-within}
 use Rattle.judge.specs.Alone.{type_of}
 use Rattle.passes.proofs.Passes.{fill-first, fill-room, fill_on, place-moves, moves-stopped}
+use Rattle.slow_record.proofs.Types.{type-told}
 use Rattle.slow_reader.proofs.Laws.{begins-within, all-written}
 use Rattle.slow_reader.proofs.write_rows.Goals as goal
 
@@ -19,7 +20,7 @@ write_row-requires c =
     let whole = sym c.frame_at.ensures ∙ c.in-Some.is in (
       fill-room c.args.set c.args.file.now c.args.table.now c.loop-start.at c.loop-start.s c.loop-start.base c.loop-start.table c.loop-start.invariant
           (begins-within c.args.file.now c.loop-start.at _ _ whole) _ _ c.unwrap_or-kind.result whole
-          (ap (type_of c.args.set) (sym c.part_of-body.ensures) ∙ sym c.type_of.ensures ∙ sym c.unwrap_or-kind.ensures),
+          (ap (type_of c.args.set) (sym c.part_of-body.ensures) ∙ type-told c.type_of.result (type_of c.args.set c.part_of-body.result.now) c.type_of.ensures ∙ sym c.unwrap_or-kind.ensures),
       moves-stopped c.args.set c.args.file.now c.loop-start.at c.loop-start.s c.unwrap_or-kind.result c.moved_on-s.result c.moved_on-s.ensures,
     )
 
@@ -39,7 +40,7 @@ loop-start-preserved c =
     let whole = sym c.frame_at.ensures ∙ c.in-Some.is in
     fill_on c.args.set c.args.file.now c.args.table.now c.loop-start.at c.loop-start.s c.loop-start.base c.loop-start.table c.loop-start.invariant
     (begins-within c.args.file.now c.loop-start.at _ _ whole) _ _ c.unwrap_or-kind.result whole
-    (ap (type_of c.args.set) (sym c.part_of-body.ensures) ∙ sym c.type_of.ensures ∙ sym c.unwrap_or-kind.ensures)
+    (ap (type_of c.args.set) (sym c.part_of-body.ensures) ∙ type-told c.type_of.result (type_of c.args.set c.part_of-body.result.now) c.type_of.ensures ∙ sym c.unwrap_or-kind.ensures)
     c.moved_on-s.result _ c.moved_on-s.ensures c.write_row.ensures
 
 pub returns : goal.returns

@@ -1,8 +1,13 @@
-use Rattle.std.proofs.Common.{◌≡◌, true, false, rules}
-use Rattle.std.proofs.lemmas.Iterator.{cases_from_any, YieldsList-from_slice}
+use Rattle.std.proofs.Common.{sym, ◌∙◌, arith}
 use Rattle.text.specs.Characters.{is_numeric}
-use Rattle.slow_text.proofs.Laws.{some-told}
+use Rattle.text.proofs.Laws.{some-found, some-goes-on, some-ends}
 use Rattle.slow_text.proofs.data_types.some_digit.Goals as goal
 
+pub returns-then-is_numeric : goal.returns-then-is_numeric
+returns-then-is_numeric c = sym (some-found (is_numeric c.args.set) c.args.s.now c.loop-x.x-index (omega arith) (sym c.is_numeric.ensures ∙ c.if-is_numeric.true)) ∙ c.loop-x.invariant
+
+pub loop-x-preserved : goal.loop-x-preserved
+loop-x-preserved c = sym (some-goes-on (is_numeric c.args.set) c.args.s.now c.loop-x.x-index (omega arith) (sym c.is_numeric.ensures ∙ c.if-is_numeric.false)) ∙ c.loop-x.invariant
+
 pub returns : goal.returns
-returns c = some-told (is_numeric c.args.set) _ c.args.s.now (cases_from_any _ _ _ (λ x. is_numeric c.args.set x ≡ true) (λ x. is_numeric c.args.set x ≡ false) c.any.ensures.ran (YieldsList-from_slice c.args.s.now cc) (λ x q k. search rules) (λ x q k. search rules))
+returns c = sym (some-ends (is_numeric c.args.set) c.args.s.now c.loop-x.x-index (omega arith)) ∙ c.loop-x.invariant

@@ -1,8 +1,13 @@
-use Rattle.std.proofs.Common.{◌≡◌, true, false, rules}
-use Rattle.std.proofs.lemmas.Iterator.{cases_from_any, YieldsList-from_slice}
+use Rattle.std.proofs.Common.{sym, ◌∙◌, arith}
 use Rattle.text.specs.DataTypes.{is_mark}
-use Rattle.slow_text.proofs.Laws.{some-told}
+use Rattle.text.proofs.Laws.{some-found, some-goes-on, some-ends}
 use Rattle.slow_text.proofs.data_types.some_mark.Goals as goal
 
+pub returns-then-is_mark : goal.returns-then-is_mark
+returns-then-is_mark c = sym (some-found (is_mark c.args.set c.args.t) c.args.s.now c.loop-x.x-index (omega arith) (sym c.is_mark.ensures ∙ c.if-is_mark.true)) ∙ c.loop-x.invariant
+
+pub loop-x-preserved : goal.loop-x-preserved
+loop-x-preserved c = sym (some-goes-on (is_mark c.args.set c.args.t) c.args.s.now c.loop-x.x-index (omega arith) (sym c.is_mark.ensures ∙ c.if-is_mark.false)) ∙ c.loop-x.invariant
+
 pub returns : goal.returns
-returns c = some-told (is_mark c.args.set c.args.t) _ c.args.s.now (cases_from_any _ _ _ (λ x. is_mark c.args.set c.args.t x ≡ true) (λ x. is_mark c.args.set c.args.t x ≡ false) c.any.ensures.ran (YieldsList-from_slice c.args.s.now cc) (λ x q k. search rules) (λ x q k. search rules))
+returns c = sym (some-ends (is_mark c.args.set c.args.t) c.args.s.now c.loop-x.x-index (omega arith)) ∙ c.loop-x.invariant
