@@ -57,6 +57,7 @@ pub fn annex_b_kept(kind: u64, indicator: u8, opened: u64, holder: u64, shown: u
 }
 
 // Record numbers run from 1 in each item (26 and 32: position 3; 28 and 35: positions 3 and 4).
+// Stays: an arm for each layout, as in specs/Links.antt, though two positions and counts are the same.
 pub fn numbered_on(
     set: CharacterSet,
     file: &[u8],
@@ -69,8 +70,10 @@ pub fn numbered_on(
     ensures { result ≡ numbered_on set file.now bofd endorser kind offset }
 {
     match kind {
-        26 | 32 => number_at(set, file, offset, 3, 1) == bofd + 1,
-        28 | 35 => number_at(set, file, offset, 3, 2) == endorser + 1,
+        26 => number_at(set, file, offset, 3, 1) == bofd + 1,
+        32 => number_at(set, file, offset, 3, 1) == bofd + 1,
+        28 => number_at(set, file, offset, 3, 2) == endorser + 1,
+        35 => number_at(set, file, offset, 3, 2) == endorser + 1,
         _ => true,
     }
 }

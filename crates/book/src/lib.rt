@@ -155,11 +155,12 @@ fn claimed_for(book: &[u64], owner: u64) -> Result<u64, Fault>
 }
 
 // Looking up one of an owner's entries: any table gets its answer.
+#[tactic(auto, unfolding(book_model::specs::Calls::find_answer))]
 pub fn find(book: &[u64], owner: u64, number: u64) -> Finding
     ensures { result ≡ find_answer book.now owner number }
 {
-    let claimed = claimed_for(book, owner)?;
-    book_table::first_numbered(book, owner, claimed, number)
+    let rows = claimed_for(book, owner)?;
+    book_table::first_numbered(book, owner, rows, number)
 }
 
 // How many entries an owner has, and its running totals and net position, which stand in the head.

@@ -103,11 +103,13 @@ pub fn number_at(set: CharacterSet, file: &[u8], offset: usize, first: usize, si
 }
 
 // An item's amount (25 and 31, field 6, positions 48 to 57; 61, field 7, positions 49 to 62), 0 of any other record.
+// Stays: an arm for each layout, as `amount_of` of specs/History.antt has it, though two positions are the same.
 pub fn amount_at(set: CharacterSet, file: &[u8], kind: u64, offset: usize) -> u64
     ensures { (result ≡ amount_of set file.now kind offset) × (result < 100_000_000_000_000) }
 {
     match kind {
-        25 | 31 => number_at(set, file, offset, 48, 10),
+        25 => number_at(set, file, offset, 48, 10),
+        31 => number_at(set, file, offset, 48, 10),
         61 => number_at(set, file, offset, 49, 14),
         _ => 0,
     }
