@@ -7,15 +7,17 @@ mod slowly;
 ghost use Rattle.std.specs.Prelude.{◌≡◌};
 ghost use Rattle.text.specs.declared.character_set.CharacterSet.TheVariants.{Ascii};
 ghost use Rattle.passes.specs.Answers.{answer_number, numbers_of};
-ghost use Rattle.abi.specs.Filled.{set_numbered, outcome_number, outcome_numbers, entering_number, entering_numbers};
+ghost use Rattle.abi.specs.Filled.{set_numbered, entering_number, entering_numbers};
 ghost use Rattle.abi.specs.Outcomes.{Reading, Writing, Drafting, Picturing, Judging, Tagging, Booking, LookingUp, Tallying, Withdrawing, Tidying};
 
 use book_model::{Entering, Tally};
-use draft::Outcome;
+use judge::JudgedExt;
 use passes::Answer;
+use picture::FoundExt;
 pub use salvaging::x9_salvage;
 pub use slowly::x9_read_slowly;
 use text::CharacterSet;
+use tiff::TagsExt;
 
 // The number and the numbers of an answer, where the file has so many bytes: those of an acceptance, or of a refusal.
 fn tell(bytes: u64, told: Answer, answer: &mut [u64; 12]) -> u64
@@ -59,16 +61,6 @@ fn tell(bytes: u64, told: Answer, answer: &mut [u64; 12]) -> u64
     }
 }
 
-// The same of a making out: the bytes written are the offset.
-fn tell_outcome(outcome: Outcome, answer: &mut [u64; 12]) -> u64
-    ensures { (result ≡ outcome_number outcome) × (answer.new ≡ outcome_numbers outcome) }
-{
-    match outcome {
-        Ok((bytes, totals)) => tell(bytes as u64, Ok(totals), answer),
-        Err(refusal) => tell(0, Err(refusal), answer),
-    }
-}
-
 // The reading of a whole file: the number, in `table` the rows of an accepted file, and in `answer` number, record, field, offset, and
 // the totals: records, cash letters, bundles, items, views, debit cents, credits, credit cents.
 #[unsafe(no_mangle)]
@@ -90,7 +82,10 @@ pub extern "C" fn x9_write<'a>(
 ) -> u64
     ensures { Writing text.now draft.now out.old result out.new answer.new }
 {
-    tell_outcome(writer::write(text, draft, out), answer)
+    match writer::write(text, draft, out) {
+        Ok((bytes, totals)) => tell(bytes as u64, Ok(totals), answer),
+        Err(refusal) => tell(0, Err(refusal), answer),
+    }
 }
 
 // The draft of an accepted file: the number, in `draft` its rows, and in `answer` the numbers of the reading.
@@ -107,11 +102,12 @@ pub extern "C" fn x9_draft(file: &[u8], draft: &mut [u64], answer: &mut [u64; 12
 pub extern "C" fn x9_picture(file: &[u8], offset: u64, place: &mut [u64; 4]) -> u64
     ensures { Picturing file.now offset result place.new }
 {
-    let (number, field, start, size) = match picture::find_picture(file, offset as usize) {
-        Ok(part) => (0, 0, part.start, part.size),
-        Err(unfound) => (unfound.number(), unfound.field(), 0, 0),
-    };
-    *place = [number, field as u64, start as u64, size as u64];
+    let found = picture::find_picture(file, offset as usize);
+    let number = found.number();
+    let field = found.field() as u64;
+    let start = found.start() as u64;
+    let size = found.size() as u64;
+    *place = [number, field, start, size];
     number
 }
 
@@ -119,10 +115,9 @@ pub extern "C" fn x9_picture(file: &[u8], offset: u64, place: &mut [u64; 4]) -> 
 fn judge_in(set: CharacterSet, body: &[u8], answer: &mut [u64; 2]) -> u64
     ensures { Judging set body.now result answer.new }
 {
-    let (number, field) = match judge::judge_record(set, body) {
-        Ok(()) => (0, 0),
-        Err(flaw) => (flaw.number(), flaw.field() as u64),
-    };
+    let judged = judge::judge_record(set, body);
+    let number = judged.number();
+    let field = judged.field() as u64;
     *answer = [number, field];
     number
 }
@@ -158,10 +153,9 @@ pub extern "C" fn x9_record_in(body: &[u8], set: u64, answer: &mut [u64; 2]) -> 
 pub extern "C" fn x9_tiff(image: &[u8], answer: &mut [u64; 2]) -> u64
     ensures { Tagging image.now result answer.new }
 {
-    let (number, tag) = match tiff::judge_tags(image) {
-        Ok(()) => (0, 0),
-        Err(fault) => (fault.number(), fault.tag()),
-    };
+    let tags = tiff::judge_tags(image);
+    let number = tags.number();
+    let tag = tags.tag();
     *answer = [number, tag];
     number
 }

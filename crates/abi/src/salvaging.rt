@@ -1,7 +1,7 @@
 // The call for a torn transmission (request 11).
 ghost use Rattle.abi.specs.Salvaging.{Salvaging};
 
-use crate::tell_outcome;
+use crate::tell;
 
 // What is left of a torn file: 0 and the totals of the new file with its bytes, or a refusal as x9_write answers it. In `out` the new file, in `list` four
 // numbers for each record walked.
@@ -14,5 +14,8 @@ pub extern "C" fn x9_salvage(
 ) -> u64
     ensures { Salvaging file.now out.old list.old result out.new list.new answer.new }
 {
-    tell_outcome(salvage::salvage(file, out, list), answer)
+    match salvage::salvage(file, out, list) {
+        Ok((bytes, totals)) => tell(bytes as u64, Ok(totals), answer),
+        Err(refusal) => tell(0, Err(refusal), answer),
+    }
 }

@@ -110,7 +110,7 @@ pub fn rows_ended(s: Standing, bytes: usize) -> Outcome
 }
 
 // The answer to a draft, whatever the buffer; 2^64 - 1 bytes stand for as many or more.
-pub fn survey_draft<'a>(layouts: &'a Layouts, text: &'a [u8], draft: &'a [u64]) -> Outcome
+pub fn survey_draft<'a>(layouts: Layouts<'a>, text: &'a [u8], draft: &'a [u64]) -> Outcome
     ensures { result ≡ capped_outcome (answer_from (values_of_draft text.now draft.now) [] []) }
 {
     let set = set_of_text(text, draft);

@@ -56,7 +56,7 @@ fn leaves_micr_blank(set: CharacterSet, kind: u64, body: &[u8]) -> bool
 // A record's row, from `base` on; its body starts at `start` in the file.
 pub fn put_row<'a>(
     set: CharacterSet,
-    layouts: &'a Layouts,
+    layouts: Layouts<'a>,
     body: &'a [u8],
     start: usize,
     draft: &mut [u64],
@@ -74,7 +74,7 @@ pub fn put_row<'a>(
 }
 
 // The second pass: a row for each record.
-fn fill<'a>(layouts: &'a Layouts, file: &'a [u8], draft: &mut [u64])
+fn fill<'a>(layouts: Layouts<'a>, file: &'a [u8], draft: &mut [u64])
     requires { (length file.now ≤ 268_435_456) × (length (draft_rows_of file.now) ≤ length draft.old) }
     ensures { draft.new ≡ draft_rows_of file.now ++ drop (length (draft_rows_of file.now)) draft.old }
 {
@@ -110,7 +110,8 @@ pub fn draft_of(file: &[u8], draft: &mut [u64]) -> Answer
     if (draft.len() as u64) / 10 < needed {
         return Err(Refusal::of_file(Fault::Room, needed));
     }
-    let layouts = layout::table();
-    fill(&layouts, file, draft);
+    let numbers = layout::table();
+    let layouts = Layouts { numbers: &numbers };
+    fill(layouts, file, draft);
     Ok(totals)
 }

@@ -50,6 +50,45 @@ impl Flaw {
     }
 }
 
+// What document 01 says of each answer, of a sound record too.
+pub trait JudgedExt {
+    ghost number_told: { Self → ℕ };
+
+    ghost field_told: { Self → ℕ };
+
+    // Document 01's number for the answer.
+    fn number(self) -> u64
+        ensures { result ≡ number_told self };
+
+    // The field at fault, 0 for the whole record.
+    fn field(self) -> usize
+        ensures { result ≡ field_told self };
+}
+
+impl JudgedExt for Judged {
+    ghost number_told = { number_of };
+
+    ghost field_told = { field_of };
+
+    fn number(self) -> u64
+        ensures { result ≡ number_of self }
+    {
+        match self {
+            Ok(()) => 0,
+            Err(flaw) => flaw.number(),
+        }
+    }
+
+    fn field(self) -> usize
+        ensures { result ≡ field_of self }
+    {
+        match self {
+            Ok(()) => 0,
+            Err(flaw) => flaw.field(),
+        }
+    }
+}
+
 // The rule is unpacked last: a field left blank needs none, and the compiler then makes one jump of unpacking and judging it.
 fn line_holds(set: CharacterSet, packed: u64, body: &[u8]) -> bool
     requires { lies_within (length body.now) packed ≡ true }
@@ -208,7 +247,7 @@ fn judge_by(set: CharacterSet, own: &[u64], body: &[u8]) -> Judged
 }
 
 // A record judged alone as one of a kind, by the layouts that the caller lends.
-pub fn judge_as(set: CharacterSet, layouts: &Layouts, kind: u64, body: &[u8]) -> Judged
+pub fn judge_as(set: CharacterSet, layouts: Layouts<'_>, kind: u64, body: &[u8]) -> Judged
     ensures { result ≡ judged_as set kind body.now }
 {
     judge_by(set, layouts.own_numbers(kind), body)
@@ -221,16 +260,18 @@ pub fn judge_record(set: CharacterSet, body: &[u8]) -> Judged
     if body.len() < 2 {
         return Err(Flaw::Length);
     }
-    let layouts = layout::table();
-    judge_as(set, &layouts, type_of(set, body), body)
+    let numbers = layout::table();
+    let layouts = Layouts { numbers: &numbers };
+    judge_as(set, layouts, type_of(set, body), body)
 }
 
 // A 52 judged alone, whatever its first two characters are.
 pub fn judge_image(set: CharacterSet, body: &[u8]) -> Judged
     ensures { result ≡ alone set image_view_data body.now }
 {
-    let layouts = layout::table();
-    judge_as(set, &layouts, ImageViewData::TYPE, body)
+    let numbers = layout::table();
+    let layouts = Layouts { numbers: &numbers };
+    judge_as(set, layouts, ImageViewData::TYPE, body)
 }
 
 // Where the Image Data of a sound 52 starts in its body: past the fixed part and fields 22 to 26.

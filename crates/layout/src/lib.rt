@@ -11,7 +11,7 @@ pub use kinds::{
     FileHeader, ImageViewAnalysis, ImageViewData, ImageViewDetail, Kind, ReturnAddendumA,
     ReturnAddendumB, ReturnAddendumC, ReturnAddendumD, ReturnRecord,
 };
-pub use packed::{COUNT, Layouts, table};
+pub use packed::{COUNT, Layouts, own_numbers, table};
 pub use packing::{
     Origin, data_type_of, fields_in, length_in, origin_of, parts_in, place_of, rule_of, usage_of,
 };

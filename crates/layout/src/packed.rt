@@ -378,35 +378,44 @@ const LAYOUTS: [u64; COUNT] = [
 ];
 
 // The layouts as one table, to be lent to whoever judges records: a constant array is laid out anew wherever it is named.
-#[derive(Clone, Copy)]
-pub struct Layouts {
-    pub numbers: [u64; COUNT],
-    pub ghost packed: { Packed numbers },
+pub fn table() -> [u64; COUNT]
+    ensures { Packed result }
+{
+    LAYOUTS
 }
 
-impl Layouts {
-    // The numbers from those of a kind on, or none where the kind is not carried.
-    pub fn own_numbers(&self, kind: u64) -> &[u64]
-        ensures { result.now ≡ own_in kind (length self.now.numbers) self.now.numbers }
-    {
-        let numbers: &[u64] = &self.numbers;
-        // Stays: no index loop. Each step is as long as the kind's number says.
-        let mut at = 0;
-        while at < numbers.len() {
-            let header = numbers[at];
-            if kind == type_in(header) {
-                return &numbers[at..];
-            }
-            let fields = fields_in(header);
-            if numbers.len() - at <= fields {
-                return &numbers[0..0];
-            }
-            at += fields + 1;
+// The numbers from those of a kind on, or none where the kind is not carried.
+pub fn own_numbers(numbers: &[u64], kind: u64) -> &[u64]
+    ensures { result.now ≡ own_in kind (length numbers.now) numbers.now }
+{
+    // Stays: no index loop. Each step is as long as the kind's number says.
+    let mut at = 0;
+    while at < numbers.len() {
+        let header = numbers[at];
+        if kind == type_in(header) {
+            return &numbers[at..];
         }
-        &numbers[0..0]
+        let fields = fields_in(header);
+        if numbers.len() - at <= fields {
+            return &numbers[0..0];
+        }
+        at += fields + 1;
     }
+    &numbers[0..0]
 }
 
-pub fn table() -> Layouts {
-    Layouts { numbers: LAYOUTS }
+// Numbers that stand for the layouts, as they are lent.
+#[derive(Clone, Copy)]
+pub struct Layouts<'a> {
+    pub numbers: &'a [u64],
+    pub ghost packed: { Packed numbers.now },
+}
+
+impl<'a> Layouts<'a> {
+    // The numbers from those of a kind on, or none where the kind is not carried.
+    pub fn own_numbers(self, kind: u64) -> &'a [u64]
+        ensures { result.now ≡ own_in kind (length self.entry.numbers.now) self.entry.numbers.now }
+    {
+        own_numbers(self.numbers, kind)
+    }
 }

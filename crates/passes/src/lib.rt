@@ -145,7 +145,7 @@ pub fn agrees(set: CharacterSet, file: &[u8], s: Standing, at: usize, kind: u64)
 // The checks of one record in its place, in document 01's order.
 pub fn judge_next<'a>(
     set: CharacterSet,
-    layouts: &'a Layouts,
+    layouts: Layouts<'a>,
     file: &'a [u8],
     s: Standing,
     at: usize,
@@ -170,7 +170,7 @@ pub fn judge_next<'a>(
 
 fn record_at<'a>(
     set: CharacterSet,
-    layouts: &'a Layouts,
+    layouts: Layouts<'a>,
     file: &'a [u8],
     s: Standing,
     at: usize,
@@ -211,7 +211,7 @@ fn ended_at(s: Standing, at: usize) -> Answer
 }
 
 // The first pass, by the layouts that the caller lends.
-fn survey_by<'a>(layouts: &'a Layouts, file: &'a [u8]) -> Answer
+fn survey_by<'a>(layouts: Layouts<'a>, file: &'a [u8]) -> Answer
     ensures { (result ≡ surveyed file.now) × Counted file.now result }
 {
     if file.len() < 1 {
@@ -246,8 +246,9 @@ fn survey_by<'a>(layouts: &'a Layouts, file: &'a [u8]) -> Answer
 pub fn survey(file: &[u8]) -> Answer
     ensures { (result ≡ surveyed file.now) × Counted file.now result }
 {
-    let layouts = layout::table();
-    survey_by(&layouts, file)
+    let numbers = layout::table();
+    let layouts = Layouts { numbers: &numbers };
+    survey_by(layouts, file)
 }
 
 // The debit cents of the bundle that a 70 closes: as its items add up, not as the 70, whose length field stands at an offset, states them.

@@ -1,9 +1,9 @@
 // The picture call: a check's own picture from its own file.
 #![tactic(auto)]
 
-ghost use Rattle.std.specs.Prelude.{◌≡◌, ◌+◌, ◌≤◌, length};
+ghost use Rattle.std.specs.Prelude.{◌≡◌, ℕ, ◌+◌, ◌≤◌, length};
 ghost use Rattle.ascii_copy.specs.AsciiCopy.{ascii_copy, Begins};
-ghost use Rattle.picture.specs.Picture.{unfound_of, number_of, field_of, bytes_of, in_body, picture_at};
+ghost use Rattle.picture.specs.Picture.{unfound_of, number_of, field_of, start_of, size_of, bytes_of, in_body, picture_at};
 
 use frame::{Cursor, Extent};
 use judge::Flaw;
@@ -58,6 +58,79 @@ impl Unfound {
         match self {
             Unfound::Size | Unfound::Cut | Unfound::Length | Unfound::AnotherType => 0,
             Unfound::Field(n) => n,
+        }
+    }
+}
+
+// What document 01 says of each answer, found or not.
+pub trait FoundExt {
+    ghost number_told: { Self → ℕ };
+
+    ghost field_told: { Self → ℕ };
+
+    ghost start_told: { Self → ℕ };
+
+    ghost size_told: { Self → ℕ };
+
+    // Document 01's number for the answer.
+    fn number(self) -> u64
+        ensures { result ≡ number_told self };
+
+    // The field at fault, 0 for any other answer.
+    fn field(self) -> usize
+        ensures { result ≡ field_told self };
+
+    // Where the part starts in the file, 0 where there is none.
+    fn start(self) -> usize
+        ensures { result ≡ start_told self };
+
+    // How long it is.
+    fn size(self) -> usize
+        ensures { result ≡ size_told self };
+}
+
+impl FoundExt for Found {
+    ghost number_told = { number_of };
+
+    ghost field_told = { field_of };
+
+    ghost start_told = { start_of };
+
+    ghost size_told = { size_of };
+
+    fn number(self) -> u64
+        ensures { result ≡ number_of self }
+    {
+        match self {
+            Ok(_) => 0,
+            Err(unfound) => unfound.number(),
+        }
+    }
+
+    fn field(self) -> usize
+        ensures { result ≡ field_of self }
+    {
+        match self {
+            Ok(_) => 0,
+            Err(unfound) => unfound.field(),
+        }
+    }
+
+    fn start(self) -> usize
+        ensures { result ≡ start_of self }
+    {
+        match self {
+            Ok(part) => part.start,
+            Err(_) => 0,
+        }
+    }
+
+    fn size(self) -> usize
+        ensures { result ≡ size_of self }
+    {
+        match self {
+            Ok(part) => part.size,
+            Err(_) => 0,
         }
     }
 }

@@ -1,7 +1,7 @@
 // Reads a file from standard input and says where the picture of the 52 at an offset stands: the offset is the first argument.
 #![tactic(auto)]
 
-use picture::Found;
+use picture::{Found, FoundExt};
 use std::io;
 use std::io::Read;
 use std::rt::Env;
@@ -31,7 +31,11 @@ fn offset_asked(rt: &impl Env) -> u64 {
 fn say_found(rt: &impl Print, found: Found) -> io::Result<()> {
     match found {
         Ok(part) => println!(rt; "picture start {} length {}", part.start, part.size),
-        Err(unfound) => println!(rt; "refused {} field {}", unfound.number(), unfound.field()),
+        Err(_) => {
+            let number = found.number();
+            let field = found.field();
+            println!(rt; "refused {number} field {field}")
+        }
     }
 }
 

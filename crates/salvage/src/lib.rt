@@ -30,7 +30,7 @@ fn is_anything<'a>(torn: Torn<'a>) -> bool
     }
     let seen = salvage_walk::seen_at(torn.set, torn.file, 0, torn.end);
     let body = frame::part_of(torn.file, seen.start, seen.size);
-    if !salvage_runs::is_sound_alone(torn.set, torn.layouts, 1, body) {
+    if !salvage_runs::is_sound_alone(torn.set, torn.layouts(), 1, body) {
         return false;
     }
     let plan = salvage_marks::plan_at(seen.next);
@@ -75,11 +75,11 @@ pub fn salvage(file: &[u8], out: &mut [u8], list: &mut [u64]) -> Outcome
         return Err(Refusal::of_file(Fault::Size, 0));
     }
     let set = text::set_of(file);
-    let layouts = layout::table();
+    let numbers = layout::table();
     let way = salvage_walk::walk(set, file);
     let torn = Torn {
         set,
-        layouts: &layouts,
+        numbers: &numbers,
         file,
         end: way.end,
     };

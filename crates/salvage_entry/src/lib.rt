@@ -24,7 +24,7 @@ pub type Entered = Result<Pen, Refusal>;
 // One record more, with so many addenda behind it: `text` and `row` say it as a draft does.
 pub fn enter<'a>(
     set: CharacterSet,
-    layouts: &'a Layouts,
+    layouts: Layouts<'a>,
     text: &'a [u8],
     row: &'a [u64],
     addenda: u64,

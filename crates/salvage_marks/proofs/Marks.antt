@@ -19,7 +19,8 @@ use Rattle.arrangement.specs.Sound.{indicator, N}
 use Rattle.salvage_model.specs.Runs.{leading, following, Group, run, loose, groups_of, sound_alone, run_fault}
 use Rattle.salvage_model.specs.Kept.{any_bundle, sections_of, Fate, kept, renewed, dropped, Marked, marked, out_of_place, run_fate, sections_marks, marks_of}
 use Rattle.salvage_walk.specs.declared.Seen.{Seen}
-use Rattle.salvage_walk.specs.Spans.{Stands, Spans, SeenAs, not_among, Parted}
+use Rattle.salvage_walk.specs.declared.Sort.TheVariants.{UnderHeader}
+use Rattle.salvage_walk.specs.Spans.{Stands, Spans, SeenAs, of_sort, Parted}
 use Rattle.salvage_walk.proofs.Sorts.{first_of, none_left, spans-within}
 use Rattle.salvage_runs.specs.declared.Grouped.{Grouped}
 use Rattle.salvage_runs.specs.RunAt.{read_through, is_run, RunAt, GroupAt}
@@ -374,7 +375,7 @@ module _ (set : CharacterSet) (file : List ℕ) (end : ℕ) (p : Plan) (seen : S
 
       -- a cash letter header
       module _ (ten : seen.kind ≡ 10) (stop : ℕ)
-          (parts : (bs : List Body) → Spans file seen.next bs end → Parted set file (not_among (10 ∷ 90 ∷ 99 ∷ [])) seen.next bs end stop) (body : List ℕ)
+          (parts : (bs : List Body) → Spans file seen.next bs end → Parted set file (of_sort UnderHeader) seen.next bs end stop) (body : List ℕ)
           (is : body ≡ part seen.start seen.size file) (sound : Bool) (judged : sound ≡ sound_alone set 10 body) where
         abbrev top : Tail ms
         top = tail_of ms v
@@ -384,7 +385,7 @@ module _ (set : CharacterSet) (file : List ℕ) (end : ℕ) (p : Plan) (seen : S
             let as_seen = told top.first top.stands in
             is ∙ ap₂ (λ (m n : ℕ). part m n file) as_seen.start as_seen.size ∙ top.stands.body
 
-        parted : Parted set file (not_among (10 ∷ 90 ∷ 99 ∷ [])) seen.next top.others end stop
+        parted : Parted set file (of_sort UnderHeader) seen.next top.others end stop
         parted = parts top.others top.spans
 
         pub letter-run : sound ≡ true → RunAt set file p.at seen.next stop

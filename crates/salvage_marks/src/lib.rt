@@ -2,6 +2,7 @@
 #![tactic(auto)]
 
 ghost use Rattle.std.specs.Prelude.{true, false, ◌||◌, cond, List, ◌∷◌, ◌≡◌, ℕ, ◌≤◌, ◌<◌, eqb, length};
+ghost use Rattle.layout.specs.Packing.{Packed};
 ghost use Rattle.file_as_records.specs.Framed.{Body};
 ghost use Rattle.arrangement.specs.Sound.{indicator, N};
 ghost use Rattle.salvage_model.specs.Runs.{groups_of};
@@ -14,16 +15,18 @@ ghost use Rattle.salvage_marks.specs.Left.{meant, is_kept, is_dropped, Left, Pla
 use layout::Layouts;
 use passes::Fault;
 use salvage_runs::Grouped;
-use salvage_walk::Seen;
+use salvage_walk::{Seen, Sort};
 use text::CharacterSet;
 
-// A torn file as far as its lengths lead.
+// A torn file as far as its lengths lead, and the numbers of the layouts by which its records are judged.
+// Stays: the numbers and their fact are two fields here and no `Layouts`. A struct whose field holds a reference at a lifetime of its own has no proof yet.
 #[derive(Clone, Copy)]
 pub struct Torn<'a> {
     pub set: CharacterSet,
-    pub layouts: &'a Layouts,
+    pub numbers: &'a [u64],
     pub file: &'a [u8],
     pub end: usize,
+    pub ghost packed: { Packed numbers.now },
 }
 
 // What becomes of a record: it is kept, made new, or dropped with a fault.
@@ -119,6 +122,14 @@ pub fn plan_at(at: usize) -> Plan
 }
 
 impl<'a> Torn<'a> {
+    pub fn layouts(self) -> Layouts<'a>
+        ensures { result.numbers.now ≡ self.entry.numbers.now }
+    {
+        Layouts {
+            numbers: self.numbers,
+        }
+    }
+
     // At the first record of a file, which is kept.
     pub fn plan_of_file(self) -> Plan
         ensures { ((b : Body) (bs : List Body) → Spans self.entry.file.now 0 (b ∷ bs) self.entry.end → self.entry.end ≤ 268_435_456 → Left self.entry.set self.entry.file.now self.entry.end result (marks_of self.entry.set (b ∷ bs))) × (result.at ≡ 0) }
@@ -153,7 +164,7 @@ impl<'a> Torn<'a> {
         if salvage_runs::indicator_of(self.set, body) == 0x4E {
             return true;
         }
-        salvage_runs::any_bundle(self.set, self.layouts, self.file, heading, from, stop)
+        salvage_runs::any_bundle(self.set, self.layouts(), self.file, heading, from, stop)
     }
 
     // A cash letter header.
@@ -166,14 +177,8 @@ impl<'a> Torn<'a> {
         let size = seen.size;
         let from = seen.next;
         let body = frame::part_of(self.file, start, size);
-        let stop = salvage_walk::end_of(
-            self.set,
-            self.file,
-            from,
-            self.end,
-            |kind| !matches!(kind, 10 | 90 | 99),
-        );
-        let sound = salvage_runs::is_sound_alone(self.set, self.layouts, 10, body);
+        let stop = salvage_walk::end_of(self.set, self.file, from, self.end, Sort::UnderHeader);
+        let sound = salvage_runs::is_sound_alone(self.set, self.layouts(), 10, body);
         let kept = self.is_letter_kept(at, from, stop, body, sound);
         let next = Plan {
             at: from,
@@ -227,7 +232,7 @@ impl<'a> Torn<'a> {
         }
         match salvage_runs::run_fault(
             self.set,
-            self.layouts,
+            self.layouts(),
             self.file,
             plan.heading,
             plan.at,

@@ -31,15 +31,16 @@ fn enter_next<'a>(
     requires { NextEntered torn.set torn.file.now entry sheet.old pen }
     ensures { (e : NextEntered torn.entry.set torn.entry.file.now entry sheet.old pen) → EnteredAs e.value e.entering.others e.entering.begun.file e.entering.begun.past result sheet.new }
 {
+    let layouts = torn.layouts();
     let body = frame::part_of(torn.file, entry.start, entry.size);
     if entry.kept {
-        salvage_rows::put_kept(torn.set, torn.layouts, body, row);
-        return salvage_entry::enter(torn.set, torn.layouts, body, row, entry.addenda, pen, sheet);
+        salvage_rows::put_kept(torn.set, layouts, body, row);
+        return salvage_entry::enter(torn.set, layouts, body, row, entry.addenda, pen, sheet);
     }
-    salvage_rows::put_control(torn.set, torn.layouts, entry.kind, body, text, row);
+    salvage_rows::put_control(torn.set, layouts, entry.kind, body, text, row);
     salvage_entry::enter(
         CharacterSet::Ascii,
-        torn.layouts,
+        layouts,
         text,
         row,
         entry.addenda,
@@ -61,24 +62,16 @@ fn write_next<'a>(
     requires { NextWritten torn.set torn.file.now entry sheet.old s (length out.old) }
     ensures { (w : NextWritten torn.entry.set torn.entry.file.now entry sheet.old s (length out.old)) → Onward (w.value ∷ w.ready.others) w.ready.ready.file w.ready.ready.past out.old w.ready.others sheet.new result.standing result.bytes out.new }
 {
+    let layouts = torn.layouts();
     let body = frame::part_of(torn.file, entry.start, entry.size);
     if entry.kept {
-        salvage_rows::put_kept(torn.set, torn.layouts, body, row);
-        return set_out::write_counted(
-            torn.set,
-            torn.layouts,
-            body,
-            row,
-            entry.addenda,
-            s,
-            sheet,
-            out,
-        );
+        salvage_rows::put_kept(torn.set, layouts, body, row);
+        return set_out::write_counted(torn.set, layouts, body, row, entry.addenda, s, sheet, out);
     }
-    salvage_rows::put_control(torn.set, torn.layouts, entry.kind, body, text, row);
+    salvage_rows::put_control(torn.set, layouts, entry.kind, body, text, row);
     set_out::write_counted(
         CharacterSet::Ascii,
-        torn.layouts,
+        layouts,
         text,
         row,
         entry.addenda,
@@ -104,8 +97,14 @@ pub fn decide<'a>(torn: Torn<'a>, cue: Cue) -> Outcome
     // Stays: what comes next is found from where the making out stands; nothing is counted.
     while !at.done {
         let entry = salvage_next::next_entry(torn, at);
-        pen = enter_next(torn, entry, pen, &mut text, &mut row, &mut sheet)?;
-        at = entry.next;
+        // Stays: a `match`, so that the refusal handed on has a line of its own, which `more-edits/refusal_without_its_offset` turns.
+        match enter_next(torn, entry, pen, &mut text, &mut row, &mut sheet) {
+            Err(refusal) => return Err(refusal),
+            Ok(on) => {
+                pen = on;
+                at = entry.next;
+            }
+        }
     }
     draft_survey::rows_ended(pen.standing, pen.bytes)
 }

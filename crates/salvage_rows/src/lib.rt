@@ -16,7 +16,7 @@ use layout::Layouts;
 use text::CharacterSet;
 
 // A record that is kept: its own body is the text.
-pub fn put_kept<'a>(set: CharacterSet, layouts: &'a Layouts, body: &'a [u8], row: &mut [u64; 10])
+pub fn put_kept<'a>(set: CharacterSet, layouts: Layouts<'a>, body: &'a [u8], row: &mut [u64; 10])
     ensures { values_of_row set body.now row.new ≡ values_of_body set body.now }
 {
     drafting::put_row(set, layouts, body, 0, row, 0);
@@ -54,7 +54,7 @@ fn put_free(set: CharacterSet, packed: u64, body: &[u8], text: &mut [u8])
 // the start: neither has parts, and only a 70 can leave a total blank. Whoever walked no control lends no characters.
 pub fn put_control<'a>(
     set: CharacterSet,
-    layouts: &'a Layouts,
+    layouts: Layouts<'a>,
     kind: u64,
     body: &'a [u8],
     text: &mut [u8; 85],

@@ -15,7 +15,8 @@ use Rattle.file_as_records.specs.Framed.{Body}
 use Rattle.salvage_model.specs.Runs.{leading, following, of, not_of, Group, run, loose, stretch_then, groups_from, groups_of, run_fault}
 use Rattle.salvage_model.specs.Kept.{is_through, is_sound_bundle, any_bundle}
 use Rattle.salvage_walk.specs.declared.Seen.{Seen}
-use Rattle.salvage_walk.specs.Spans.{Stands, Spans, SeenAs, among, not_among, Parted}
+use Rattle.salvage_walk.specs.declared.Sort.TheVariants.{InStretch, Views}
+use Rattle.salvage_walk.specs.Spans.{Stands, Spans, SeenAs, of_sort, Parted}
 use Rattle.salvage_walk.proofs.Sorts.{First, first_of, none_left, spans-within}
 use Rattle.salvage_runs.specs.declared.Group.TheVariants.{Bundle, Credit, Loose}
 use Rattle.salvage_runs.specs.declared.Grouped.{Grouped}
@@ -120,7 +121,7 @@ module _ (set : CharacterSet) (file : List ℕ) (at end : ℕ) (seen : Seen) (to
         kind = as_seen.kind;
       }
 
-  pub group-61 : seen.kind ≡ 61 → (stop : ℕ) → ((bs : List Body) → Spans file seen.next bs end → Parted set file (among (50 ∷ 52 ∷ 54 ∷ [])) seen.next bs end stop)
+  pub group-61 : seen.kind ≡ 61 → (stop : ℕ) → ((bs : List Body) → Spans file seen.next bs end → Parted set file (of_sort Views) seen.next bs end stop)
       → Grouping (record { end = stop; group = Credit; kind = seen.kind })
   group-61 q stop parts h bs s =
       let f = first_of file at bs end s h in
@@ -138,7 +139,7 @@ module _ (set : CharacterSet) (file : List ℕ) (at end : ℕ) (seen : Seen) (to
         kind = as_seen.kind;
       }
 
-  module _ (q : seen.kind ≡ 20) (stop : ℕ) (parts : (bs : List Body) → Spans file seen.next bs end → Parted set file (not_among (20 ∷ 70 ∷ [])) seen.next bs end stop) where
+  module _ (q : seen.kind ≡ 20) (stop : ℕ) (parts : (bs : List Body) → Spans file seen.next bs end → Parted set file (of_sort InStretch) seen.next bs end stop) where
     module _ (bs : List Body) (f : First file at bs end) where
       abbrev stretch : List Body
       stretch = leading (not_of set (20 ∷ 70 ∷ [])) f.others
@@ -149,7 +150,7 @@ module _ (set : CharacterSet) (file : List ℕ) (at end : ℕ) (seen : Seen) (to
       as_seen : SeenAs set at f.body seen
       as_seen = told f.body f.stands
 
-      parted : Parted set file (not_among (20 ∷ 70 ∷ [])) seen.next f.others end stop
+      parted : Parted set file (of_sort InStretch) seen.next f.others end stop
       parted = parts f.others (rw as_seen.next f.spans)
 
       inside : Spans file at (f.body ∷ stretch) stop

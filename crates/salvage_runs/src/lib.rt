@@ -13,6 +13,7 @@ ghost use Rattle.salvage_runs.specs.RunAt.{read_through, is_run, is_bundle, RunA
 
 use layout::Layouts;
 use passes::Fault;
+use salvage_walk::Sort;
 use standing::Standing;
 use text::CharacterSet;
 
@@ -49,7 +50,7 @@ pub struct Grouped {
 // Whether a record is one of a type and sound alone.
 pub fn is_sound_alone<'a>(
     set: CharacterSet,
-    layouts: &'a Layouts,
+    layouts: Layouts<'a>,
     kind: u64,
     body: &'a [u8],
 ) -> bool
@@ -80,7 +81,7 @@ fn behind_header(set: CharacterSet, file: &[u8], heading: usize) -> Standing
 // A run's first fault under a header that is sound alone, where the reader would not read it through.
 pub fn run_fault<'a>(
     set: CharacterSet,
-    layouts: &'a Layouts,
+    layouts: Layouts<'a>,
     file: &'a [u8],
     heading: usize,
     from: usize,
@@ -113,13 +114,7 @@ pub fn group_at(set: CharacterSet, file: &[u8], at: usize, end: usize) -> Groupe
     let kind = seen.kind;
     let behind = seen.next;
     if kind == 61 {
-        let stop = salvage_walk::end_of(
-            set,
-            file,
-            behind,
-            end,
-            |kind| matches!(kind, 50 | 52 | 54),
-        );
+        let stop = salvage_walk::end_of(set, file, behind, end, Sort::Views);
         return Grouped {
             end: stop,
             group: Group::Credit,
@@ -133,7 +128,7 @@ pub fn group_at(set: CharacterSet, file: &[u8], at: usize, end: usize) -> Groupe
             kind,
         };
     }
-    let stop = salvage_walk::end_of(set, file, behind, end, |kind| !matches!(kind, 20 | 70));
+    let stop = salvage_walk::end_of(set, file, behind, end, Sort::InStretch);
     if stop < end {
         let closing = salvage_walk::seen_at(set, file, stop, end);
         if closing.kind == 70 {
@@ -154,7 +149,7 @@ pub fn group_at(set: CharacterSet, file: &[u8], at: usize, end: usize) -> Groupe
 // Whether a bundle under a header is sound.
 pub fn any_bundle<'a>(
     set: CharacterSet,
-    layouts: &'a Layouts,
+    layouts: Layouts<'a>,
     file: &'a [u8],
     heading: usize,
     from: usize,

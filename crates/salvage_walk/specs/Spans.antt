@@ -1,5 +1,5 @@
 -- Records that stand one after the other in a file, from an offset to an end. Nothing of this has to be believed.
-use Rattle.std.specs.Prelude.{ℕ, ◌+◌, ◌<◌, ◌^◌, Bool, not, List, [], ◌∷◌, ◌≡◌, length}
+use Rattle.std.specs.Prelude.{ℕ, ◌+◌, Bool, not, List, [], ◌∷◌, ◌≡◌, length}
 use Rattle.text.specs.declared.character_set.CharacterSet.{CharacterSet}
 use Rattle.frame.specs.Frames.{Whole}
 use Rattle.frame.specs.Frames.{part, frame_at}
@@ -8,6 +8,8 @@ use Rattle.order.specs.MayFollow.{is_one_of}
 use Rattle.file_as_records.specs.Framed.{Body}
 use Rattle.salvage_model.specs.Runs.{leading, following}
 use Rattle.salvage_walk.specs.declared.Seen.{Seen}
+use Rattle.salvage_walk.specs.declared.Sort.{Sort}
+use Rattle.salvage_walk.specs.declared.Sort.TheVariants.{UnderHeader, InStretch, Views}
 
 -- a record whose length field stands at an offset
 pub record Stands (file : List ℕ) (at : ℕ) (b : Body) : Type 0 where
@@ -29,16 +31,11 @@ pub record SeenAs (set : CharacterSet) (at : ℕ) (b : Body) (r : Seen) : Type 0
 abbrev pub test_of : CharacterSet → (ℕ → Bool) → Body → Bool
 test_of set test b = test (type_of set b)
 
--- whether a type is on a list, and whether it is not
-abbrev pub among : List ℕ → ℕ → Bool
-among types t = is_one_of t types
-
-abbrev pub not_among : List ℕ → ℕ → Bool
-not_among types t = not (is_one_of t types)
-
--- a closure whose results are those of a test
-abbrev pub Computes : (ℕ → Bool → Type 0) → (ℕ → Bool) → Type 0
-Computes post test = (t : ℕ) (r : Bool) → t < 2 ^ 64 → post t r → r ≡ test t
+-- the sorts that are passed over, by their types
+abbrev pub of_sort : Sort → ℕ → Bool
+of_sort UnderHeader t = not (is_one_of t (10 ∷ 90 ∷ 99 ∷ []))
+of_sort InStretch t = not (is_one_of t (20 ∷ 70 ∷ []))
+of_sort Views t = is_one_of t (50 ∷ 52 ∷ 54 ∷ [])
 
 -- records parted at the first that does not pass a test, which stands at an offset
 pub record Parted (set : CharacterSet) (file : List ℕ) (test : ℕ → Bool) (from : ℕ) (bs : List Body) (end at : ℕ) : Type 0 where

@@ -1,10 +1,10 @@
 // The records of a torn file one by one: how far the lengths lead, and where records of a sort end.
 #![tactic(auto)]
 
-ghost use Rattle.std.specs.Prelude.{Bool, List, ◌≡◌, ℕ, ◌+◌, ◌<◌, ◌≤◌, length};
+ghost use Rattle.std.specs.Prelude.{List, ◌≡◌, ℕ, ◌+◌, ◌<◌, ◌≤◌, length};
 ghost use Rattle.file_as_records.specs.Framed.{Body};
 ghost use Rattle.salvage_model.specs.Walked.{walked_from};
-ghost use Rattle.salvage_walk.specs.Spans.{Stands, Spans, SeenAs, Computes, Parted};
+ghost use Rattle.salvage_walk.specs.Spans.{Stands, Spans, SeenAs, of_sort, Parted};
 
 use frame::{Cursor, Extent};
 use text::CharacterSet;
@@ -23,6 +23,14 @@ pub struct Seen {
     pub size: usize,
     pub next: usize,
     pub kind: u64,
+}
+
+// What is passed over: the records under a cash letter header, those of a stretch behind its 20, the views behind a 61.
+#[derive(Clone, Copy)]
+pub enum Sort {
+    UnderHeader,
+    InStretch,
+    Views,
 }
 
 // The record at an offset before an end, up to which the lengths frame records.
@@ -71,22 +79,25 @@ pub fn walk(set: CharacterSet, file: &[u8]) -> Way
     Way { end: at, count }
 }
 
-// Where the records end that stand one after the other from an offset on and whose types belong together.
-pub fn end_of<F: Fn(u64) -> bool>(
-    set: CharacterSet,
-    file: &[u8],
-    from: usize,
-    end: usize,
-    belongs: F,
-) -> usize
-    requires { F.IsAlwaysCallable belongs }
-    ensures { (test : ℕ → Bool) → Computes (F.post belongs) test → (bs : List Body) → Spans file.now from bs end → Parted set file.now test from bs end result }
+fn is_of_sort(sort: Sort, kind: u64) -> bool
+    ensures { result ≡ of_sort sort kind }
+{
+    match sort {
+        Sort::UnderHeader => !matches!(kind, 10 | 90 | 99),
+        Sort::InStretch => !matches!(kind, 20 | 70),
+        Sort::Views => matches!(kind, 50 | 52 | 54),
+    }
+}
+
+// Where the records of a sort end that stand one after the other from an offset on.
+pub fn end_of(set: CharacterSet, file: &[u8], from: usize, end: usize, sort: Sort) -> usize
+    ensures { (bs : List Body) → Spans file.now from bs end → Parted set file.now (of_sort sort) from bs end result }
 {
     let mut at = from;
     // Stays: (d) the step is what the record's length says, so that no range counts it.
     while at < end {
         let seen = seen_at(set, file, at, end);
-        if !belongs(seen.kind) {
+        if !is_of_sort(sort, seen.kind) {
             return at;
         }
         at = seen.next;

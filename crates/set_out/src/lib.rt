@@ -67,7 +67,7 @@ pub fn write_record<'a>(
 // The record of the first row, with so many addenda behind it: completed on the sheet, and written.
 pub fn write_counted<'a>(
     set: CharacterSet,
-    layouts: &'a Layouts,
+    layouts: Layouts<'a>,
     text: &[u8],
     rows: &'a [u64],
     addenda: u64,
@@ -97,7 +97,7 @@ pub fn write_counted<'a>(
 // The same, its addenda counted in the rows behind it.
 fn write_row<'a>(
     set: CharacterSet,
-    layouts: &'a Layouts,
+    layouts: Layouts<'a>,
     text: &[u8],
     rows: &'a [u64],
     s: Standing,
@@ -114,7 +114,7 @@ fn write_row<'a>(
 // A bundle: the records from the first row through the next 70, or to the end of the rows.
 fn write_bundle<'a>(
     set: CharacterSet,
-    layouts: &'a Layouts,
+    layouts: Layouts<'a>,
     text: &[u8],
     rows: &'a [u64],
     s: Standing,
@@ -154,7 +154,7 @@ fn write_bundle<'a>(
 // The whole file, bundle by bundle; records outside a bundle one by one.
 pub fn write_rows<'a>(
     set: CharacterSet,
-    layouts: &'a Layouts,
+    layouts: Layouts<'a>,
     text: &[u8],
     draft: &'a [u64],
     out: &mut [u8],

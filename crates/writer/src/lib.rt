@@ -7,6 +7,7 @@ ghost use Rattle.draft.specs.Drafted.{outcome_of, buffer_of};
 ghost use Rattle.draft.specs.Promises.{Promised};
 
 use draft::Outcome;
+use layout::Layouts;
 use passes::{Fault, Refusal};
 
 // The file that a draft makes: what becomes of it, and in the lent buffer its bytes where it can be made out and there is room. The draft is a text of
@@ -16,8 +17,9 @@ pub fn write<'a>(text: &'a [u8], draft: &'a [u64], out: &mut [u8]) -> Outcome
     ensures buffer { out.new ≡ buffer_of (values_of_draft text.now draft.now) out.old }
     ensures promised { Promised text.now draft.now out.old result out.new }
 {
-    let layouts = layout::table();
-    let (bytes, totals) = draft_survey::survey_draft(&layouts, text, draft)?;
+    let numbers = layout::table();
+    let layouts = Layouts { numbers: &numbers };
+    let (bytes, totals) = draft_survey::survey_draft(layouts, text, draft)?;
     if 268_435_456 < bytes {
         return Err(Refusal::of_file(Fault::Size, 0));
     }
@@ -25,6 +27,6 @@ pub fn write<'a>(text: &'a [u8], draft: &'a [u64], out: &mut [u8]) -> Outcome
         return Err(Refusal::of_file(Fault::Room, bytes as u64));
     }
     let set = draft_survey::set_of_text(text, draft);
-    set_out::write_rows(set, &layouts, text, draft, out);
+    set_out::write_rows(set, layouts, text, draft, out);
     Ok((bytes, totals))
 }

@@ -15,7 +15,7 @@ pub slice_bounds-judge_row-end : goal.slice_bounds-judge_row-end
 slice_bounds-judge_row-end c = sym c.loop-at.invariant.stands.long
 
 pub judge_row-requires : goal.judge_row-requires
-judge_row-requires c = (rows-owned c.args.layouts.now.numbers _ (rows_at c.args.draft.now c.loop-at.at) c.args.layouts.now.packed c.own_numbers-own.ensures, (survey-roomy c.loop-at.invariant).0, (rows-some c.args.draft.now c.loop-at.at c.loop-at-test.true), c.loop-at.invariant.stands.long)
+judge_row-requires c = (rows-owned c.args.layouts.numbers.now _ (rows_at c.args.draft.now c.loop-at.at) c.args.layouts.packed c.own_numbers-own.ensures, (survey-roomy c.loop-at.invariant).0, (rows-some c.args.draft.now c.loop-at.at c.loop-at-test.true), c.loop-at.invariant.stands.long)
 
 pub overflow_add-result : goal.overflow_add-result
 overflow_add-result c = let g = (survey-roomy c.loop-at.invariant).0 in record { fits = omega (arith, g.records) }
@@ -24,7 +24,7 @@ pub returns-in-Err : goal.returns-in-Err
 returns-in-Err c = survey-stop ((let next' : Next c.loop-at.invariant c.judge_row.result c.judge_row.new.sheet = next-found c.loop-at.invariant c.judge_row.result _ c.loop-at-test.true c.judge_row.ensures in next')) _ c.in-Err.is
 
 pub invariant_of-size_of : goal.invariant_of-size_of
-invariant_of-size_of c = record { owned = rows-owned c.args.layouts.now.numbers _ (rows_at c.args.draft.now c.loop-at.at) c.args.layouts.now.packed c.own_numbers-own.ensures (survey-carried ((let next' : Next c.loop-at.invariant c.judge_row.result c.judge_row.new.sheet = next-found c.loop-at.invariant c.judge_row.result _ c.loop-at-test.true c.judge_row.ensures in next')) _ c.in-Ok.is); whole = rows-some c.args.draft.now c.loop-at.at c.loop-at-test.true }
+invariant_of-size_of c = record { owned = rows-owned c.args.layouts.numbers.now _ (rows_at c.args.draft.now c.loop-at.at) c.args.layouts.packed c.own_numbers-own.ensures (survey-carried ((let next' : Next c.loop-at.invariant c.judge_row.result c.judge_row.new.sheet = next-found c.loop-at.invariant c.judge_row.result _ c.loop-at-test.true c.judge_row.ensures in next')) _ c.in-Ok.is); whole = rows-some c.args.draft.now c.loop-at.at c.loop-at-test.true }
 
 pub slice_bounds-moved-end : goal.slice_bounds-moved-end
 slice_bounds-moved-end c = sym (survey-long ((let next' : Next c.loop-at.invariant c.judge_row.result c.judge_row.new.sheet = next-found c.loop-at.invariant c.judge_row.result _ c.loop-at-test.true c.judge_row.ensures in next')) _ c.in-Ok.is)

@@ -19,7 +19,7 @@ bounds-draft-base-3 c = simp length-set (omega (arith, c.requires))
 
 pub put_sizes-requires : goal.put_sizes-requires
 put_sizes-requires c = (
-  subst (λ (own : List ℕ). is_whole own ≡ true) (sym c.own_numbers.ensures) (table-own c.args.layouts.now.numbers c.args.layouts.now.packed c.type_of-kind.result),
+  subst (λ (own : List ℕ). is_whole own ≡ true) (sym c.own_numbers.ensures) (table-own c.args.layouts.numbers.now c.args.layouts.packed c.type_of-kind.result),
   simp length-set (omega (arith, c.requires)),
 )
 
@@ -27,4 +27,4 @@ pub shape_of-draft : goal.shape_of-draft
 shape_of-draft c = rw c.put_sizes.ensures (simp (length-sets, length-set))
 
 pub returns : goal.returns
-returns c = row_put c.args.set c.args.layouts.now.numbers c.args.body.now c.args.start c.args.base c.args.draft.now c.type_of-kind.result c.one_if.result _ _ c.args.layouts.now.packed c.type_of-kind.ensures (c.one_if.ensures.0 ∙ ap one c.leaves_micr_blank-blank.ensures) c.own_numbers.ensures c.put_sizes.ensures
+returns c = row_put c.args.set c.args.layouts.numbers.now c.args.body.now c.args.start c.args.base c.args.draft.now c.type_of-kind.result c.one_if.result _ _ c.args.layouts.packed c.type_of-kind.ensures (c.one_if.ensures.0 ∙ ap one c.leaves_micr_blank-blank.ensures) c.own_numbers.ensures c.put_sizes.ensures

@@ -8,7 +8,7 @@ use Rattle.judge.proofs.Dispatch.{judged-by-own, table-own}
 use Rattle.judge.proofs.judge_as.Goals as goal
 
 pub judge_by-requires : goal.judge_by-requires
-judge_by-requires c = subst (λ (xs : List ℕ). is_whole xs ≡ true) (sym c.own_numbers.ensures) (table-own c.args.layouts.now.numbers c.args.layouts.now.packed c.args.kind)
+judge_by-requires c = subst (λ (xs : List ℕ). is_whole xs ≡ true) (sym c.own_numbers.ensures) (table-own c.args.layouts.numbers.now c.args.layouts.packed c.args.kind)
 
 pub returns : goal.returns
-returns c = c.judge_by.ensures ∙ ap (λ (xs : List ℕ). by_own c.args.set xs c.args.body.now) c.own_numbers.ensures ∙ judged-by-own c.args.set c.args.layouts.now.numbers c.args.layouts.now.packed c.args.kind c.args.body.now
+returns c = c.judge_by.ensures ∙ ap (λ (xs : List ℕ). by_own c.args.set xs c.args.body.now) c.own_numbers.ensures ∙ judged-by-own c.args.set c.args.layouts.numbers.now c.args.layouts.packed c.args.kind c.args.body.now

@@ -4,13 +4,13 @@ use Rattle.salvage_entry.proofs.Steps.{begun-roomy, step-carried, step-refused, 
 use Rattle.salvage_entry.proofs.enter.Goals as goal
 
 pub judge_counted-requires : goal.judge_counted-requires
-judge_counted-requires c = (rows-owned c.args.layouts.now.numbers _ c.args.row.now c.args.layouts.now.packed c.own_numbers-own.ensures, (begun-roomy c.requires.1.begun).0, c.requires.0, c.requires.1.begun.stands.long)
+judge_counted-requires c = (rows-owned c.args.layouts.numbers.now _ c.args.row.now c.args.layouts.packed c.own_numbers-own.ensures, (begun-roomy c.requires.1.begun).0, c.requires.0, c.requires.1.begun.stands.long)
 
 pub overflow_add-result : goal.overflow_add-result
 overflow_add-result c = let g = (begun-roomy c.requires.1.begun).0 in record { fits = omega (arith, g.records) }
 
 pub invariant_of-size_of : goal.invariant_of-size_of
-invariant_of-size_of c = record { owned = rows-owned c.args.layouts.now.numbers _ c.args.row.now c.args.layouts.now.packed c.own_numbers-own.ensures (step-carried c.args.set c.args.text.now c.args.row.now c.requires.1 c.judge_counted.result _ c.judge_counted.ensures _ c.in-Ok.is); whole = c.requires.0 }
+invariant_of-size_of c = record { owned = rows-owned c.args.layouts.numbers.now _ c.args.row.now c.args.layouts.packed c.own_numbers-own.ensures (step-carried c.args.set c.args.text.now c.args.row.now c.requires.1 c.judge_counted.result _ c.judge_counted.ensures _ c.in-Ok.is); whole = c.requires.0 }
 
 pub moved-standing-requires : goal.moved-standing-requires
 moved-standing-requires c = begun-roomy c.requires.1.begun

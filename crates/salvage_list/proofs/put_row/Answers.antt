@@ -13,4 +13,4 @@ pub bounds-list-row-4 : goal.bounds-list-row-4
 bounds-list-row-4 c = simp length-set (omega arith)
 
 pub returns : goal.returns
-returns c = rw (c.status.ensures, c.number-number.ensures) (simp (add-one, add-two, add-three))
+returns c = simp (add-one, add-two, add-three) (cc)

@@ -2,7 +2,6 @@ use mathlib.Core.Path.{refl, sym, ◌∙◌}
 use mathlib.Core.List.{[]}
 use borrow.Author.Tests.{not-true, not-false}
 use Rattle.text.specs.declared.character_set.CharacterSet.TheVariants.{Ascii}
-use Rattle.std.proofs.result.Match.{err_is}
 use Rattle.salvage_passes.proofs.Deciding.{sofar-first, sofar-roomy, sofar-end, next-entered, next-fewer, sofar-stop, sofar-on}
 use Rattle.salvage_passes.proofs.decide.Goals as goal
 
@@ -15,14 +14,14 @@ next_entry-entry-requires c = (not-true _ c.loop-at-test.true, record { values =
 pub enter_next-requires : goal.enter_next-requires
 enter_next-requires c = next-entered (c.loop-at.invariant c.requires.values c.requires.cued) c.next_entry-entry.ensures
 
-pub returns-in_err-pen : goal.returns-in_err-pen
-returns-in_err-pen c = λ all cued. sofar-stop (c.loop-at.invariant all cued) c.next_entry-entry.ensures c.enter_next.result _ c.enter_next.ensures c.in_err-pen.was _ (err_is _ _ c.from_residual.ensures.1)
+pub returns-in-Err : goal.returns-in-Err
+returns-in-Err c = λ all cued. sofar-stop (c.loop-at.invariant all cued) c.next_entry-entry.ensures c.enter_next.result _ c.enter_next.ensures c.in-Err.is _ refl
 
 pub loop-at-smaller : goal.loop-at-smaller
 loop-at-smaller c = next-fewer (c.loop-at.invariant c.requires.values c.requires.cued) c.next_entry-entry.ensures
 
 pub loop-at-preserved : goal.loop-at-preserved
-loop-at-preserved c = λ all cued. sofar-on (c.loop-at.invariant all cued) c.next_entry-entry.ensures c.enter_next.result _ c.enter_next.ensures c.in_ok-pen.was
+loop-at-preserved c = λ all cued. sofar-on (c.loop-at.invariant all cued) c.next_entry-entry.ensures c.enter_next.result _ c.enter_next.ensures c.in-Ok.is
 
 pub rows_ended-requires : goal.rows_ended-requires
 rows_ended-requires c = sofar-roomy (c.loop-at.invariant c.requires.values c.requires.cued)

@@ -5,7 +5,7 @@ use borrow.Author.Rules.{rules}
 use Rattle.set_out.proofs.write_counted.Goals as goal
 
 pub invariant_of-row : goal.invariant_of-row
-invariant_of-row c = record { owned = row-owned c.args.set c.args.text.now c.args.rows.now c.args.out.now c.requires.1 c.args.layouts.now.packed c.own_numbers-own.ensures; whole = c.requires.0 }
+invariant_of-row c = record { owned = row-owned c.args.set c.args.text.now c.args.rows.now c.args.out.now c.requires.1 c.args.layouts.packed c.own_numbers-own.ensures; whole = c.requires.0 }
 
 pub overflow_add-body : goal.overflow_add-body
 overflow_add-body c = let r = slot-room c.args.set c.args.text.now c.args.rows.now c.args.out.now c.requires.1 in search rules
