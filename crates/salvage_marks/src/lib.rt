@@ -19,7 +19,8 @@ use salvage_walk::{Seen, Sort};
 use text::CharacterSet;
 
 // A torn file as far as its lengths lead, and the numbers of the layouts by which its records are judged.
-// Stays: the numbers and their fact are two fields here and no `Layouts`. A struct whose field holds a reference at a lifetime of its own has no proof yet.
+// Stays: the numbers and their fact are two fields here and no `Layouts`. With that for a field, and one lifetime for all, what builds a `Torn` has no
+// proof yet; with a second lifetime each caller would have to write two.
 #[derive(Clone, Copy)]
 pub struct Torn<'a> {
     pub set: CharacterSet,
